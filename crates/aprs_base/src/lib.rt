@@ -1,0 +1,14 @@
+//! The types, the cutting of byte streams into lines, and the outside as traits, on which every crate of the server stands.
+#![tactic(auto)]
+
+mod packets;
+mod texts;
+
+pub use packets::{
+    Body, ListenSpec, Packet, Parts, Place, PortKind, Shared, Source, UplinkSpec, Via, copy_body,
+    copy_parts, copy_uplink, copy_via,
+};
+pub use texts::{
+    Addr, Call, Chunk, Failed, Line, Memory, Text, Word9, copy_call, copy_chunk, copy_line,
+    copy_word, first_place, is_construct_text,
+};
