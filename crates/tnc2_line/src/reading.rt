@@ -1,0 +1,153 @@
+//! From a line to its parts.
+ghost use Rattle.std.specs.Prelude.{◌≡◌, ℕ, ◌+◌, ◌<◌, ◌≤◌, [], ◌∷◌, ◌==◌, List, length, nat_lt, map, count_by, MatchResult, MatchOption};
+ghost use Rattle.std.specs.List.{list_any, slice_split};
+ghost use Rattle.std.specs.Option.{option_map};
+ghost use Rattle.memchr.specs.Find.{is_byte};
+ghost use Rattle.tnc2_line.specs.Packet.{call_of, checked_path, construct_at, cut_at, is_comma, may_follow, names_construct, next_via, parts_of, path_of, via_of, vias_of};
+ghost use Rattle.tnc2_line.specs.Pieces.{Gives, pieces_of};
+
+use aprs_base::{Call, Line, Parts, Via, first_place, is_construct_text};
+use arrayvec::ArrayVec;
+
+/// Why a line is no packet: the first of these that applies.
+#[derive(Clone, Copy, PartialEq, Eq, Debug)]
+pub enum LineFault {
+    /// There is no `:`.
+    NoColon,
+    /// There is no `>` before the first `:`.
+    NoArrow,
+    /// The source is no call.
+    BadSource,
+    /// The destination is no call.
+    BadDest,
+    /// This element of the path, counted from 1, is none, has `*` on a construct or after one, or is the 33rd.
+    BadVia(u16),
+    /// The path has more than one construct.
+    TwoConstructs,
+    /// Nothing follows the colon.
+    NoBody,
+}
+
+/// The text before and the text after the first `byte`.
+fn cut(byte: u8, text: &[u8]) -> Option<(&[u8], &[u8])>
+    ensures { option_map (λ parts. (parts.0.now, parts.1.now)) result ≡ cut_at (is_byte byte) text.now }
+{
+    let place = first_place(byte, text);
+    if place < text.len() {
+        Some((&text[..place], &text[place + 1..]))
+    } else {
+        None
+    }
+}
+
+/// The text up to the first comma, and what follows that comma.
+fn first_piece(text: &[u8]) -> (&[u8], Option<&[u8]>)
+    ensures { result.0.now ∷ pieces_of (option_map (λ rest. rest.now) result.1) ≡ slice_split is_comma text.now }
+{
+    match cut(b',', text) {
+        Some((piece, rest)) => (piece, Some(rest)),
+        None => (text, None),
+    }
+}
+
+fn read_via(text: &[u8]) -> Option<Via>
+    ensures { result ≡ via_of text.now }
+{
+    let place = first_place(b'*', text);
+    if text.len() > place + 1 {
+        return None;
+    }
+    let call = Call::read(&text[..place])?;
+    Some(Via { call, star: place < text.len() })
+}
+
+fn is_construct_via(via: &Via) -> bool
+    ensures { result ≡ names_construct via.now }
+{
+    is_construct_text(via.call.bytes())
+}
+
+fn has_construct(vias: &[Via]) -> bool
+    ensures { result ≡ list_any names_construct vias.now }
+{
+    vias.iter().any(|via| is_construct_via(via))
+}
+
+/// Whether the element may stand after these.
+fn may_come_after(earlier: &[Via], via: &Via) -> bool
+    ensures { result ≡ may_follow earlier.now via.now }
+{
+    earlier.len() < 32 && !(via.star && (is_construct_via(via) || has_construct(earlier)))
+}
+
+fn read_next_via(earlier: &[Via], text: &[u8]) -> Option<Via>
+    ensures { result ≡ next_via earlier.now text.now }
+{
+    let via = read_via(text)?;
+    if may_come_after(earlier, &via) { Some(via) } else { None }
+}
+
+fn read_vias(first: Option<&[u8]>) -> Result<ArrayVec<Via, 32>, LineFault>
+    ensures { Gives (λ vias. vias.items) result (vias_of [] (pieces_of (option_map (λ rest. rest.now) first.entry))) }
+{
+    let mut vias: ArrayVec<Via, 32> = ArrayVec::new();
+    let mut path = first;
+    while let Some(text) = path {
+        let (piece, rest) = first_piece(text);
+        match read_next_via(vias.as_slice(), piece) {
+            Some(via) => vias.push(via),
+            None => return Err(LineFault::BadVia(vias.len() as u16 + 1)),
+        }
+        path = rest;
+    }
+    Ok(vias)
+}
+
+fn read_call(text: &[u8], fault: LineFault) -> Result<Call, LineFault>
+    ensures { result ≡ call_of fault text.now }
+{
+    Call::read(text).ok_or(fault)
+}
+
+/// The destination and the path.
+fn read_path(text: &[u8]) -> Result<(Call, ArrayVec<Via, 32>), LineFault>
+    ensures { Gives (λ path. (path.0, path.1.items)) result (path_of (slice_split is_comma text.now)) }
+{
+    let (dest, rest) = first_piece(text);
+    let dest = read_call(dest, LineFault::BadDest)?;
+    let vias = read_vias(rest)?;
+    Ok((dest, vias))
+}
+
+fn count_constructs(vias: &[Via]) -> usize
+    ensures { result ≡ count_by names_construct vias.now }
+{
+    vias.iter().filter(|via| is_construct_via(via)).count()
+}
+
+/// The parts of a packet line, or its first fault.
+#[tactic(auto, unfolding(crate::specs::Packet::parts_of))]
+pub fn read(line: &Line) -> Result<Parts, LineFault>
+    ensures { result ≡ parts_of line.now }
+{
+    let (head, body) = cut(b':', line.bytes()).ok_or(LineFault::NoColon)?;
+    let (source, path) = cut(b'>', head).ok_or(LineFault::NoArrow)?;
+    let source = read_call(source, LineFault::BadSource)?;
+    let (dest, vias) = read_path(path)?;
+    if count_constructs(vias.as_slice()) > 1 {
+        return Err(LineFault::TwoConstructs);
+    }
+    if body.is_empty() {
+        return Err(LineFault::NoBody);
+    }
+    let body = ArrayVec::try_from(body).unwrap();
+    Ok(Parts { source, dest, vias, body })
+}
+
+/// The place in the path, counted from 0, of the first construct: an element `qA` and one letter without `*`.
+pub fn construct(parts: &Parts) -> Option<u16>
+    ensures { result ≡ construct_at parts.now }
+{
+    let place = parts.vias.iter().position(|via| !via.star && is_construct_via(via))?;
+    Some(place as u16)
+}
