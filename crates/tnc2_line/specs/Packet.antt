@@ -119,13 +119,19 @@ checked_path vias = if nat_lt 1 (count_by names_construct vias) then Err fault.T
 abbrev pub checked_body : List ℕ → Result (List ℕ) LineFault
 checked_body text = if nat_lt 0 (length text) then Ok text else Err fault.NoBody
 
--- The first `:` ends the head, the first `>` of the head ends the source, and the rest is parted by commas.
-unfoldable pub parts_of : List ℕ → Result Parts LineFault
-parts_of line = do
-  line_cut ← ok_or (cut_at is_colon line) fault.NoColon
-  head_cut ← ok_or (cut_at is_arrow line_cut.0) fault.NoArrow
+-- source, destination and path of a head: the first `>` ends the source, and the rest is parted by commas
+unfoldable pub head_of : List ℕ → Result (List ℕ × List ℕ × List Via) LineFault
+head_of head = do
+  head_cut ← ok_or (cut_at is_arrow head) fault.NoArrow
   source ← call_of fault.BadSource head_cut.0
   path ← path_of (slice_split is_comma head_cut.1)
   vias ← checked_path path.1
+  Ok (source, path.0, vias)
+
+-- the parts of a line: the first `:` ends the head
+unfoldable pub parts_of : List ℕ → Result Parts LineFault
+parts_of line = do
+  line_cut ← ok_or (cut_at is_colon line) fault.NoColon
+  head ← head_of line_cut.0
   body ← checked_body line_cut.1
-  Ok (record { source = source; dest = path.0; vias = record { items = vias }; body = record { items = body } })
+  Ok (record { source = head.0; dest = head.1; vias = record { items = head.2 }; body = record { items = body } })

@@ -1,9 +1,9 @@
 //! From a line to its parts.
 ghost use Rattle.std.specs.Prelude.{◌≡◌, ℕ, ◌+◌, ◌<◌, ◌≤◌, [], ◌∷◌, ◌==◌, List, length, nat_lt, map, count_by, MatchResult, MatchOption};
 ghost use Rattle.std.specs.List.{list_any, slice_split};
-ghost use Rattle.std.specs.Option.{option_map};
+ghost use Rattle.std.specs.Option.{ok_or, option_map};
 ghost use Rattle.memchr.specs.Find.{is_byte};
-ghost use Rattle.tnc2_line.specs.Packet.{call_of, checked_path, construct_at, cut_at, is_comma, may_follow, names_construct, next_via, parts_of, path_of, via_of, vias_of};
+ghost use Rattle.tnc2_line.specs.Packet.{call_of, checked_body, checked_path, construct_at, cut_at, head_of, is_comma, may_follow, names_construct, next_via, parts_of, path_of, via_of, vias_of};
 ghost use Rattle.tnc2_line.specs.Pieces.{Gives, pieces_of};
 
 use aprs_base::{Call, Line, Parts, Via, first_place, is_construct_text};
@@ -125,22 +125,54 @@ fn count_constructs(vias: &[Via]) -> usize
     vias.iter().filter(|via| is_construct_via(via)).count()
 }
 
+fn check_path(vias: ArrayVec<Via, 32>) -> Result<ArrayVec<Via, 32>, LineFault>
+    ensures { Gives (λ path. path.items) result (checked_path vias.items) }
+{
+    if count_constructs(vias.as_slice()) > 1 { Err(LineFault::TwoConstructs) } else { Ok(vias) }
+}
+
+fn cut_or(byte: u8, text: &[u8], fault: LineFault) -> Result<(&[u8], &[u8]), LineFault>
+    ensures { Gives (λ parts. (parts.0.now, parts.1.now)) result (ok_or (cut_at (is_byte byte) text.now) fault) }
+{
+    match cut(byte, text) {
+        Some(parts) => Ok(parts),
+        None => Err(fault),
+    }
+}
+
+/// Source, destination and path.
+#[tactic(auto, unfolding(crate::specs::Packet::head_of))]
+fn read_head(head: &[u8]) -> Result<(Call, Call, ArrayVec<Via, 32>), LineFault>
+    ensures { Gives (λ parts. (parts.0, parts.1, parts.2.items)) result (head_of head.now) }
+{
+    let (source, path) = cut_or(b'>', head, LineFault::NoArrow)?;
+    let source = read_call(source, LineFault::BadSource)?;
+    let (dest, vias) = read_path(path)?;
+    let vias = check_path(vias)?;
+    Ok((source, dest, vias))
+}
+
+fn read_body(text: &[u8]) -> Result<ArrayVec<u8, 510>, LineFault>
+    requires { length text.now ≤ 510 }
+    ensures { Gives (λ body. body.items) result (checked_body text.now) }
+{
+    if text.is_empty() {
+        return Err(LineFault::NoBody);
+    }
+    match ArrayVec::try_from(text) {
+        Ok(body) => Ok(body),
+        Err(_) => unreachable!(),
+    }
+}
+
 /// The parts of a packet line, or its first fault.
 #[tactic(auto, unfolding(crate::specs::Packet::parts_of))]
 pub fn read(line: &Line) -> Result<Parts, LineFault>
     ensures { result ≡ parts_of line.now }
 {
-    let (head, body) = cut(b':', line.bytes()).ok_or(LineFault::NoColon)?;
-    let (source, path) = cut(b'>', head).ok_or(LineFault::NoArrow)?;
-    let source = read_call(source, LineFault::BadSource)?;
-    let (dest, vias) = read_path(path)?;
-    if count_constructs(vias.as_slice()) > 1 {
-        return Err(LineFault::TwoConstructs);
-    }
-    if body.is_empty() {
-        return Err(LineFault::NoBody);
-    }
-    let body = ArrayVec::try_from(body).unwrap();
+    let (head, body) = cut_or(b':', line.bytes(), LineFault::NoColon)?;
+    let (source, dest, vias) = read_head(head)?;
+    let body = read_body(body)?;
     Ok(Parts { source, dest, vias, body })
 }
 
