@@ -1,9 +1,9 @@
 //! From a line to its parts.
-ghost use Rattle.std.specs.Prelude.{◌≡◌, ℕ, ◌+◌, ◌<◌, ◌≤◌, [], ◌∷◌, ◌==◌, List, length, nat_lt, map, count_by, MatchResult, MatchOption};
+ghost use Rattle.std.specs.Prelude.{◌≡◌, ℕ, ◌+◌, ◌<◌, ◌≤◌, [], ◌∷◌, ◌==◌, List, length, nat_lt, map, count_by, IfSome, position};
 ghost use Rattle.std.specs.List.{list_any, slice_split};
 ghost use Rattle.std.specs.Option.{ok_or, option_map};
 ghost use Rattle.memchr.specs.Find.{is_byte};
-ghost use Rattle.tnc2_line.specs.Packet.{call_of, checked_body, checked_path, construct_at, cut_at, head_of, is_comma, may_follow, names_construct, next_via, parts_of, path_of, via_of, vias_of};
+ghost use Rattle.tnc2_line.specs.Packet.{call_of, checked_body, checked_path, construct_at, cut_at, head_of, is_comma, is_construct_via, may_follow, names_construct, next_via, parts_of, path_of, via_of, vias_of};
 ghost use Rattle.tnc2_line.specs.Pieces.{Gives, pieces_of};
 
 use aprs_base::{Call, Line, Parts, Via, first_place, is_construct_text};
@@ -61,7 +61,7 @@ fn read_via(text: &[u8]) -> Option<Via>
     Some(Via { call, star: place < text.len() })
 }
 
-fn is_construct_via(via: &Via) -> bool
+fn is_construct_call(via: &Via) -> bool
     ensures { result ≡ names_construct via.now }
 {
     is_construct_text(via.call.bytes())
@@ -70,14 +70,14 @@ fn is_construct_via(via: &Via) -> bool
 fn has_construct(vias: &[Via]) -> bool
     ensures { result ≡ list_any names_construct vias.now }
 {
-    vias.iter().any(|via| is_construct_via(via))
+    vias.iter().any(|via| is_construct_call(via))
 }
 
 /// Whether the element may stand after these.
 fn may_come_after(earlier: &[Via], via: &Via) -> bool
     ensures { result ≡ may_follow earlier.now via.now }
 {
-    earlier.len() < 32 && !(via.star && (is_construct_via(via) || has_construct(earlier)))
+    earlier.len() < 32 && !(via.star && (is_construct_call(via) || has_construct(earlier)))
 }
 
 fn read_next_via(earlier: &[Via], text: &[u8]) -> Option<Via>
@@ -122,7 +122,7 @@ fn read_path(text: &[u8]) -> Result<(Call, ArrayVec<Via, 32>), LineFault>
 fn count_constructs(vias: &[Via]) -> usize
     ensures { result ≡ count_by names_construct vias.now }
 {
-    vias.iter().filter(|via| is_construct_via(via)).count()
+    vias.iter().filter(|via| is_construct_call(via)).count()
 }
 
 fn check_path(vias: ArrayVec<Via, 32>) -> Result<ArrayVec<Via, 32>, LineFault>
@@ -176,10 +176,26 @@ pub fn read(line: &Line) -> Result<Parts, LineFault>
     Ok(Parts { source, dest, vias, body })
 }
 
+/// Whether the element is `qA` and one letter without `*`.
+fn is_plain_construct(via: &Via) -> bool
+    ensures { result ≡ is_construct_via via.now }
+{
+    is_construct_call(via) && !via.star
+}
+
+fn construct_place(vias: &[Via]) -> Option<usize>
+    ensures place { result ≡ position is_construct_via vias.now }
+    ensures within { IfSome result (λ place. place < length vias.now) }
+{
+    vias.iter().position(|via| is_plain_construct(via))
+}
+
 /// The place in the path, counted from 0, of the first construct: an element `qA` and one letter without `*`.
 pub fn construct(parts: &Parts) -> Option<u16>
     ensures { result ≡ construct_at parts.now }
 {
-    let place = parts.vias.iter().position(|via| !via.star && is_construct_via(via))?;
-    Some(place as u16)
+    match construct_place(parts.vias.as_slice()) {
+        Some(place) => Some(place as u16),
+        None => None,
+    }
 }
