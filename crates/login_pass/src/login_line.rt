@@ -1,5 +1,5 @@
 //! The login line.
-ghost use Rattle.std.specs.Prelude.{◌≡◌, ℕ, ◌+◌, ◌≤◌, List, length, drop, true, IsSome, IfSome, IsTrue, ◌↔◌};
+ghost use Rattle.std.specs.Prelude.{◌≡◌, ℕ, ◌+◌, ◌≤◌, List, length, drop, true, false, IfSome, IfNone};
 ghost use Rattle.std.specs.List.{list_all};
 ghost use Rattle.aprs_base.specs.Bytes.{is_digit, is_station};
 ghost use Rattle.login_pass.specs.Login.{code_of, filter_in, is_code_number, is_verified, login_of, number_from, trimmed};
@@ -116,8 +116,8 @@ fn find_filter(line: &[u8], place: usize) -> Option<(u16, u16)>
 }
 
 fn read_station(text: &[u8]) -> Option<Call>
-    ensures some { IsSome result ↔ IsTrue (is_station text.now) }
-    ensures value { IfSome result (λ call. call ≡ text.now) }
+    ensures some { IfSome result (λ call. (is_station text.now ≡ true) × (call ≡ text.now)) }
+    ensures none { IfNone result (is_station text.now ≡ false) }
 {
     let call = Call::read(text)?;
     if call.is_station() { Some(call) } else { None }
@@ -145,5 +145,9 @@ pub fn read_login(line: &Line) -> Result<Login, LoginFault>
     let Some(number) = read_code(&text[code.start..code.end]) else {
         return Err(LoginFault::BadPass);
     };
-    Ok(Login { call: station, code: number, filter: find_filter(text, code.end) })
+    Ok(Login {
+        call: station,
+        code: number,
+        filter: find_filter(text, code.end),
+    })
 }

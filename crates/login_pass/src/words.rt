@@ -19,10 +19,7 @@ pub fn leading_blanks(text: &[u8]) -> usize
     ensures count { result ≡ prefix_len is_blank text.now }
     ensures within { result ≤ length text.now }
 {
-    match text.iter().position(|byte| *byte != b' ') {
-        Some(place) => place,
-        None => text.len(),
-    }
+    text.iter().take_while(|byte| **byte == b' ').count()
 }
 
 /// How many blanks `text` ends with.
@@ -30,10 +27,7 @@ pub fn trailing_blanks(text: &[u8]) -> usize
     ensures count { result ≡ suffix_len is_blank text.now }
     ensures within { result ≤ length text.now }
 {
-    match text.iter().rev().position(|byte| *byte != b' ') {
-        Some(place) => place,
-        None => text.len(),
-    }
+    text.iter().rev().take_while(|byte| **byte == b' ').count()
 }
 
 /// The first word of `line` from this place on.
