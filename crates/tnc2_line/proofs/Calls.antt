@@ -29,11 +29,11 @@ around_dash : (text : List ℕ) → list_all is_alphanumeric (before_first is_da
 around_dash [] h k = refl
 around_dash (x ∷ xs) h k =
     elim (is_dash x) as (λ b. is_dash x ≡ b → list_all is_alphanumeric (take (cond (not b) (1 + position_or_len is_dash xs) 0) (x ∷ xs)) ≡ true
-        → list_all is_alphanumeric (drop (cond (not b) (1 + position_or_len is_dash xs) 0 + 1) (x ∷ xs)) ≡ true → (is_call_byte x && list_all is_call_byte xs) ≡ true) [
+    → list_all is_alphanumeric (drop (cond (not b) (1 + position_or_len is_dash xs) 0 + 1) (x ∷ xs)) ≡ true → (is_call_byte x && list_all is_call_byte xs) ≡ true) [
       | true ↦ λ e u v. and_from _ _ (rw e (grind arith)) (each_weaker is_alphanumeric is_call_byte alphanumeric_is xs v)
       | false ↦ λ e u v.
-        let front : (is_alphanumeric x ≡ true) × (list_all is_alphanumeric (take (position_or_len is_dash xs) xs) ≡ true) = and_parts _ _ (rw (take_one (position_or_len is_dash xs) x xs) at u) in
-        and_from _ _ (alphanumeric_is x front.0) (around_dash xs front.1 (rw (drop_two (position_or_len is_dash xs) x xs) at v))
+          let front : (is_alphanumeric x ≡ true) × (list_all is_alphanumeric (take (position_or_len is_dash xs) xs) ≡ true) = and_parts _ _ (rw (take_one (position_or_len is_dash xs) x xs) at u) in
+          and_from _ _ (alphanumeric_is x front.0) (around_dash xs front.1 (rw (drop_two (position_or_len is_dash xs) x xs) at v))
     ] refl h k
 
 position_within : (test : ℕ → Bool) (xs : List ℕ) → position_or_len test xs ≤ length xs
@@ -48,10 +48,10 @@ after_dash : (text : List ℕ) → has_no_bad_ssid text ≡ true → list_all is
 after_dash text h =
     elim (length (base_of text) == length text) as (λ b. (length (base_of text) == length text) ≡ b → (b || is_ssid_text (ssid_of text)) ≡ true → list_all is_alphanumeric (ssid_of text) ≡ true) [
       | true ↦ λ e _.
-        let long : length (base_of text) ≡ position_or_len is_dash text = length-take-le _ text (position_within is_dash text) in
-        let same : length (base_of text) ≡ length text = eqb-true _ _ e in
-        let none : drop (position_or_len is_dash text + 1) text ≡ [] = drop_of_length-le text (omega arith) in
-        rw none refl
+          let long : length (base_of text) ≡ position_or_len is_dash text = length-take-le _ text (position_within is_dash text) in
+          let same : length (base_of text) ≡ length text = eqb-true _ _ e in
+          let none : drop (position_or_len is_dash text + 1) text ≡ [] = drop_of_length-le text (omega arith) in
+          rw none refl
       | false ↦ λ _ e. (and_parts _ _ e).1
     ] refl h
 

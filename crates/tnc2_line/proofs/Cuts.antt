@@ -105,11 +105,11 @@ module _ (test : ℕ → Bool) where
   cut_whole [] h = absurd (cc)
   cut_whole (x ∷ xs) h =
       elim (test x) as (λ b. test x ≡ b → (b || list_any test xs) ≡ true → (c : ℕ) × (test c ≡ true)
-          × ((x ∷ xs) ≡ take (cond (not b) (1 + position_or_len test xs) 0) (x ∷ xs) ++ c ∷ drop (cond (not b) (1 + position_or_len test xs) 0 + 1) (x ∷ xs))) [
+      × ((x ∷ xs) ≡ take (cond (not b) (1 + position_or_len test xs) 0) (x ∷ xs) ++ c ∷ drop (cond (not b) (1 + position_or_len test xs) 0 + 1) (x ∷ xs))) [
         | true ↦ λ e _. (x, e, refl)
         | false ↦ λ _ any.
-          let rest = cut_whole xs any in
-          (rest.0, rest.1, rw (take_one (position_or_len test xs) x xs, drop_two (position_or_len test xs) x xs) (ap (λ ys. x ∷ ys) rest.2))
+            let rest = cut_whole xs any in
+            (rest.0, rest.1, rw (take_one (position_or_len test xs) x xs, drop_two (position_or_len test xs) x xs) (ap (λ ys. x ∷ ys) rest.2))
       ] refl h
 
   abbrev is_cut : List ℕ → Bool → Option (List ℕ × List ℕ)
@@ -123,9 +123,9 @@ module _ (test : ℕ → Bool) where
   cut_sides text a b h =
       elim (list_any test text) as (λ v. list_any test text ≡ v → is_cut text v ≡ Some (a, b) → (c : ℕ) × (test c ≡ true) × (text ≡ a ++ c ∷ b)) [
         | true ↦ λ any e.
-          let whole = cut_whole text any in
-          let front : before_first test text ≡ a = ap (λ o. (sides o).0) e in
-          let back : after_first test text ≡ b = ap (λ o. (sides o).1) e in
-          (whole.0, whole.1, whole.2 ∙ ap (λ t. t ++ whole.0 ∷ after_first test text) front ∙ ap (λ t. a ++ whole.0 ∷ t) back)
+            let whole = cut_whole text any in
+            let front : before_first test text ≡ a = ap (λ o. (sides o).0) e in
+            let back : after_first test text ≡ b = ap (λ o. (sides o).1) e in
+            (whole.0, whole.1, whole.2 ∙ ap (λ t. t ++ whole.0 ∷ after_first test text) front ∙ ap (λ t. a ++ whole.0 ∷ t) back)
         | false ↦ λ _ e. cc
       ] refl h

@@ -1,12 +1,13 @@
 -- Reading and writing are each other's opposites.
 use Rattle.std.proofs.Common.{◌≡◌, ℕ, ◌+◌, ◌<◌, ◌≤◌, Bool, true, false, cond, not, ◌&&◌, List, [], ◌∷◌, ◌++◌, map, length, Option, Some, None, Result, Ok, Err, refl, sym, ap, subst, ◌∙◌, leb, ltb, arith, append_assoc}
-use Rattle.std.specs.Prelude.{count_by, IsTrue}
+use Rattle.std.specs.Prelude.{count_by, IfOk}
 use Rattle.std.specs.List.{list_all, slice_split, flat_map, join_with_byte}
 use Rattle.std.specs.Option.{ok_or}
 use Rattle.std.proofs.lemmas.Bool.{and_parts, and_from, lt-ltb, leb-true, le-leb, ltb-true, ltb-false, le-ltb, eqb-true}
 use Rattle.std.proofs.lemmas.List.Folds.{list_all-append}
 use Rattle.std.proofs.lemmas.List.Splits.{join_with_byte-slice_split}
-use Rattle.aprs_base.specs.Bytes.{is_call, is_inner}
+use Rattle.aprs_base.specs.Bytes.{is_call, is_inner, IsLine}
+use Rattle.std.proofs.lemmas.List.{length-append}
 use Rattle.aprs_base.specs.declared.packets.Via.{Via}
 use Rattle.aprs_base.specs.declared.packets.Parts.{Parts}
 use Rattle.tnc2_line.specs.Packet.{text_of, is_parts, IsParts, IsPacket, is_path, parts_of, head_of, path_of, vias_of, call_of, checked_path, checked_body, cut_at, is_colon, is_arrow, is_comma, is_element, has_no_star, names_construct, from_construct, with_comma, via_text, ◌>>=◌}
@@ -150,14 +151,16 @@ path_gives (text ∷ texts) dest vias h =
     let dest_is : first.0 ≡ dest = ap dest_in rest.2 in
     let vias_is : rest.0 ≡ vias = ap vias_in rest.2 in
     let same : more.0 ≡ vias = sym more.1.whole ∙ vias_is in
-    let text_same : text ≡ dest = call.1 ∙ dest_is in
-    (ap (λ t. t ∷ texts) text_same ∙ ap (λ ts. dest ∷ ts) (sym more.1.texts_are) ∙ ap (λ vs. dest ∷ map via_text vs) same,
+    let text_same : text ≡ dest = call.1 ∙ dest_is in (
+      ap (λ t. t ∷ texts) text_same ∙ ap (λ ts. dest ∷ ts) (sym more.1.texts_are) ∙ ap (λ vs. dest ∷ map via_text vs) same,
       ap is_call (sym text_same) ∙ call.0,
-      subst (λ vs. Follow [] vs) same more.1.follow)
+      subst (λ vs. Follow [] vs) same more.1.follow,
+    )
   where
     dest_in : Result (List ℕ × List Via) LineFault → List ℕ
     dest_in (Ok p) = p.0
     dest_in (Err e) = []
+
     vias_in : Result (List ℕ × List Via) LineFault → List Via
     vias_in (Ok p) = p.1
     vias_in (Err e) = []
@@ -189,9 +192,11 @@ same_head a c b d u v h = (ap source_in h, ap dest_in h, ap vias_in h)
     source_in : Result Head LineFault → List ℕ
     source_in (Ok p) = p.0
     source_in (Err e) = []
+
     dest_in : Result Head LineFault → List ℕ
     dest_in (Ok p) = p.1
     dest_in (Err e) = []
+
     vias_in : Result Head LineFault → List Via
     vias_in (Ok p) = p.2
     vias_in (Err e) = []
@@ -206,7 +211,7 @@ head_from head source dest vias sides call path vs cut called read once same =
     let gives = path_gives (slice_split is_comma sides.1) path.0 path.1 read in
     let once_is = refused (ltb 1 (count_by names_construct path.1)) path.1 vs fault.TwoConstructs once in
     let rest : sides.1 ≡ path.0 ++ flat_map with_comma path.1 =
-        sym (join_with_byte-slice_split 44 sides.1) ∙ ap (join_with_byte 44) gives.0 ∙ join_back path.0 path.1 in
+    sym (join_with_byte-slice_split 44 sides.1) ∙ ap (join_with_byte 44) gives.0 ∙ join_back path.0 path.1 in
     let vias_same : path.1 ≡ vias = once_is.1 ∙ same.2 in
     let good : GoodPath path.1 = record { few = omega (arith, gives.2.few); elements = gives.2.elements; constructs = ltb-false _ _ once_is.0; stars = gives.2.stars } in
     record {
@@ -226,7 +231,7 @@ head_gives head source dest vias h =
     let b = bind_ok (call_of fault.BadSource a.0.0) (with_source a.0.1) (source, dest, vias) a.2 in
     let c = bind_ok (path_of (slice_split is_comma a.0.1)) (with_path b.0) (source, dest, vias) b.2 in
     let d = bind_ok (checked_path c.0.1) (with_vias b.0 c.0.0) (source, dest, vias) c.2 in
-    head_from head source dest vias a.0 b.0 c.0 d.0 (ok_or_ok _ _ _ a.1) b.1 c.1 d.1 (same_head _ _ _ _ _ _ d.2)
+    head_from head source dest vias a.0 b.0 c.0 d.0 (ok_or_ok (cut_at is_arrow head) fault.NoArrow a.0 a.1) b.1 c.1 d.1 (same_head b.0 source c.0.0 dest d.0 vias d.2)
 
 -- ---- the line
 
@@ -267,7 +272,7 @@ parts_give line parts inner h =
     let a = bind_ok (ok_or (cut_at is_colon line) fault.NoColon) with_line parts h in
     let b = bind_ok (head_of a.0.0) (with_head a.0.1) parts a.2 in
     let c = bind_ok (checked_body a.0.1) (with_body b.0) parts b.2 in
-    subst (λ p. IsPacket line p) (same_parts _ _ c.2) (parts_from line a.0 b.0 c.0 inner (ok_or_ok _ _ _ a.1) b.1 c.1)
+    subst (λ p. IsPacket line p) (same_parts _ _ c.2) (parts_from line a.0 b.0 c.0 inner (ok_or_ok (cut_at is_colon line) fault.NoColon a.0 a.1) b.1 c.1)
   where
     same_parts : (p q : Parts) → ◌≡◌ {A = Result Parts LineFault} (Ok p) (Ok q) → p ≡ q
     same_parts p q e = cc
@@ -275,3 +280,17 @@ parts_give line parts inner h =
 -- a line has one reading, and parts have one line
 pub packet_reads : (line : List ℕ) (parts : Parts) → IsPacket line parts → parts_of line ≡ Ok parts
 packet_reads line parts p = ap parts_of (sym p.spelled) ∙ parts_back parts p.sound
+
+inner_line : (line : List ℕ) → IsLine line → list_all is_inner line ≡ true
+inner_line line h = (and_parts (leb 1 (length line) && leb (length line) 510) (list_all is_inner line) h).1
+
+-- what is read from a line is its packet
+pub packet_of : (line : List ℕ) (r : Result Parts LineFault) → r ≡ parts_of line → IsLine line → IfOk r (λ parts. IsPacket line parts)
+packet_of line (Ok parts) e h = parts_give line parts (inner_line line h) (sym e)
+packet_of line (Err fault) e h = tt
+
+-- the text of parts is a line, where it isn't too long
+pub line_of_parts : (parts : Parts) → IsParts parts → length (text_of parts) ≤ 510 → IsLine (text_of parts)
+line_of_parts parts h short =
+    let long = ap length (text_is parts) ∙ length-append (head_text parts) (58 ∷ parts.body.items) in
+    and_from _ _ (and_from _ _ (le-leb 1 (length (text_of parts)) (omega (arith, long))) (le-leb (length (text_of parts)) 510 short)) (text_each parts h)

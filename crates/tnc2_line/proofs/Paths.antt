@@ -46,28 +46,30 @@ star_text text true any short =
     ap (λ c. before_first is_star text ++ c ∷ []) (sym star) ∙ ap (λ xs. before_first is_star text ++ whole.0 ∷ xs) (sym rest) ∙ sym whole.2
 star_text text false none short =
     let past : length text ≤ position_or_len is_star text =
-        elim (cases_lt (position_or_len is_star text) (length text)) [
-          | inl lt ↦ absurd (let any : list_any is_star text ≡ true = any_at is_star text lt in cc)
-          | inr le ↦ le
-        ] in
+    elim (cases_lt (position_or_len is_star text) (length text)) [
+      | inl lt ↦ absurd (let any : list_any is_star text ≡ true = any_at is_star text lt in cc)
+      | inr le ↦ le
+    ] in
     append-nil _ ∙ take_all _ text past
 
 pub via_gives : (text : List ℕ) (via : Via) → via_of text ≡ Some via → (via_text via ≡ text) × (is_element via ≡ true)
 unfolding via_of
 via_gives text via h =
     elim (is_call (before_first is_star text) && leb (length text) (length (before_first is_star text) + 1)) as (λ b.
-        (is_call (before_first is_star text) && leb (length text) (length (before_first is_star text) + 1)) ≡ b → found b ≡ Some via → (via_text via ≡ text) × (is_element via ≡ true)) [
+    (is_call (before_first is_star text) && leb (length text) (length (before_first is_star text) + 1)) ≡ b → found b ≡ Some via → (via_text via ≡ text) × (is_element via ≡ true)) [
       | true ↦ λ e same.
-        let tests = and_parts _ _ e in
-        let is : the_via ≡ via = from_some _ _ same in
-        (ap via_text (sym is) ∙ star_text text (list_any is_star text) refl (leb-true _ _ tests.1), ap is_element (sym is) ∙ tests.0)
+          let tests = and_parts _ _ e in
+          let is : the_via ≡ via = from_some _ _ same in
+          (ap via_text (sym is) ∙ star_text text (list_any is_star text) refl (leb-true _ _ tests.1), ap is_element (sym is) ∙ tests.0)
       | false ↦ λ _ same. cc
     ] refl h
   where
     the_via : Via
     the_via = record { call = before_first is_star text; star = list_any is_star text }
+
     found : Bool → Option Via
     found b = cond b (Some (record { call = before_first is_star text; star = list_any is_star text })) None
+
     from_some : (x y : Via) → Some x ≡ Some y → x ≡ y
     from_some x y e = cc
 
@@ -154,21 +156,23 @@ vias_gives earlier (text ∷ texts) all few h =
     elim (next_via earlier text) as (λ o. next_via earlier text ≡ o → (ok_or o (fault.BadVia (length earlier + 1)) >>= λ v. vias_of (earlier ++ v ∷ []) texts) ≡ Ok all → (more : List Via) × Gave earlier more (text ∷ texts) all) [
       | None ↦ λ _ e. cc
       | Some via ↦ λ is e.
-        let next = next_gives earlier text via is in
-        let tests = and_parts _ _ next.1 in
-        let room : length earlier < 32 = ltb-true _ _ tests.0 in
-        let long = length-append earlier (via ∷ []) in
-        let rest = vias_gives (earlier ++ via ∷ []) texts all (omega (arith, long)) e in
-        let reads = via_gives text via next.0 in
-        (via ∷ rest.0, record {
-          whole = rest.1.whole ∙ append_assoc earlier (via ∷ []) rest.0;
-          texts_are = ap (λ t. t ∷ map via_text rest.0) reads.0 ∙ ap (λ ts. text ∷ ts) rest.1.texts_are;
-          follow = record {
-            few = omega (arith, rest.1.follow.few, long);
-            elements = and_from _ _ reads.1 rest.1.follow.elements;
-            stars = stars_step (list_any names_construct earlier) via rest.0 ∙ and_from _ _ tests.1 (ap (λ b. stars_fit b rest.0) (sym (any_push earlier via)) ∙ rest.1.follow.stars);
-          };
-        })
+          let next = next_gives earlier text via is in
+          let tests = and_parts _ _ next.1 in
+          let room : length earlier < 32 = ltb-true _ _ tests.0 in
+          let long = length-append earlier (via ∷ []) in
+          let rest = vias_gives (earlier ++ via ∷ []) texts all (omega (arith, long)) e in
+          let reads = via_gives text via next.0 in (
+            via ∷ rest.0,
+            record {
+              whole = rest.1.whole ∙ append_assoc earlier (via ∷ []) rest.0;
+              texts_are = ap (λ t. t ∷ map via_text rest.0) reads.0 ∙ ap (λ ts. text ∷ ts) rest.1.texts_are;
+              follow = record {
+                few = omega (arith, rest.1.follow.few, long);
+                elements = and_from _ _ reads.1 rest.1.follow.elements;
+                stars = stars_step (list_any names_construct earlier) via rest.0 ∙ and_from _ _ tests.1 (ap (λ b. stars_fit b rest.0) (sym (any_push earlier via)) ∙ rest.1.follow.stars);
+              };
+            },
+          )
     ] refl h
 
 -- ---- the commas

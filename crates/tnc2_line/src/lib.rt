@@ -2,5 +2,7 @@
 #![tactic(auto)]
 
 mod reading;
+mod writing;
 
 pub use reading::{LineFault, construct, read};
+pub use writing::{LongOut, write};

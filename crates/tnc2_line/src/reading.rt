@@ -1,9 +1,10 @@
 //! From a line to its parts.
-ghost use Rattle.std.specs.Prelude.{◌≡◌, ℕ, ◌+◌, ◌<◌, ◌≤◌, [], ◌∷◌, ◌==◌, List, length, nat_lt, map, count_by, IfSome, position};
+ghost use Rattle.std.specs.Prelude.{◌≡◌, ℕ, ◌+◌, ◌<◌, ◌≤◌, [], ◌∷◌, ◌==◌, List, length, nat_lt, map, count_by, IfSome, IfOk, position};
 ghost use Rattle.std.specs.List.{list_any, slice_split};
 ghost use Rattle.std.specs.Option.{ok_or, option_map};
+ghost use Rattle.aprs_base.specs.Bytes.{IsLine};
 ghost use Rattle.memchr.specs.Find.{is_byte};
-ghost use Rattle.tnc2_line.specs.Packet.{call_of, checked_body, checked_path, construct_at, cut_at, head_of, is_comma, is_construct_via, may_follow, names_construct, next_via, parts_of, path_of, via_of, vias_of};
+ghost use Rattle.tnc2_line.specs.Packet.{IsPacket, call_of, checked_body, checked_path, construct_at, cut_at, head_of, is_comma, is_construct_via, may_follow, names_construct, next_via, parts_of, path_of, via_of, vias_of};
 ghost use Rattle.tnc2_line.specs.Pieces.{Gives, pieces_of};
 
 use aprs_base::{Call, Line, Parts, Via, first_place, is_construct_text};
@@ -176,10 +177,10 @@ fn read_body(text: &[u8]) -> Result<ArrayVec<u8, 510>, LineFault>
     }
 }
 
-/// The parts of a packet line, or its first fault.
 #[tactic(auto, unfolding(crate::specs::Packet::parts_of))]
-pub fn read(line: &Line) -> Result<Parts, LineFault>
-    ensures { result ≡ parts_of line.now }
+fn read_parts(line: &Line) -> Result<Parts, LineFault>
+    ensures exact { result ≡ parts_of line.now }
+    ensures grammar { IsLine line.now }
 {
     let (head, body) = cut_or(b':', line.bytes(), LineFault::NoColon)?;
     let (source, dest, vias) = read_head(head)?;
@@ -190,6 +191,17 @@ pub fn read(line: &Line) -> Result<Parts, LineFault>
         vias,
         body,
     })
+}
+
+/// The parts of a packet line, or its first fault.
+pub fn read(line: &Line) -> Result<Parts, LineFault>
+    ensures exact { result ≡ parts_of line.now }
+    // What is read is the packet of that line.
+    ensures packet { IfOk result (λ parts. IsPacket line.now parts) }
+    // The packet of a line is read, so no line has two.
+    ensures only { (parts : Parts) → IsPacket line.now parts → result ≡ Ok parts }
+{
+    read_parts(line)
 }
 
 /// Whether the element is `qA` and one letter without `*`.
