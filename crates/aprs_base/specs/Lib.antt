@@ -1,2 +1,4 @@
 pub mod Bytes
+pub mod Cuts
+pub mod Held
 pub mod PacketSeen

@@ -1,6 +1,7 @@
 //! The types, the cutting of byte streams into lines, and the outside as traits, on which every crate of the server stands.
 #![tactic(auto)]
 
+mod cutting;
 mod packets;
 mod texts;
 

@@ -6,7 +6,7 @@ ghost use Rattle.aprs_base.specs.Bytes.{IsCall, IsLine, base_of, is_alphanumeric
 
 use arrayvec::ArrayVec;
 use memchr::memchr;
-use std::alloc::AllocError;
+use std::alloc::{AllocError, AllocFailed};
 use std::marker::Model;
 
 /// Memory was wanting.
@@ -15,6 +15,12 @@ pub struct Memory;
 
 impl From<AllocError> for Memory {
     fn from(_error: AllocError) -> Memory {
+        Memory
+    }
+}
+
+impl<T: Drop> From<AllocFailed<T>> for Memory {
+    fn from(_failed: AllocFailed<T>) -> Memory {
         Memory
     }
 }
