@@ -1,0 +1,201 @@
+//! From a line to its parts.
+ghost use Rattle.std.specs.Prelude.{◌≡◌, ℕ, ◌+◌, ◌<◌, ◌≤◌, [], ◌∷◌, ◌==◌, List, length, nat_lt, map, count_by, IfSome, position};
+ghost use Rattle.std.specs.List.{list_any, slice_split};
+ghost use Rattle.std.specs.Option.{ok_or, option_map};
+ghost use Rattle.memchr.specs.Find.{is_byte};
+ghost use Rattle.tnc2_line.specs.Packet.{call_of, checked_body, checked_path, construct_at, cut_at, head_of, is_comma, is_construct_via, may_follow, names_construct, next_via, parts_of, path_of, via_of, vias_of};
+ghost use Rattle.tnc2_line.specs.Pieces.{Gives, pieces_of};
+
+use aprs_base::{Call, Line, Parts, Via, first_place, is_construct_text};
+use arrayvec::ArrayVec;
+
+/// Why a line is no packet: the first of these that applies.
+#[derive(Clone, Copy, PartialEq, Eq, Debug)]
+pub enum LineFault {
+    /// There is no `:`.
+    NoColon,
+    /// There is no `>` before the first `:`.
+    NoArrow,
+    /// The source is no call.
+    BadSource,
+    /// The destination is no call.
+    BadDest,
+    /// This element of the path, counted from 1, is none, has `*` on a construct or after one, or is the 33rd.
+    BadVia(u16),
+    /// The path has more than one construct.
+    TwoConstructs,
+    /// Nothing follows the colon.
+    NoBody,
+}
+
+/// The text before and the text after the first `byte`.
+fn cut(byte: u8, text: &[u8]) -> Option<(&[u8], &[u8])>
+    ensures { option_map (λ parts. (parts.0.now, parts.1.now)) result ≡ cut_at (is_byte byte) text.now }
+{
+    let place = first_place(byte, text);
+    if place < text.len() {
+        Some((&text[..place], &text[place + 1..]))
+    } else {
+        None
+    }
+}
+
+/// The text up to the first comma, and what follows that comma.
+fn first_piece(text: &[u8]) -> (&[u8], Option<&[u8]>)
+    ensures { result.0.now ∷ pieces_of (option_map (λ rest. rest.now) result.1) ≡ slice_split is_comma text.now }
+{
+    match cut(b',', text) {
+        Some((piece, rest)) => (piece, Some(rest)),
+        None => (text, None),
+    }
+}
+
+fn read_via(text: &[u8]) -> Option<Via>
+    ensures { result ≡ via_of text.now }
+{
+    let place = first_place(b'*', text);
+    if text.len() > place + 1 {
+        return None;
+    }
+    let call = Call::read(&text[..place])?;
+    Some(Via { call, star: place < text.len() })
+}
+
+fn is_construct_call(via: &Via) -> bool
+    ensures { result ≡ names_construct via.now }
+{
+    is_construct_text(via.call.bytes())
+}
+
+fn has_construct(vias: &[Via]) -> bool
+    ensures { result ≡ list_any names_construct vias.now }
+{
+    vias.iter().any(|via| is_construct_call(via))
+}
+
+/// Whether the element may stand after these.
+fn may_come_after(earlier: &[Via], via: &Via) -> bool
+    ensures { result ≡ may_follow earlier.now via.now }
+{
+    earlier.len() < 32 && !(via.star && (is_construct_call(via) || has_construct(earlier)))
+}
+
+fn read_next_via(earlier: &[Via], text: &[u8]) -> Option<Via>
+    ensures { result ≡ next_via earlier.now text.now }
+{
+    let via = read_via(text)?;
+    if may_come_after(earlier, &via) { Some(via) } else { None }
+}
+
+fn read_vias(first: Option<&[u8]>) -> Result<ArrayVec<Via, 32>, LineFault>
+    ensures { Gives (λ vias. vias.items) result (vias_of [] (pieces_of (option_map (λ rest. rest.now) first.entry))) }
+{
+    let mut vias: ArrayVec<Via, 32> = ArrayVec::new();
+    let mut path = first;
+    while let Some(text) = path {
+        let (piece, rest) = first_piece(text);
+        match read_next_via(vias.as_slice(), piece) {
+            Some(via) => vias.push(via),
+            None => return Err(LineFault::BadVia(vias.len() as u16 + 1)),
+        }
+        path = rest;
+    }
+    Ok(vias)
+}
+
+fn read_call(text: &[u8], fault: LineFault) -> Result<Call, LineFault>
+    ensures { result ≡ call_of fault text.now }
+{
+    Call::read(text).ok_or(fault)
+}
+
+/// The destination and the path.
+fn read_path(text: &[u8]) -> Result<(Call, ArrayVec<Via, 32>), LineFault>
+    ensures { Gives (λ path. (path.0, path.1.items)) result (path_of (slice_split is_comma text.now)) }
+{
+    let (dest, rest) = first_piece(text);
+    let dest = read_call(dest, LineFault::BadDest)?;
+    let vias = read_vias(rest)?;
+    Ok((dest, vias))
+}
+
+fn count_constructs(vias: &[Via]) -> usize
+    ensures { result ≡ count_by names_construct vias.now }
+{
+    vias.iter().filter(|via| is_construct_call(via)).count()
+}
+
+fn check_path(vias: ArrayVec<Via, 32>) -> Result<ArrayVec<Via, 32>, LineFault>
+    ensures { Gives (λ path. path.items) result (checked_path vias.items) }
+{
+    if count_constructs(vias.as_slice()) > 1 { Err(LineFault::TwoConstructs) } else { Ok(vias) }
+}
+
+fn cut_or(byte: u8, text: &[u8], fault: LineFault) -> Result<(&[u8], &[u8]), LineFault>
+    ensures { Gives (λ parts. (parts.0.now, parts.1.now)) result (ok_or (cut_at (is_byte byte) text.now) fault) }
+{
+    match cut(byte, text) {
+        Some(parts) => Ok(parts),
+        None => Err(fault),
+    }
+}
+
+/// Source, destination and path.
+#[tactic(auto, unfolding(crate::specs::Packet::head_of))]
+fn read_head(head: &[u8]) -> Result<(Call, Call, ArrayVec<Via, 32>), LineFault>
+    ensures { Gives (λ parts. (parts.0, parts.1, parts.2.items)) result (head_of head.now) }
+{
+    let (source, path) = cut_or(b'>', head, LineFault::NoArrow)?;
+    let source = read_call(source, LineFault::BadSource)?;
+    let (dest, vias) = read_path(path)?;
+    let vias = check_path(vias)?;
+    Ok((source, dest, vias))
+}
+
+fn read_body(text: &[u8]) -> Result<ArrayVec<u8, 510>, LineFault>
+    requires { length text.now ≤ 510 }
+    ensures { Gives (λ body. body.items) result (checked_body text.now) }
+{
+    if text.is_empty() {
+        return Err(LineFault::NoBody);
+    }
+    match ArrayVec::try_from(text) {
+        Ok(body) => Ok(body),
+        Err(_) => unreachable!(),
+    }
+}
+
+/// The parts of a packet line, or its first fault.
+#[tactic(auto, unfolding(crate::specs::Packet::parts_of))]
+pub fn read(line: &Line) -> Result<Parts, LineFault>
+    ensures { result ≡ parts_of line.now }
+{
+    let (head, body) = cut_or(b':', line.bytes(), LineFault::NoColon)?;
+    let (source, dest, vias) = read_head(head)?;
+    let body = read_body(body)?;
+    Ok(Parts { source, dest, vias, body })
+}
+
+/// Whether the element is `qA` and one letter without `*`.
+fn is_plain_construct(via: &Via) -> bool
+    ensures { result ≡ is_construct_via via.now }
+{
+    is_construct_call(via) && !via.star
+}
+
+fn construct_place(vias: &[Via]) -> Option<usize>
+    ensures place { result ≡ position is_construct_via vias.now }
+    ensures within { IfSome result (λ place. place < length vias.now) }
+{
+    vias.iter().position(|via| is_plain_construct(via))
+}
+
+/// The place in the path, counted from 0, of the first construct: an element `qA` and one letter without `*`.
+pub fn construct(parts: &Parts) -> Option<u16>
+    ensures { result ≡ construct_at parts.now }
+{
+    match construct_place(parts.vias.as_slice()) {
+        Some(place) => Some(place as u16),
+        None => None,
+    }
+}
