@@ -3,6 +3,4 @@
 
 mod reading;
 
-
 pub use reading::{LineFault, construct, read};
-

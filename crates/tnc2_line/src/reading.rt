@@ -58,7 +58,10 @@ fn read_via(text: &[u8]) -> Option<Via>
         return None;
     }
     let call = Call::read(&text[..place])?;
-    Some(Via { call, star: place < text.len() })
+    Some(Via {
+        call,
+        star: place < text.len(),
+    })
 }
 
 fn is_construct_call(via: &Via) -> bool
@@ -84,7 +87,11 @@ fn read_next_via(earlier: &[Via], text: &[u8]) -> Option<Via>
     ensures { result ≡ next_via earlier.now text.now }
 {
     let via = read_via(text)?;
-    if may_come_after(earlier, &via) { Some(via) } else { None }
+    if may_come_after(earlier, &via) {
+        Some(via)
+    } else {
+        None
+    }
 }
 
 fn read_vias(first: Option<&[u8]>) -> Result<ArrayVec<Via, 32>, LineFault>
@@ -128,7 +135,11 @@ fn count_constructs(vias: &[Via]) -> usize
 fn check_path(vias: ArrayVec<Via, 32>) -> Result<ArrayVec<Via, 32>, LineFault>
     ensures { Gives (λ path. path.items) result (checked_path vias.items) }
 {
-    if count_constructs(vias.as_slice()) > 1 { Err(LineFault::TwoConstructs) } else { Ok(vias) }
+    if count_constructs(vias.as_slice()) > 1 {
+        Err(LineFault::TwoConstructs)
+    } else {
+        Ok(vias)
+    }
 }
 
 fn cut_or(byte: u8, text: &[u8], fault: LineFault) -> Result<(&[u8], &[u8]), LineFault>
@@ -173,7 +184,12 @@ pub fn read(line: &Line) -> Result<Parts, LineFault>
     let (head, body) = cut_or(b':', line.bytes(), LineFault::NoColon)?;
     let (source, dest, vias) = read_head(head)?;
     let body = read_body(body)?;
-    Ok(Parts { source, dest, vias, body })
+    Ok(Parts {
+        source,
+        dest,
+        vias,
+        body,
+    })
 }
 
 /// Whether the element is `qA` and one letter without `*`.

@@ -1,0 +1,3 @@
+pub mod PairLemmas
+mod Rows
+pub mod WordLemmas

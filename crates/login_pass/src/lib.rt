@@ -1,0 +1,9 @@
+//! Logins: the login line, and the passcode of a call.
+#![tactic(auto)]
+
+mod login_line;
+mod pass;
+mod words;
+
+pub use login_line::{Login, LoginFault, read_login};
+pub use pass::passcode;
