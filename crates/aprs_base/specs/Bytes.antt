@@ -1,5 +1,5 @@
 -- The bytes and the short texts of APRS-IS: calls, lines, and the limits of their lengths.
-use Rattle.std.specs.Prelude.{ℕ, ◌+◌, ◌==◌, ◌&&◌, ◌||◌, Bool, true, false, nat_le, not, List, [], ◌∷◌, length, IsTrue}
+use Rattle.std.specs.Prelude.{ℕ, ◌≡◌, ◌+◌, ◌==◌, ◌&&◌, ◌||◌, Bool, true, false, nat_le, not, List, [], ◌∷◌, length, IsTrue}
 use Rattle.std.specs.List.{list_all, before_first, after_first}
 
 -- CR, LF and the blank
@@ -59,6 +59,9 @@ is_station text = is_call text && not (is_construct text)
 -- a line without its end: 1 to 510 bytes, none of them CR or LF
 abbrev pub is_inner : ℕ → Bool
 is_inner b = not (is_line_end b)
+
+abbrev pub IsInner : List ℕ → Type 0
+IsInner text = list_all is_inner text ≡ true
 
 abbrev pub is_line : List ℕ → Bool
 is_line text = nat_le 1 (length text) && nat_le (length text) 510 && list_all is_inner text

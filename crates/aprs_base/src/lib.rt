@@ -1,8 +1,13 @@
 //! The types, the cutting of byte streams into lines, and the outside as traits, on which every crate of the server stands.
 #![tactic(auto)]
 
+mod cutting;
+mod events;
+mod files;
 mod packets;
+mod sinks;
 mod texts;
+mod wire;
 
 pub use packets::{
     Body, ListenSpec, Packet, Parts, Place, PortKind, Shared, Source, UplinkSpec, Via, copy_body,
@@ -12,3 +17,4 @@ pub use texts::{
     Addr, Call, Chunk, Failed, Line, Memory, Text, Word9, copy_call, copy_chunk, copy_line,
     copy_word, first_place, is_construct_text,
 };
+pub use wire::{MemWire, Take, Wire, WrongNumbers};

@@ -1,12 +1,12 @@
 //! Calls, lines and other short texts, each kept within its grammar by its type.
-ghost use Rattle.std.specs.Prelude.{◌≡◌, ℕ, ◌≤◌, ◌<◌, ◌∷◌, [], List, length, IsSome, IfSome, IsTrue, ◌↔◌};
+ghost use Rattle.std.specs.Prelude.{◌≡◌, ℕ, ◌≤◌, ◌<◌, ◌∷◌, [], List, length, IsSome, IfOk, IfSome, IsTrue, ◌↔◌};
 ghost use Rattle.std.specs.List.{list_all, position_or_len};
 ghost use Rattle.memchr.specs.Find.{is_byte};
 ghost use Rattle.aprs_base.specs.Bytes.{IsCall, IsLine, base_of, is_alphanumeric, is_call, is_construct, is_inner, is_ssid_text, is_station};
 
 use arrayvec::ArrayVec;
 use memchr::memchr;
-use std::alloc::AllocError;
+use std::alloc::{AllocError, AllocFailed, Global};
 use std::marker::Model;
 
 /// Memory was wanting.
@@ -15,6 +15,12 @@ pub struct Memory;
 
 impl From<AllocError> for Memory {
     fn from(_error: AllocError) -> Memory {
+        Memory
+    }
+}
+
+impl<T: Drop> From<AllocFailed<T>> for Memory {
+    fn from(_failed: AllocFailed<T>) -> Memory {
         Memory
     }
 }
@@ -316,6 +322,14 @@ impl Text {
         ensures { result ≡ bytes.items }
     {
         Text { bytes }
+    }
+
+    /// The text of a copy of these bytes.
+    pub fn copied(alloc: Global, bytes: &[u8]) -> Result<Text, Memory>
+        ensures { IfOk result (λ t. t ≡ bytes.now) }
+    {
+        let bytes = bytes.to_vec(alloc)?;
+        Ok(Text { bytes })
     }
 
     /// Its bytes.

@@ -1,0 +1,116 @@
+//! Files, from which the configuration is read.
+ghost use Rattle.std.specs.Prelude.{◌≡◌, ◌↔◌, ◌⊎◌, ℕ, ◌<◌, Some, None, true, false, [], List, length, IsErrOf};
+ghost use Rattle.std.specs.Option.{option_map};
+ghost use Rattle.aprs_base.specs.MemStores.{FileTable, files_shown, is_to_fail};
+ghost use Rattle.aprs_base.specs.Stores.{AfterRead, FilesShown, bytes_named};
+
+use crate::texts::Text;
+use std::alloc::AllocError;
+use std::marker::Model;
+
+/// Why a file wasn't read.
+#[derive(Clone, Copy, PartialEq, Eq, Debug)]
+pub enum FileError {
+    Failed,
+    /// It has more bytes than the limit.
+    Big,
+    Memory,
+}
+
+impl From<AllocError> for FileError {
+    ghost use Rattle.std.specs.Prelude.{◌≡◌};
+    ghost use Rattle.aprs_base.specs.declared.files.FileError.TheVariants.{Memory};
+
+    ghost from_gives = { λ _ e. e ≡ Memory };
+
+    fn from(_error: AllocError) -> FileError {
+        FileError::Memory
+    }
+}
+
+/// Files by their names. The count of failed reads never falls.
+pub trait Files {
+    ghost shown: { Self → FilesShown };
+
+    /// Appends the file's whole bytes to `out`. `Big` exactly where it has more than `limit`, `Failed` only where the count
+    /// of failed reads rose; where the answer isn't Ok, `out` stays as it was.
+    fn read(&mut self, name: &str, limit: usize, out: &mut Vec<u8>) -> Result<(), FileError>
+        ensures { AfterRead (shown self.old) (shown self.new) name.now limit out.old.items out.new.items result };
+}
+
+/// A file in memory.
+#[derive(Debug, Drop)]
+pub struct MemFile {
+    pub name: Text,
+    pub bytes: Text,
+}
+
+/// Files in memory, some of whose reads fail.
+#[derive(Drop)]
+pub struct MemFiles {
+    files: Vec<MemFile>,
+    fail: Vec<u64>,
+    calls: u64,
+    faults: u64,
+}
+
+impl Model for MemFiles {
+    ghost use Rattle.aprs_base.specs.MemStores.{FileTable};
+
+    ghost Value = { FileTable };
+
+    ghost view = { λ f. record { files = f.files.items; fail = f.fail.items; calls = f.calls; faults = f.faults } };
+}
+
+impl MemFiles {
+    /// These files. A read fails where its number of calls before is listed, or where no file has its name.
+    pub fn new(files: Vec<MemFile>, fail: Vec<u64>) -> MemFiles
+        ensures { result ≡ record { files = files.items; fail = fail.items; calls = 0; faults = 0 } }
+    {
+        MemFiles {
+            files,
+            fail,
+            calls: 0,
+            faults: 0,
+        }
+    }
+}
+
+pub(crate) fn is_listed(list: &[u64], number: u64) -> bool
+    ensures { result ≡ is_to_fail list.now number }
+{
+    list.iter().any(|listed| *listed == number)
+}
+
+fn bytes_of<'a>(files: &'a [MemFile], name: &[u8]) -> Option<&'a [u8]>
+    ensures { option_map (λ b. b.now) result ≡ bytes_named name.now files.now }
+{
+    for file in files {
+        if file.name.as_bytes() == name {
+            return Some(file.bytes.as_bytes());
+        }
+    }
+    None
+}
+
+impl Files for MemFiles {
+    ghost shown = { files_shown };
+
+    fn read(&mut self, name: &str, limit: usize, out: &mut Vec<u8>) -> Result<(), FileError>
+        ensures read { AfterRead (files_shown self.old) (files_shown self.new) name.now limit out.old.items out.new.items result }
+        ensures failed { IsErrOf result FileError.Failed ↔ ((is_to_fail self.old.fail self.old.calls ≡ true) ⊎ (bytes_named name.now self.old.files ≡ None)) }
+    {
+        let calls = self.calls;
+        self.calls = calls.saturating_add(1);
+        let found = bytes_of(self.files.as_slice(), name.as_bytes());
+        let (false, Some(bytes)) = (is_listed(self.fail.as_slice(), calls), found) else {
+            self.faults = self.faults.saturating_add(1);
+            return Err(FileError::Failed);
+        };
+        if bytes.len() > limit {
+            return Err(FileError::Big);
+        }
+        out.extend_from_slice(bytes)?;
+        Ok(())
+    }
+}

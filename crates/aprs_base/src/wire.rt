@@ -1,0 +1,249 @@
+//! The network: listeners, links that come and go, and datagrams.
+ghost use Rattle.std.specs.Prelude.{◌≡◌, ◌↔◌, ℕ, ◌+◌, ◌≤◌, ◌∷◌, Some, None, IsErr, IsOk, OnOk, OnErr, IsErrOf, IfOk, IsTrue, true, false, drop};
+ghost use Rattle.aprs_base.specs.WireScript.{next_events, outcome_of, script_of, shown_by};
+ghost use Rattle.aprs_base.specs.Outside.{AfterAct, AfterListen, AfterNext, AfterSend, Told, WireShown, are_numbered, new_link, with_cast, with_closed, with_dial};
+
+use crate::events::{Event, Happening, Sent, WireError, copy_event};
+use crate::packets::{ListenSpec, UplinkSpec, copy_uplink};
+use crate::texts::{Addr, Memory, Text};
+use std::alloc::Global;
+use std::marker::Model;
+
+/// A network, by all that happened on it. A call that succeeds appends its happening, any other none.
+/// Its counts of faults never fall: calls of `listen` and `next` that failed, and links that a send found gone.
+pub trait Wire {
+    ghost shown: { Self → WireShown };
+
+    /// Listens at an address. `Failed` only where the count of failed calls rose.
+    fn listen(&mut self, n: u16, spec: &ListenSpec) -> Result<(), WireError>
+        ensures { AfterListen (shown self.old) (shown self.new) n spec.now result };
+
+    /// The next event, which may be waited for. `Failed` only where the count of failed calls rose.
+    fn next(&mut self) -> Result<Event, WireError>
+        ensures { AfterNext (shown self.old) (shown self.new) result };
+
+    /// Offers bytes to a link, which takes a part of them or is gone.
+    fn send(&mut self, link: u32, bytes: &[u8]) -> Result<Sent, Memory>
+        ensures { AfterSend (shown self.old) (shown self.new) link bytes.now result };
+
+    /// Closes a link.
+    fn close(&mut self, link: u32) -> Result<(), Memory>
+        ensures { AfterAct (shown self.old) (shown self.new) (with_closed link) result };
+
+    /// Begins to dial an uplink, which is answered by an event.
+    fn dial(&mut self, uplink: u16, spec: &UplinkSpec) -> Result<(), Memory>
+        ensures { AfterAct (shown self.old) (shown self.new) (with_dial uplink spec.now) result };
+
+    /// Sends a datagram to a peer.
+    fn cast(&mut self, peer: u16, to: Addr, bytes: &[u8]) -> Result<(), Memory>
+        ensures { AfterAct (shown self.old) (shown self.new) (with_cast peer to bytes.now) result };
+}
+
+/// What a wire in memory does with one offer of bytes.
+#[derive(Clone, Copy, PartialEq, Eq, Debug)]
+pub enum Take {
+    All,
+    /// At most so many bytes.
+    Most(usize),
+    Gone,
+}
+
+/// The links that events bring aren't numbered in order from 1.
+#[derive(Clone, Copy, PartialEq, Eq, Debug)]
+pub struct WrongNumbers;
+
+/// A wire in memory, which gives listed events and tells all that happened.
+#[derive(Drop)]
+pub struct MemWire {
+    pub done: Vec<Happening>,
+    pub listened: Vec<ListenSpec>,
+    pub dialled: Vec<UplinkSpec>,
+    pub cast_to: Vec<Addr>,
+    alloc: Global,
+    events: Vec<Event>,
+    takes: Vec<Take>,
+    fail_listen: Option<u64>,
+    fail_next: Option<u64>,
+    listens: u64,
+    nexts: u64,
+    at: usize,
+    sends: usize,
+    links: u32,
+    stops: u64,
+    gones: u64,
+}
+
+impl Model for MemWire {
+    ghost use Rattle.std.specs.Prelude.{IsTrue, true, false, drop};
+    ghost use Rattle.aprs_base.specs.WireScript.{next_events, outcome_of, script_of, shown_by};
+    ghost use Rattle.aprs_base.specs.Outside.{are_numbered};
+    ghost use Rattle.aprs_base.specs.WireScript.{WireScript};
+
+    ghost Value = { WireScript };
+
+    ghost view = { λ w. record {
+      told = record { done = w.done.items; listened = w.listened.items; dialled = w.dialled.items; cast_to = w.cast_to.items };
+      left = drop w.at w.events.items;
+      takes = drop w.sends w.takes.items;
+      fail_listen = w.fail_listen;
+      fail_next = w.fail_next;
+      listens = w.listens;
+      nexts = w.nexts;
+      links = w.links;
+      stops = w.stops;
+      gones = w.gones;
+    } };
+
+    ghost invariant = { λ w. IsTrue (are_numbered w.links (drop w.at w.events.items)) };
+}
+
+/// The number of the link that an event brings.
+fn new_link_of(event: &Event) -> Option<u32>
+    ensures { result ≡ new_link event.now }
+{
+    match event {
+        Event::Opened { link, .. } | Event::Joined { link, .. } => Some(*link),
+        _ => None,
+    }
+}
+
+/// Whether the links that the events bring are numbered in order from 1.
+fn are_in_order(events: &[Event]) -> bool
+    ensures { result ≡ are_numbered 0 events.now }
+{
+    let mut links = 0u32;
+    for event in events {
+        if let Some(link) = new_link_of(event) {
+            if link == 0 || link - 1 != links {
+                return false;
+            }
+            links = link;
+        }
+    }
+    true
+}
+
+impl MemWire {
+    /// A wire that gives these events, and Stop after the last; takes each offer as the list says, and whole after its end;
+    /// and fails the calls of `listen` and `next` before which so many were made. It takes no memory until it is called.
+    pub fn new(
+        alloc: Global,
+        events: Vec<Event>,
+        takes: Vec<Take>,
+        fail_listen: Option<u64>,
+        fail_next: Option<u64>,
+    ) -> Result<MemWire, WrongNumbers>
+        ensures ok { IfOk result (λ w. w ≡ script_of events.items takes.items fail_listen fail_next) }
+        ensures err { IsErr result ↔ (are_numbered 0 events.items ≡ false) }
+    {
+        if !are_in_order(events.as_slice()) {
+            return Err(WrongNumbers);
+        }
+        Ok(MemWire {
+            done: Vec::new(alloc),
+            listened: Vec::new(alloc),
+            dialled: Vec::new(alloc),
+            cast_to: Vec::new(alloc),
+            alloc,
+            events,
+            takes,
+            fail_listen,
+            fail_next,
+            listens: 0,
+            nexts: 0,
+            at: 0,
+            sends: 0,
+            links: 0,
+            stops: 0,
+            gones: 0,
+        })
+    }
+}
+
+impl Wire for MemWire {
+    ghost shown = { shown_by };
+
+    fn listen(&mut self, n: u16, spec: &ListenSpec) -> Result<(), WireError>
+        ensures listen { AfterListen (shown_by self.old) (shown_by self.new) n spec.now result }
+        ensures exact { IsErrOf result WireError.Failed ↔ (self.old.fail_listen ≡ Some self.old.listens) }
+    {
+        let calls = self.listens;
+        self.listens = calls.saturating_add(1);
+        if self.fail_listen == Some(calls) {
+            self.stops = self.stops.saturating_add(1);
+            return Err(WireError::Failed);
+        }
+        self.listened.push(*spec)?;
+        if self.done.push(Happening::Listen(n)).is_err() {
+            self.listened.pop();
+            return Err(WireError::Memory);
+        }
+        Ok(())
+    }
+
+    fn next(&mut self) -> Result<Event, WireError>
+        ensures next { AfterNext (shown_by self.old) (shown_by self.new) result }
+        ensures exact { IsErrOf result WireError.Failed ↔ (self.old.fail_next ≡ Some self.old.nexts) }
+        ensures order { IfOk result (λ e. e ∷ self.new.left ≡ next_events self.old.left) }
+    {
+        let calls = self.nexts;
+        self.nexts = calls.saturating_add(1);
+        if self.fail_next == Some(calls) {
+            self.stops = self.stops.saturating_add(1);
+            return Err(WireError::Failed);
+        }
+        let Some(event) = self.events.get(self.at) else {
+            self.done.push(Happening::Event(Event::Stop))?;
+            return Ok(Event::Stop);
+        };
+        let event = copy_event(event);
+        self.done.push(Happening::Event(copy_event(&event)))?;
+        self.at += 1;
+        if let Some(link) = new_link_of(&event) {
+            self.links = link;
+        }
+        Ok(event)
+    }
+
+    fn send(&mut self, link: u32, bytes: &[u8]) -> Result<Sent, Memory>
+        ensures send { AfterSend (shown_by self.old) (shown_by self.new) link bytes.now result }
+        ensures exact { IfOk result (λ s. s ≡ outcome_of self.old.takes bytes.now) }
+    {
+        let sent = match self.takes.get(self.sends) {
+            None | Some(Take::All) => Sent::Took(bytes.len()),
+            Some(Take::Most(most)) => Sent::Took(bytes.len().min(*most)),
+            Some(Take::Gone) => Sent::Gone,
+        };
+        let copy = Text::copied(self.alloc, bytes)?;
+        self.done.push(Happening::Sent(link, copy, sent))?;
+        self.sends = self.sends.saturating_add(1);
+        if sent == Sent::Gone {
+            self.gones = self.gones.saturating_add(1);
+        }
+        Ok(sent)
+    }
+
+    fn close(&mut self, link: u32) -> Result<(), Memory> {
+        self.done.push(Happening::Closed(link))?;
+        Ok(())
+    }
+
+    fn dial(&mut self, uplink: u16, spec: &UplinkSpec) -> Result<(), Memory> {
+        self.dialled.push(copy_uplink(spec))?;
+        if self.done.push(Happening::Dialled(uplink)).is_err() {
+            self.dialled.pop();
+            return Err(Memory);
+        }
+        Ok(())
+    }
+
+    fn cast(&mut self, peer: u16, to: Addr, bytes: &[u8]) -> Result<(), Memory> {
+        let copy = Text::copied(self.alloc, bytes)?;
+        self.cast_to.push(to)?;
+        if self.done.push(Happening::Cast(peer, copy)).is_err() {
+            self.cast_to.pop();
+            return Err(Memory);
+        }
+        Ok(())
+    }
+}

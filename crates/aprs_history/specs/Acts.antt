@@ -1,0 +1,85 @@
+-- The acts that are due, and the histories that are runs: each happening is the first act due, or an event where none is.
+use Rattle.std.specs.Prelude.{◌≡◌, ℕ, ◌+◌, ◌&&◌, Bool, true, false, not, nat_lt, List, [], ◌∷◌, ◌++◌, length, take, map, filter, if◌then◌else◌, ⊤}
+use Rattle.aprs_base.specs.Outside.{IsOutcome}
+use Rattle.aprs_base.specs.declared.events.Event.{Event}
+use Rattle.aprs_base.specs.declared.events.Sent.{Sent}
+use Rattle.aprs_base.specs.declared.events.Happening.{Happening}
+use Rattle.aprs_base.specs.declared.events.Happening.TheVariants as did
+use Rattle.aprs_base.specs.declared.packets.ListenSpec.{ListenSpec}
+use Rattle.aprs_history.specs.Setting.{Setting}
+use Rattle.aprs_history.specs.Trace.{Trace, served_links, stopped_links}
+use Rattle.aprs_history.specs.Links.{is_blocked, taken_by}
+use Rattle.aprs_history.specs.Texts.{lines_of, text_bytes, untaken}
+use Rattle.aprs_history.specs.History.{History, open_events, ends_round, is_stopped, trace_of}
+
+pub data Act : Type 0 where
+  Listens : (n : ℕ) → Act
+  Offers : (link : ℕ) → (bytes : List ℕ) → Act
+  Closes : (link : ℕ) → Act
+
+-- the numbered listeners, in order
+abbrev pub listens_from : ℕ → List ListenSpec → List Act
+listens_from n [] = []
+listens_from n (spec ∷ specs) = Listens n ∷ listens_from (n + 1) specs
+
+-- a link that isn't blocked and has text that it hasn't taken
+abbrev pub is_offered : Setting → Trace → ℕ → Bool
+is_offered setting trace link = not (is_blocked trace link) && nat_lt (taken_by trace link) (length (text_bytes (lines_of setting trace link)))
+
+abbrev pub offered_links : Setting → Trace → List ℕ
+offered_links setting trace = filter (is_offered setting trace) (served_links trace)
+
+-- its next bytes, up to 65,536
+abbrev pub offer_to : Setting → Trace → ℕ → Act
+offer_to setting trace link = Offers link (take 65536 (untaken setting trace link))
+
+-- after a round: an offer to each such link, and then a close of each that the server ended, in order
+abbrev pub acts_after : Setting → Trace → List Act
+acts_after setting trace = map (offer_to setting trace) (offered_links setting trace) ++ map Closes (stopped_links trace)
+
+abbrev pub but_first : List Act → List Act
+but_first [] = []
+but_first (act ∷ acts) = acts
+
+-- the acts that are due
+unfoldable pub due : Setting → History → List Act
+due setting [] = listens_from 0 setting.listens
+due setting (did.Event e ∷ earlier) =
+    if ends_round (open_events earlier) e then acts_after setting (trace_of setting (did.Event e ∷ earlier)) else []
+due setting (did.Sent link bytes outcome ∷ earlier) = but_first (due setting earlier)
+due setting (did.Listen n ∷ earlier) = but_first (due setting earlier)
+due setting (did.Closed link ∷ earlier) = but_first (due setting earlier)
+due setting (did.Dialled uplink ∷ earlier) = but_first (due setting earlier)
+due setting (did.Cast peer bytes ∷ earlier) = but_first (due setting earlier)
+
+-- a happening may come next: it is the first act due, or none is due, Stop hasn't come, and it is an event
+abbrev pub MayCome : List Act → Bool → Happening → Type 0
+MayCome [] stopped (did.Event e) = stopped ≡ false
+MayCome [] stopped (did.Listen n) = ⊥
+MayCome [] stopped (did.Sent link bytes outcome) = ⊥
+MayCome [] stopped (did.Closed link) = ⊥
+MayCome [] stopped (did.Dialled uplink) = ⊥
+MayCome [] stopped (did.Cast peer bytes) = ⊥
+MayCome (Listens n ∷ acts) stopped (did.Listen m) = m ≡ n
+MayCome (Listens n ∷ acts) stopped (did.Event e) = ⊥
+MayCome (Listens n ∷ acts) stopped (did.Sent link bytes outcome) = ⊥
+MayCome (Listens n ∷ acts) stopped (did.Closed link) = ⊥
+MayCome (Listens n ∷ acts) stopped (did.Dialled uplink) = ⊥
+MayCome (Listens n ∷ acts) stopped (did.Cast peer bytes) = ⊥
+MayCome (Offers link bytes ∷ acts) stopped (did.Sent to given outcome) = (to ≡ link) × (given ≡ bytes) × IsOutcome given outcome
+MayCome (Offers link bytes ∷ acts) stopped (did.Event e) = ⊥
+MayCome (Offers link bytes ∷ acts) stopped (did.Listen n) = ⊥
+MayCome (Offers link bytes ∷ acts) stopped (did.Closed other) = ⊥
+MayCome (Offers link bytes ∷ acts) stopped (did.Dialled uplink) = ⊥
+MayCome (Offers link bytes ∷ acts) stopped (did.Cast peer sent) = ⊥
+MayCome (Closes link ∷ acts) stopped (did.Closed closed) = closed ≡ link
+MayCome (Closes link ∷ acts) stopped (did.Event e) = ⊥
+MayCome (Closes link ∷ acts) stopped (did.Listen n) = ⊥
+MayCome (Closes link ∷ acts) stopped (did.Sent to given outcome) = ⊥
+MayCome (Closes link ∷ acts) stopped (did.Dialled uplink) = ⊥
+MayCome (Closes link ∷ acts) stopped (did.Cast peer bytes) = ⊥
+
+-- a run of the server
+abbrev pub IsRun : Setting → History → Type 0
+IsRun setting [] = ⊤
+IsRun setting (x ∷ earlier) = IsRun setting earlier × MayCome (due setting earlier) (is_stopped earlier) x

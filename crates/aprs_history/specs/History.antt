@@ -1,0 +1,116 @@
+-- Histories: what happened on a wire, the newest first; their rounds, and their traces.
+use Rattle.std.specs.Prelude.{ℕ, ◌==◌, ◌+◌, ◌||◌, Bool, true, false, max, List, [], ◌∷◌, ◌++◌, length, Option, Some, None, if◌then◌else◌}
+use Rattle.aprs_base.specs.Cuts.{cuts_by}
+use Rattle.aprs_base.specs.Outside.{new_link}
+use Rattle.aprs_base.specs.declared.cutting.Cut.{Cut}
+use Rattle.aprs_base.specs.declared.events.Event.{Event}
+use Rattle.aprs_base.specs.declared.events.Event.TheVariants as event
+use Rattle.aprs_base.specs.declared.events.Sent.{Sent}
+use Rattle.aprs_base.specs.declared.events.Sent.TheVariants as sent
+use Rattle.aprs_base.specs.declared.events.Happening.{Happening}
+use Rattle.aprs_base.specs.declared.events.Happening.TheVariants as did
+use Rattle.aprs_history.specs.Setting.{Setting, kind_at}
+use Rattle.aprs_history.specs.Verdicts.{verdict_of}
+use Rattle.aprs_history.specs.Trace.{Trace, Entry, EndReason, ByPeer, FoundGone, ByStop, Ticked, Opened, Brought, Said, Roomed, Took, Lost, Ended, live_links, is_live}
+use Rattle.aprs_history.specs.Links.{brought_by, session_of, gone_links}
+
+abbrev pub History : Type 0
+History = List Happening
+
+-- the same in the order in which it happened
+abbrev pub in_order : History → List Happening
+in_order [] = []
+in_order (x ∷ earlier) = in_order earlier ++ x ∷ []
+
+abbrev pub is_round_event : Event → Bool
+is_round_event (event.Tick moment) = true
+is_round_event event.Stop = true
+is_round_event (event.Opened listener link from) = false
+is_round_event (event.Joined uplink link at) = false
+is_round_event (event.Unjoined uplink) = false
+is_round_event (event.Bytes link bytes) = false
+is_round_event (event.Ended link) = false
+is_round_event (event.Room link) = false
+is_round_event (event.Datagram listener from bytes) = false
+
+-- whether an event ends its round, after so many in it: a Tick, a Stop, or the 512th
+abbrev pub ends_round : ℕ → Event → Bool
+ends_round before e = is_round_event e || before == 511
+
+-- how many events have come in the round that goes on
+abbrev pub open_events : History → ℕ
+open_events [] = 0
+open_events (did.Event e ∷ earlier) = if ends_round (open_events earlier) e then 0 else open_events earlier + 1
+open_events (x ∷ earlier) = open_events earlier
+
+abbrev pub is_stop : Event → Bool
+is_stop event.Stop = true
+is_stop (event.Tick moment) = false
+is_stop (event.Opened listener link from) = false
+is_stop (event.Joined uplink link at) = false
+is_stop (event.Unjoined uplink) = false
+is_stop (event.Bytes link bytes) = false
+is_stop (event.Ended link) = false
+is_stop (event.Room link) = false
+is_stop (event.Datagram listener from bytes) = false
+
+-- whether Stop has come
+abbrev pub is_stopped : History → Bool
+is_stopped [] = false
+is_stopped (did.Event e ∷ earlier) = is_stop e || is_stopped earlier
+is_stopped (x ∷ earlier) = is_stopped earlier
+
+abbrev pub greater_link : Option ℕ → ℕ → ℕ
+greater_link None link = link
+greater_link (Some new) link = max new link
+
+-- the greatest number of a link that an event brought
+abbrev pub greatest_link : History → ℕ
+greatest_link [] = 0
+greatest_link (did.Event e ∷ earlier) = greater_link (new_link e) (greatest_link earlier)
+greatest_link (x ∷ earlier) = greatest_link earlier
+
+-- these links end, one after another
+abbrev pub end_all : EndReason → List ℕ → Trace → Trace
+end_all reason [] trace = trace
+end_all reason (link ∷ links) trace = end_all reason links (Ended link reason ∷ trace)
+
+-- a link says these lines, one after another; each is judged by what came before it
+abbrev pub say_all : Setting → ℕ → List Cut → Trace → Trace
+say_all setting link [] trace = trace
+say_all setting link (cut ∷ cuts) trace = say_all setting link cuts (Said link cut (verdict_of setting.server (session_of trace link) cut) ∷ trace)
+
+-- what begins a round: the links that were found gone end
+abbrev pub begin_round : Trace → Trace
+begin_round trace = end_all FoundGone (gone_links trace) trace
+
+abbrev pub bring : Setting → ℕ → List ℕ → Trace → Trace
+bring setting link bytes trace = say_all setting link (cuts_by (brought_by trace link) bytes) (Brought link bytes ∷ trace)
+
+-- what an event adds; one that names a link that doesn't live adds nothing
+abbrev pub with_event : Setting → Event → Trace → Trace
+with_event setting (event.Tick moment) trace = Ticked moment ∷ trace
+with_event setting (event.Opened listener link from) trace = Opened (kind_at setting listener) link from ∷ trace
+with_event setting (event.Bytes link bytes) trace = if is_live trace link then bring setting link bytes trace else trace
+with_event setting (event.Ended link) trace = if is_live trace link then Ended link ByPeer ∷ trace else trace
+with_event setting (event.Room link) trace = if is_live trace link then Roomed link ∷ trace else trace
+with_event setting event.Stop trace = end_all ByStop (live_links trace) trace
+with_event setting (event.Joined uplink link at) trace = trace
+with_event setting (event.Unjoined uplink) trace = trace
+with_event setting (event.Datagram listener from bytes) trace = trace
+
+abbrev pub begun : ℕ → Trace → Trace
+begun before trace = if before == 0 then begin_round trace else trace
+
+abbrev pub sent_entry : ℕ → List ℕ → Sent → Entry
+sent_entry link bytes (sent.Took n) = Took link (length bytes) n
+sent_entry link bytes sent.Gone = Lost link
+
+unfoldable pub trace_of : Setting → History → Trace
+trace_of setting [] = []
+trace_of setting (did.Event e ∷ earlier) = with_event setting e (begun (open_events earlier) (trace_of setting earlier))
+trace_of setting (did.Sent link bytes outcome ∷ earlier) = sent_entry link bytes outcome ∷ trace_of setting earlier
+trace_of setting (did.Listen n ∷ earlier) = trace_of setting earlier
+trace_of setting (did.Closed link ∷ earlier) = trace_of setting earlier
+trace_of setting (did.Dialled uplink ∷ earlier) = trace_of setting earlier
+trace_of setting (did.Cast peer bytes ∷ earlier) = trace_of setting earlier

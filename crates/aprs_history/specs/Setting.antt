@@ -1,0 +1,26 @@
+-- What a history is judged by: the server's call, and its numbered listeners.
+use Rattle.std.specs.Prelude.{ℕ, List, Option, Some, None, slice_get}
+use Rattle.aprs_base.specs.declared.packets.ListenSpec.{ListenSpec}
+use Rattle.aprs_base.specs.declared.packets.PortKind.{PortKind}
+use Rattle.aprs_base.specs.declared.packets.PortKind.TheVariants as kind
+
+pub record Setting : Type 0 where
+  pub server : List ℕ
+  pub listens : List ListenSpec
+
+-- the kinds of port to which clients connect; datagrams come to the others
+abbrev pub client_kind : PortKind → Option PortKind
+client_kind kind.Full = Some kind.Full
+client_kind kind.Igate = Some kind.Igate
+client_kind kind.Only = Some kind.Only
+client_kind kind.Dupe = Some kind.Dupe
+client_kind kind.Submit = None
+client_kind kind.Core = None
+
+abbrev pub kind_of_spec : Option ListenSpec → Option PortKind
+kind_of_spec None = None
+kind_of_spec (Some spec) = client_kind spec.kind
+
+-- what the listener of that number serves to clients
+abbrev pub kind_at : Setting → ℕ → Option PortKind
+kind_at setting listener = kind_of_spec (slice_get setting.listens listener)

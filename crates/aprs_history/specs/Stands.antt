@@ -1,0 +1,58 @@
+-- What it is that a core stands for a history.
+use Rattle.std.specs.Prelude.{◌≡◌, ℕ, ◌≤◌, Bool, List, length, map, Option}
+use Rattle.aprs_base.specs.Held.{Held, held_after}
+use Rattle.aprs_history.specs.Setting.{Setting}
+use Rattle.aprs_history.specs.Verdicts.{Session}
+use Rattle.aprs_history.specs.Trace.{Trace, moment_of, served_links}
+use Rattle.aprs_history.specs.Links.{Opening, opening_of, last_heard, brought_by, session_of, taken_by, is_blocked, is_gone}
+use Rattle.aprs_history.specs.Texts.{Queued, queued, lines_of, text_bytes}
+use Rattle.aprs_history.specs.History.{History, open_events, is_stopped, greatest_link, trace_of}
+
+-- what a core keeps of a link
+pub record LinkSeen : Type 0 where
+  pub link : ℕ
+  pub opening : Option Opening
+  pub last : ℕ
+  pub held : Held
+  pub session : Option Session
+  pub queue : Queued
+  pub blocked : Bool
+  pub gone : Bool
+
+-- what a core keeps
+pub record CoreSeen : Type 0 where
+  pub moment : ℕ
+  pub links : List LinkSeen
+  pub greatest : ℕ
+  pub stopped : Bool
+
+-- what there is to keep of a link: its opening, its last bytes' moment, the rest of its bytes, its login,
+-- the lines that it hasn't wholly taken, and whether it is blocked or was found gone
+unfoldable pub link_seen : Setting → Trace → ℕ → LinkSeen
+link_seen setting trace link = record {
+  link = link;
+  opening = opening_of trace link;
+  last = last_heard trace link;
+  held = held_after (brought_by trace link);
+  session = session_of trace link;
+  queue = queued (lines_of setting trace link) (taken_by trace link);
+  blocked = is_blocked trace link;
+  gone = is_gone trace link;
+}
+
+-- no link took more than its text
+abbrev pub TookNoMore : Setting → Trace → Type 0
+TookNoMore setting trace = (link : ℕ) → taken_by trace link ≤ length (text_bytes (lines_of setting trace link))
+
+-- the points of a core that hold after each entry of a trace
+pub record Follows (setting : Setting) (core : CoreSeen) (trace : Trace) : Type 0 where
+  pub moment : core.moment ≡ moment_of trace
+  pub links : core.links ≡ map (link_seen setting trace) (served_links trace)
+  pub took : TookNoMore setting trace
+
+-- a core stands for a history whose rounds are finished
+pub record StandsFor (setting : Setting) (core : CoreSeen) (history : History) : Type 0 where
+  pub finished : open_events history ≡ 0
+  pub follows : Follows setting core (trace_of setting history)
+  pub greatest : core.greatest ≡ greatest_link history
+  pub stopped : core.stopped ≡ is_stopped history

@@ -1,0 +1,76 @@
+-- The text that each link is to take, line by line, and what of it is still to be taken.
+use Rattle.std.specs.Prelude.{ℕ, ◌==◌, ◌+◌, ◌-◌, ◌&&◌, Bool, true, false, not, nat_le, is_some, List, [], ◌∷◌, ◌++◌, length, drop, codes, Option, Some, None, if◌then◌else◌}
+use Rattle.std.specs.List.{flat_map}
+use Rattle.aprs_base.specs.declared.packets.PortKind.{PortKind}
+use Rattle.aprs_base.specs.declared.packets.PortKind.TheVariants as kind
+use Rattle.tnc2_line.specs.Packet.{text_of}
+use Rattle.aprs_history.specs.Setting.{Setting}
+use Rattle.aprs_history.specs.Verdicts.{Verdict, Session, PassedOver, Refused, LoggedIn, Accepted}
+use Rattle.aprs_history.specs.Trace.{Trace, Entry, Ticked, Opened, Brought, Said, Roomed, Took, Lost, Ended, is_live}
+use Rattle.aprs_history.specs.Links.{Opening, opening_of, session_of, taken_by}
+
+-- a line with its end, and lines one after another
+abbrev pub ended_line : List ℕ → List ℕ
+ended_line line = line ++ 13 ∷ 10 ∷ []
+
+abbrev pub text_bytes : List (List ℕ) → List ℕ
+text_bytes lines = flat_map ended_line lines
+
+abbrev pub banner : List ℕ
+banner = codes "# aprsc 1.0"
+
+abbrev pub verified_word : Bool → List ℕ
+verified_word true = codes " verified, server "
+verified_word false = codes " unverified, server "
+
+-- the reply to a login
+abbrev pub login_reply : List ℕ → Session → List ℕ
+login_reply server session = codes "# logresp " ++ (session.call ++ (verified_word session.verified ++ server))
+
+abbrev pub banner_of : Option PortKind → List (List ℕ)
+banner_of None = []
+banner_of (Some kind) = banner ∷ []
+
+-- what a port of each kind sends of the accepted packets of others
+abbrev pub kind_wants : Option Opening → Bool
+kind_wants None = false
+kind_wants (Some opening) = full opening.kind
+  where
+  full : PortKind → Bool
+  full kind.Full = true
+  full kind.Igate = false
+  full kind.Only = false
+  full kind.Dupe = false
+  full kind.Submit = false
+  full kind.Core = false
+
+-- whether a link is sent an accepted packet: it lives, has logged in, isn't the one that it came from, and its port's kind wants it
+abbrev pub wants : Trace → ℕ → ℕ → Bool
+wants trace from link = not (from == link) && is_live trace link && is_some (session_of trace link) && kind_wants (opening_of trace link)
+
+-- what a verdict on a line of one link adds to the text of another or of the same
+abbrev pub added_by : Setting → Trace → ℕ → Verdict → ℕ → List (List ℕ)
+added_by setting earlier from PassedOver link = []
+added_by setting earlier from (Refused refusal) link = []
+added_by setting earlier from (LoggedIn session) link = if from == link then login_reply setting.server session ∷ [] else []
+added_by setting earlier from (Accepted parts) link = if wants earlier from link then text_of parts ∷ [] else []
+
+-- the lines of a link's text, in order, from its opening on
+abbrev pub lines_of : Setting → Trace → ℕ → List (List ℕ)
+lines_of setting [] link = []
+lines_of setting (Opened serves opened from ∷ earlier) link = if opened == link then banner_of serves else lines_of setting earlier link
+lines_of setting (Said from cut verdict ∷ earlier) link = lines_of setting earlier link ++ added_by setting earlier from verdict link
+lines_of setting (entry ∷ earlier) link = lines_of setting earlier link
+
+-- the bytes of the text that the link has not taken yet
+abbrev pub untaken : Setting → Trace → ℕ → List ℕ
+untaken setting trace link = drop (taken_by trace link) (text_bytes (lines_of setting trace link))
+
+-- lines of which some bytes are taken: those that are not wholly taken, and how much of the first is
+pub record Queued : Type 0 where
+  pub lines : List (List ℕ)
+  pub offset : ℕ
+
+abbrev pub queued : List (List ℕ) → ℕ → Queued
+queued [] taken = record { lines = []; offset = taken }
+queued (line ∷ lines) taken = if nat_le (length line + 2) taken then queued lines (taken - (length line + 2)) else record { lines = line ∷ lines; offset = taken }

@@ -1,0 +1,2 @@
+//! The definitions of histories: rounds, verdicts, texts, ends, acts due, runs, and what it is that a core stands for a history.
+#![tactic(auto)]

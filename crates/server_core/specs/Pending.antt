@@ -1,0 +1,22 @@
+-- The bytes that a queue still has to give.
+use Rattle.std.specs.Prelude.{ℕ, ◌+◌, ◌≤◌, ◌<◌, ◌≡◌, List, [], ◌∷◌, ◌++◌, length, drop}
+use Rattle.aprs_history.specs.Texts.{Queued, ended_line, text_bytes, queued}
+
+-- what is left of the first line, and the lines after it
+abbrev pub pending_bytes : Queued → List ℕ
+pending_bytes queue = drop queue.offset (text_bytes queue.lines)
+
+abbrev pub with_line : Queued → List ℕ → Queued
+with_line queue line = record { lines = queue.lines ++ line ∷ []; offset = queue.offset }
+
+-- some of the bytes less
+abbrev pub without_bytes : Queued → ℕ → Queued
+without_bytes queue n = queued queue.lines (queue.offset + n)
+
+-- the first line is begun at most
+abbrev pub IsBegun : Queued → Type 0
+IsBegun queue = begun queue.lines queue.offset
+  where
+  begun : List (List ℕ) → ℕ → Type 0
+  begun [] offset = offset ≡ 0
+  begun (line ∷ lines) offset = offset < length line + 2
