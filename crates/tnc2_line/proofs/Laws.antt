@@ -272,10 +272,13 @@ parts_give line parts inner h =
     let a = bind_ok (ok_or (cut_at is_colon line) fault.NoColon) with_line parts h in
     let b = bind_ok (head_of a.0.0) (with_head a.0.1) parts a.2 in
     let c = bind_ok (checked_body a.0.1) (with_body b.0) parts b.2 in
-    subst (λ p. IsPacket line p) (same_parts _ _ c.2) (parts_from line a.0 b.0 c.0 inner (ok_or_ok (cut_at is_colon line) fault.NoColon a.0 a.1) b.1 c.1)
+    carried b.0 c.0 c.2 (parts_from line a.0 b.0 c.0 inner (ok_or_ok (cut_at is_colon line) fault.NoColon a.0 a.1) b.1 c.1)
   where
-    same_parts : (p q : Parts) → ◌≡◌ {A = Result Parts LineFault} (Ok p) (Ok q) → p ≡ q
-    same_parts p q e = cc
+    carried : (head : Head) (body : List ℕ) → with_body head body ≡ Ok parts
+        → IsPacket line (record { source = head.0; dest = head.1; vias = record { items = head.2 }; body = record { items = body } }) → IsPacket line parts
+    carried head body e packet =
+        let same : record { source = head.0; dest = head.1; vias = record { items = head.2 }; body = record { items = body } } ≡ parts = cc in
+        subst (λ q. IsPacket line q) same packet
 
 -- a line has one reading, and parts have one line
 pub packet_reads : (line : List ℕ) (parts : Parts) → IsPacket line parts → parts_of line ≡ Ok parts
