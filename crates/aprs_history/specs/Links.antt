@@ -2,7 +2,9 @@
 use Rattle.std.specs.Prelude.{ℕ, ◌==◌, ◌+◌, Bool, true, false, nat_lt, List, [], ◌∷◌, ◌++◌, Option, Some, None, filter, if◌then◌else◌}
 use Rattle.aprs_base.specs.declared.packets.PortKind.{PortKind}
 use Rattle.aprs_base.specs.declared.texts.Addr.{Addr}
-use Rattle.aprs_history.specs.Verdicts.{Verdict, Session, PassedOver, Refused, LoggedIn, Accepted}
+use Rattle.aprs_history.specs.declared.verdicts.Session.{Session}
+use Rattle.aprs_history.specs.declared.verdicts.Verdict.{Verdict}
+use Rattle.aprs_history.specs.declared.verdicts.Verdict.TheVariants.{PassedOver, Refused, LoggedIn, Accepted}
 use Rattle.aprs_history.specs.Trace.{Trace, Entry, Ticked, Opened, Brought, Said, Roomed, Took, Lost, Ended, moment_of, live_links}
 
 -- a link's opening: what it serves, where it came from, and when
@@ -38,7 +40,7 @@ abbrev pub session_after : Verdict → Option Session → Option Session
 session_after (LoggedIn session) before = Some session
 session_after PassedOver before = before
 session_after (Refused refusal) before = before
-session_after (Accepted parts) before = before
+session_after (Accepted parts line) before = before
 
 -- the last accepted login
 abbrev pub session_of : Trace → ℕ → Option Session

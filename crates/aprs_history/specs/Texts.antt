@@ -3,9 +3,10 @@ use Rattle.std.specs.Prelude.{ℕ, ◌==◌, ◌+◌, ◌-◌, ◌&&◌, Bool, t
 use Rattle.std.specs.List.{flat_map}
 use Rattle.aprs_base.specs.declared.packets.PortKind.{PortKind}
 use Rattle.aprs_base.specs.declared.packets.PortKind.TheVariants as kind
-use Rattle.tnc2_line.specs.Packet.{text_of}
 use Rattle.aprs_history.specs.Setting.{Setting}
-use Rattle.aprs_history.specs.Verdicts.{Verdict, Session, PassedOver, Refused, LoggedIn, Accepted}
+use Rattle.aprs_history.specs.declared.verdicts.Session.{Session}
+use Rattle.aprs_history.specs.declared.verdicts.Verdict.{Verdict}
+use Rattle.aprs_history.specs.declared.verdicts.Verdict.TheVariants.{PassedOver, Refused, LoggedIn, Accepted}
 use Rattle.aprs_history.specs.Trace.{Trace, Entry, Ticked, Opened, Brought, Said, Roomed, Took, Lost, Ended, is_live}
 use Rattle.aprs_history.specs.Links.{Opening, opening_of, session_of, taken_by}
 
@@ -53,7 +54,7 @@ abbrev pub added_by : Setting → Trace → ℕ → Verdict → ℕ → List (Li
 added_by setting earlier from PassedOver link = []
 added_by setting earlier from (Refused refusal) link = []
 added_by setting earlier from (LoggedIn session) link = if from == link then login_reply setting.server session ∷ [] else []
-added_by setting earlier from (Accepted parts) link = if wants earlier from link then text_of parts ∷ [] else []
+added_by setting earlier from (Accepted parts line) link = if wants earlier from link then line ∷ [] else []
 
 -- the lines of a link's text, in order, from its opening on
 abbrev pub lines_of : Setting → Trace → ℕ → List (List ℕ)

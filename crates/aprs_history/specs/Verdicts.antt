@@ -11,23 +11,11 @@ use Rattle.tnc2_line.specs.declared.reading.LineFault.{LineFault}
 use Rattle.login_pass.specs.Login.{login_of, is_verified}
 use Rattle.login_pass.specs.declared.login_line.Login.{Login}
 use Rattle.login_pass.specs.declared.login_line.LoginFault.{LoginFault}
-
--- who a link has logged in as
-pub record Session : Type 0 where
-  pub call : List ℕ
-  pub verified : Bool
-
-pub data Refusal : Type 0 where
-  Long : Refusal
-  NotBuilt : Refusal
-  TooLong : Refusal
-
-pub data Verdict : Type 0 where
-  PassedOver : Verdict
-  Refused : Refusal → Verdict
-  LoggedIn : Session → Verdict
-  -- the packet as it is sent on
-  Accepted : Parts → Verdict
+use Rattle.aprs_history.specs.declared.verdicts.Session.{Session}
+use Rattle.aprs_history.specs.declared.verdicts.Refusal.{Refusal}
+use Rattle.aprs_history.specs.declared.verdicts.Refusal.TheVariants.{Long, NotBuilt, TooLong}
+use Rattle.aprs_history.specs.declared.verdicts.Verdict.{Verdict}
+use Rattle.aprs_history.specs.declared.verdicts.Verdict.TheVariants.{PassedOver, Refused, LoggedIn, Accepted}
 
 abbrev pub is_text : List ℕ → List ℕ → Bool
 is_text a b = pointwise ◌==◌ a b
@@ -72,7 +60,7 @@ with_client_path server parts = record parts { vias = record { items = client_pa
 
 -- sent on, where its line has 510 bytes at most
 abbrev pub fitting : Parts → Verdict
-fitting parts = if nat_lt 510 (length (text_of parts)) then Refused TooLong else Accepted parts
+fitting parts = if nat_lt 510 (length (text_of parts)) then Refused TooLong else Accepted parts (text_of parts)
 
 abbrev pub packet_verdict : List ℕ → List ℕ → Result Parts LineFault → Verdict
 packet_verdict server login (Err fault) = Refused NotBuilt

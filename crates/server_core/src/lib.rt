@@ -1,4 +1,9 @@
 //! The core of the server: sessions, rounds and acts, with no socket and no clock.
 #![tactic(auto)]
 
+mod conf;
+mod link;
+mod links;
 mod queue;
+
+pub use conf::Conf;

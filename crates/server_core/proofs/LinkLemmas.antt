@@ -1,0 +1,81 @@
+-- A step at the link of one number, among links whose numbers rise.
+use Rattle.std.proofs.Common.{◌≡◌, ℕ, zero, suc, ◌+◌, ◌≤◌, ◌<◌, ◌^◌, Bool, true, false, List, [], ◌∷◌, length, get_or, map, refl, sym, ap, ◌∙◌, subst, arith, eq-eqb, Option, Some, None, slice_set, ⊎_elim, cond, nat_lt, ◌||◌}
+use Rattle.std.specs.List.{position, position_or_len, list_any}
+use Rattle.std.proofs.lemmas.Bool.{ltb-true, ltb-false, cases_Bool, false_from_ne_true, eqb-true, true≢false}
+use Rattle.std.proofs.lemmas.List.Sums.{passes_at_first, fails_before_first}
+use Rattle.std.proofs.lemmas.List.Folds.{list_any_none}
+use Rattle.aprs_history.specs.Stands.{LinkSeen}
+use Rattle.server_core.specs.LinkSteps.{Rises, at_link, has_that, has_number, number_of, numbers}
+
+-- numbers that differ
+pub not_that : (number : ℕ) (link : LinkSeen) → (link.link ≡ number → ⊥) → has_that number link ≡ false
+not_that number link ne = false_from_ne_true _ (λ is. ne (eqb-true link.link number is))
+
+pub is_that : (number : ℕ) (link : LinkSeen) → link.link ≡ number → has_that number link ≡ true
+is_that number link is = eq-eqb link.link number is
+
+above : (low high : ℕ) (links : List LinkSeen) (place : ℕ) (d : LinkSeen) → Rises low (numbers links) high → place < length links → low < (get_or links place d).link
+above low high [] place d rises lt = absurd (omega arith)
+above low high (x ∷ links) zero d rises lt = rises.0
+above low high (x ∷ links) (suc place) d rises lt = let later = above x.link high links place d rises.1 (omega arith) in let first = rises.0 in omega arith
+
+module _ (number : ℕ) (step : LinkSeen → LinkSeen) where
+  -- links above a number are not it
+  pub others_above : (low high : ℕ) (links : List LinkSeen) → Rises low (numbers links) high → number ≤ low → map (at_link number step) links ≡ links
+  others_above low high [] rises le = refl
+  others_above low high (x ∷ links) rises le =
+      let first = rises.0 in
+      let other : has_that number x ≡ false = not_that number x (λ is. omega arith) in
+      rw other (ap (λ xs. x ∷ xs) (others_above x.link high links rises.1 (omega arith)))
+
+  pub changed_at : (low high : ℕ) (links : List LinkSeen) (place : ℕ) (link : LinkSeen) → Rises low (numbers links) high → place < length links
+      → link ≡ get_or links place link → link.link ≡ number → slice_set links place (step link) ≡ map (at_link number step) links
+  changed_at low high [] place link rises lt at is = absurd (omega arith)
+  changed_at low high (x ∷ links) zero link rises lt at is =
+      let here : has_that number x ≡ true = is_that number x (ap (λ (l : LinkSeen). l.link) (sym at) ∙ is) in
+      let le : number ≤ x.link = omega (arith, ap (λ (l : LinkSeen). l.link) (sym at) ∙ is) in
+      rw (here, others_above x.link high links rises.1 le) (ap (λ l. step l ∷ links) at)
+  changed_at low high (x ∷ links) (suc place) link rises lt at is =
+      let later : x.link < link.link = subst (λ (l : LinkSeen). x.link < l.link) (sym at) (above x.link high links place link rises.1 (omega arith)) in
+      let other : has_that number x ≡ false = not_that number x (λ eq. omega arith) in
+      rw other (ap (λ xs. x ∷ xs) (changed_at x.link high links place link rises.1 (omega arith) at is))
+
+  pub changed_none : (links : List LinkSeen) → has_number number links ≡ false → map (at_link number step) links ≡ links
+  changed_none [] none = refl
+  changed_none (x ∷ links) none =
+      ⊎_elim
+      (λ here. absurd (true≢false (sym (ap (λ b. b || has_number number links) here) ∙ none)))
+      (λ other. rw other (ap (λ xs. x ∷ xs) (changed_none links (rw other at none))))
+      (cases_Bool (has_that number x))
+
+-- what a search for a place answers
+module _ {X : Type 0} (test : X → Bool) where
+  pub position_some : (xs : List X) (i : ℕ) → Some i ≡ position test xs → (i < length xs) × (position_or_len test xs ≡ i)
+  position_some xs i is =
+      ⊎_elim
+      (λ within. let same : Some i ≡ Some (position_or_len test xs) = rw within at is in (
+          let place : position_or_len test xs ≡ i = cc in (omega (arith, ltb-true (position_or_len test xs) (length xs) within), place)))
+      (λ past. let none : Some i ≡ None = rw past at is in absurd (cc))
+      (cases_Bool (nat_lt (position_or_len test xs) (length xs)))
+
+  pub position_none : (xs : List X) → None ≡ position test xs → list_any test xs ≡ false
+  position_none xs is =
+      ⊎_elim
+      (λ within. let some : None ≡ Some (position_or_len test xs) = rw within at is in absurd (cc))
+      (λ past. let all : length xs ≤ position_or_len test xs = ltb-false (position_or_len test xs) (length xs) past in
+        list_any_none test xs (λ k d lt. fails_before_first test xs k d (omega arith)))
+      (cases_Bool (nat_lt (position_or_len test xs) (length xs)))
+
+-- the link that a search found, as a step leaves it
+pub changed_by : (number : ℕ) (step : LinkSeen → LinkSeen) (high : ℕ) (links : List LinkSeen) (place : ℕ) (link new : LinkSeen)
+    → Rises 0 (numbers links) high → Some place ≡ position (has_that number) links → link ≡ get_or links place link → new ≡ step (get_or links place link)
+    → slice_set links place new ≡ map (at_link number step) links
+changed_by number step high links place link new rises found at is =
+    let place_is = position_some (has_that number) links place found in
+    let within : position_or_len (has_that number) links < length links = omega (arith, place_is.0, place_is.1) in
+    let passes : has_that number (get_or links (position_or_len (has_that number) links) link) ≡ true = passes_at_first (has_that number) links link within in
+    let same : link.link ≡ number = eqb-true link.link number (ap (has_that number) (at ∙ ap (λ n. get_or links n link) (sym place_is.1)) ∙ passes) in
+    ap (slice_set links place) (is ∙ ap step (sym at)) ∙ changed_at number step 0 high links place link rises place_is.0 at same
+
+pub changed_nowhere : (number : ℕ) (step : LinkSeen → LinkSeen) (links : List LinkSeen) → None ≡ position (has_that number) links → links ≡ map (at_link number step) links
+changed_nowhere number step links none = sym (changed_none number step links (position_none (has_that number) links none))

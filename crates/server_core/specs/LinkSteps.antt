@@ -1,0 +1,46 @@
+-- What each happening changes of a link.
+use Rattle.std.specs.Prelude.{ℕ, ◌+◌, ◌<◌, ◌==◌, ◌≤◌, Bool, true, false, nat_lt, List, [], ◌∷◌, map, Option, Some, if◌then◌else◌}
+use Rattle.std.specs.List.{list_any}
+use Rattle.aprs_base.specs.Held.{Held}
+use Rattle.aprs_history.specs.declared.verdicts.Session.{Session}
+use Rattle.aprs_history.specs.Stands.{LinkSeen}
+use Rattle.server_core.specs.Pending.{with_line, without_bytes}
+
+abbrev pub has_that : ℕ → LinkSeen → Bool
+has_that number link = link.link == number
+
+-- the link of that number as the step leaves it, and any other as it is
+abbrev pub at_link : ℕ → (LinkSeen → LinkSeen) → LinkSeen → LinkSeen
+at_link number step link = if has_that number link then step link else link
+
+abbrev pub with_room : LinkSeen → LinkSeen
+with_room link = record link { blocked = false }
+
+abbrev pub when_gone : LinkSeen → LinkSeen
+when_gone link = record link { gone = true }
+
+abbrev pub with_taken : ℕ → ℕ → LinkSeen → LinkSeen
+with_taken offered n link = record link { queue = without_bytes link.queue n; blocked = nat_lt n offered }
+
+abbrev pub with_bytes : ℕ → Held → LinkSeen → LinkSeen
+with_bytes moment held link = record link { last = moment; held = held }
+
+abbrev pub with_text : List ℕ → LinkSeen → LinkSeen
+with_text line link = record link { queue = with_line link.queue line }
+
+abbrev pub with_session : Session → List ℕ → LinkSeen → LinkSeen
+with_session session reply link = record link { session = Some session; queue = with_line link.queue reply }
+
+abbrev pub number_of : LinkSeen → ℕ
+number_of link = link.link
+
+abbrev pub numbers : List LinkSeen → List ℕ
+numbers links = map number_of links
+
+abbrev pub has_number : ℕ → List LinkSeen → Bool
+has_number number links = list_any (has_that number) links
+
+-- numbers that rise, the first above low and the last not above high
+abbrev pub Rises : ℕ → List ℕ → ℕ → Type 0
+Rises low [] high = low ≤ high
+Rises low (n ∷ ns) high = (low < n) × Rises n ns high
