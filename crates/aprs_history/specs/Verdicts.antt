@@ -1,5 +1,5 @@
 -- What becomes of a line: each line has one verdict (aprs-is.net, Connecting, and q Construct).
-use Rattle.std.specs.Prelude.{ℕ, ◌==◌, ◌&&◌, ◌||◌, Bool, true, false, not, nat_lt, is_none, List, [], ◌∷◌, ◌++◌, length, codes, Option, Some, None, Result, Ok, Err, if◌then◌else◌}
+use Rattle.std.specs.Prelude.{ℕ, ◌-◌, slice_get, ◌==◌, ◌&&◌, ◌||◌, Bool, true, false, not, nat_lt, is_none, List, [], ◌∷◌, ◌++◌, length, codes, Option, Some, None, Result, Ok, Err, if◌then◌else◌}
 use Rattle.std.specs.List.{list_any, starts_with}
 use Rattle.std.specs.Cmp.Lexicographic.{pointwise}
 use Rattle.aprs_base.specs.declared.packets.Parts.{Parts}
@@ -36,10 +36,12 @@ abbrev pub is_no_gate : Via → Bool
 is_no_gate via = is_text via.call (codes "NOGATE") || is_text via.call (codes "RFONLY") || is_text via.call (codes "TCPXX")
 
 -- the element `I` at the path's end
+abbrev pub is_element_i : Option Via → Bool
+is_element_i None = false
+is_element_i (Some via) = is_text via.call (codes "I") && not via.star
+
 abbrev pub ends_in_i : List Via → Bool
-ends_in_i [] = false
-ends_in_i (via ∷ []) = is_text via.call (codes "I") && not via.star
-ends_in_i (via ∷ next ∷ vias) = ends_in_i (next ∷ vias)
+ends_in_i vias = is_element_i (slice_get vias (length vias - 1))
 
 -- a third-party packet or a query
 abbrev pub is_not_for_others : List ℕ → Bool

@@ -2,6 +2,7 @@
 #![tactic(auto)]
 
 mod conf;
+mod judging;
 mod link;
 mod links;
 mod queue;
