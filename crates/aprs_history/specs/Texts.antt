@@ -33,17 +33,17 @@ banner_of None = []
 banner_of (Some kind) = banner ∷ []
 
 -- what a port of each kind sends of the accepted packets of others
+abbrev pub is_full_kind : PortKind → Bool
+is_full_kind kind.Full = true
+is_full_kind kind.Igate = false
+is_full_kind kind.Only = false
+is_full_kind kind.Dupe = false
+is_full_kind kind.Submit = false
+is_full_kind kind.Core = false
+
 abbrev pub kind_wants : Option Opening → Bool
 kind_wants None = false
-kind_wants (Some opening) = full opening.kind
-  where
-  full : PortKind → Bool
-  full kind.Full = true
-  full kind.Igate = false
-  full kind.Only = false
-  full kind.Dupe = false
-  full kind.Submit = false
-  full kind.Core = false
+kind_wants (Some opening) = is_full_kind opening.kind
 
 -- whether a link is sent an accepted packet: it lives, has logged in, isn't the one that it came from, and its port's kind wants it
 abbrev pub wants : Trace → ℕ → ℕ → Bool

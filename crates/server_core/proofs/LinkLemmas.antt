@@ -1,11 +1,12 @@
 -- A step at the link of one number, among links whose numbers rise.
-use Rattle.std.proofs.Common.{◌≡◌, ℕ, zero, suc, ◌+◌, ◌≤◌, ◌<◌, ◌^◌, Bool, true, false, List, [], ◌∷◌, length, get_or, map, refl, sym, ap, ◌∙◌, subst, arith, eq-eqb, Option, Some, None, slice_set, ⊎_elim, cond, nat_lt, ◌||◌}
+use Rattle.std.proofs.Common.{◌≡◌, ℕ, zero, suc, ◌+◌, ◌≤◌, ◌<◌, ◌^◌, Bool, true, false, List, [], ◌∷◌, length, get_or, map, refl, sym, ap, ◌∙◌, subst, arith, eq-eqb, Option, Some, None, slice_set, ⊎_elim, cond, nat_lt, ◌||◌, ◌++◌, take, drop, add-one}
 use Rattle.std.specs.List.{position, position_or_len, list_any}
 use Rattle.std.proofs.lemmas.Bool.{ltb-true, ltb-false, cases_Bool, false_from_ne_true, eqb-true, true≢false}
 use Rattle.std.proofs.lemmas.List.Sums.{passes_at_first, fails_before_first}
 use Rattle.std.proofs.lemmas.List.Folds.{list_any_none}
 use Rattle.aprs_history.specs.Stands.{LinkSeen}
-use Rattle.server_core.specs.LinkSteps.{Rises, at_link, has_that, has_number, number_of, numbers}
+use Rattle.server_core.specs.Pending.{pending_bytes}
+use Rattle.server_core.specs.LinkSteps.{Rises, at_link, has_that, pending_at, has_number, number_of, numbers}
 
 -- numbers that differ
 pub not_that : (number : ℕ) (link : LinkSeen) → (link.link ≡ number → ⊥) → has_that number link ≡ false
@@ -79,3 +80,49 @@ changed_by number step high links place link new rises found at is =
 
 pub changed_nowhere : (number : ℕ) (step : LinkSeen → LinkSeen) (links : List LinkSeen) → None ≡ position (has_that number) links → links ≡ map (at_link number step) links
 changed_nowhere number step links none = sym (changed_none number step links (position_none (has_that number) links none))
+
+-- a map that a loop has done up to a place, and there
+mapped_at : {X : Type 0} (f : X → X) (xs : List X) (i : ℕ) (new d : X) → i < length xs → new ≡ f (get_or xs i d)
+    → slice_set (map f (take i xs) ++ drop i xs) i new ≡ map f (take (suc i) xs) ++ drop (suc i) xs
+mapped_at f [] i new d lt is = absurd (omega arith)
+mapped_at f (x ∷ xs) zero new d lt is = ap (λ y. y ∷ xs) is
+mapped_at f (x ∷ xs) (suc i) new d lt is = ap (λ ys. f x ∷ ys) (mapped_at f xs i new d (omega arith) is)
+
+get_mapped : {X : Type 0} (f : X → X) (xs : List X) (i : ℕ) (d : X) → i < length xs → get_or (map f (take i xs) ++ drop i xs) i d ≡ get_or xs i d
+get_mapped f [] i d lt = absurd (omega arith)
+get_mapped f (x ∷ xs) zero d lt = refl
+get_mapped f (x ∷ xs) (suc i) d lt = get_mapped f xs i d (omega arith)
+
+pub mapped_more : {X : Type 0} (f : X → X) (xs ys : List X) (i : ℕ) (new d : X) → i < length xs → ys ≡ map f (take i xs) ++ drop i xs → new ≡ f (get_or ys i d)
+    → slice_set ys i new ≡ map f (take (i + 1) xs) ++ drop (i + 1) xs
+mapped_more f xs ys i new d lt so_far is =
+    rw add-one (ap (λ zs. slice_set zs i new) so_far
+    ∙ mapped_at f xs i new d lt (is ∙ ap f (ap (λ zs. get_or zs i d) so_far ∙ get_mapped f xs i d lt)))
+
+-- what the link of a number has still to take, at the place where it stands, or nothing where it is nowhere
+pending_at-here : (number : ℕ) (links : List LinkSeen) (place : ℕ) (d : LinkSeen) → place < length links → position_or_len (has_that number) links ≡ place
+    → pending_at number links ≡ pending_bytes (get_or links place d).queue
+pending_at-here number [] place d lt is = absurd (omega arith)
+pending_at-here number (x ∷ links) place d lt is =
+    ⊎_elim
+    (λ here. let zero_is : 0 ≡ place = rw here at is in rw here (subst (λ n. pending_bytes x.queue ≡ pending_bytes (get_or (x ∷ links) n d).queue) zero_is refl))
+    (λ other.
+        let plus : 1 + position_or_len (has_that number) links ≡ place = rw other at is in
+        let later : suc (position_or_len (has_that number) links) ≡ place = omega arith in
+        rw other (subst (λ n. pending_at number links ≡ pending_bytes (get_or (x ∷ links) n d).queue) later (pending_at-here number links (position_or_len (has_that number) links) d (omega arith) refl)))
+    (cases_Bool (has_that number x))
+
+pub pending_at-found : (number : ℕ) (links : List LinkSeen) (place : ℕ) (d : LinkSeen) → Some place ≡ position (has_that number) links
+    → pending_at number links ≡ pending_bytes (get_or links place d).queue
+pending_at-found number links place d found = let place_is = position_some (has_that number) links place found in pending_at-here number links place d place_is.0 place_is.1
+
+pub pending_at-none : (number : ℕ) (links : List LinkSeen) → None ≡ position (has_that number) links → pending_at number links ≡ []
+pending_at-none number links none = nowhere number links (position_none (has_that number) links none)
+  where
+  nowhere : (number : ℕ) (links : List LinkSeen) → list_any (has_that number) links ≡ false → pending_at number links ≡ []
+  nowhere number [] is = refl
+  nowhere number (x ∷ links) is =
+      ⊎_elim
+      (λ here. absurd (true≢false (sym (ap (λ b. b || has_number number links) here) ∙ is)))
+      (λ other. rw other (nowhere number links (rw other at is)))
+      (cases_Bool (has_that number x))

@@ -1,10 +1,12 @@
 -- What each happening changes of a link.
-use Rattle.std.specs.Prelude.{ℕ, ◌+◌, ◌<◌, ◌==◌, ◌≤◌, Bool, true, false, nat_lt, List, [], ◌∷◌, map, Option, Some, if◌then◌else◌}
+use Rattle.std.specs.Prelude.{ℕ, ◌+◌, ◌<◌, ◌==◌, ◌≤◌, Bool, true, false, nat_lt, List, [], ◌∷◌, length, map, not, ◌&&◌, is_some, Option, Some, None, if◌then◌else◌}
 use Rattle.std.specs.List.{list_any}
-use Rattle.aprs_base.specs.Held.{Held}
+use Rattle.aprs_base.specs.Held.{Held, held_after}
 use Rattle.aprs_history.specs.declared.verdicts.Session.{Session}
 use Rattle.aprs_history.specs.Stands.{LinkSeen}
-use Rattle.server_core.specs.Pending.{with_line, without_bytes}
+use Rattle.aprs_history.specs.Links.{Opening}
+use Rattle.aprs_history.specs.Texts.{kind_wants, banner}
+use Rattle.server_core.specs.Pending.{with_line, without_bytes, pending_bytes}
 
 abbrev pub has_that : ℕ → LinkSeen → Bool
 has_that number link = link.link == number
@@ -44,3 +46,32 @@ has_number number links = list_any (has_that number) links
 abbrev pub Rises : ℕ → List ℕ → ℕ → Type 0
 Rises low [] high = low ≤ high
 Rises low (n ∷ ns) high = (low < n) × Rises n ns high
+
+-- the bytes that the link of that number has still to take
+abbrev pub pending_at : ℕ → List LinkSeen → List ℕ
+pending_at number [] = []
+pending_at number (link ∷ links) = if has_that number link then pending_bytes link.queue else pending_at number links
+
+-- whether a link is sent an accepted packet of another
+abbrev pub wants_packet : ℕ → LinkSeen → Bool
+wants_packet from link = not (from == link.link) && is_some link.session && kind_wants link.opening
+
+abbrev pub with_packet : ℕ → List ℕ → LinkSeen → LinkSeen
+with_packet from line link = if wants_packet from link then with_text line link else link
+
+-- a link that has just been opened
+abbrev pub new_link_seen : ℕ → Opening → LinkSeen
+new_link_seen number opening = record {
+  link = number; opening = Some opening; last = opening.moment; held = held_after []; session = None;
+  queue = record { lines = banner ∷ []; offset = 0 }; blocked = false; gone = false;
+}
+
+-- it isn't blocked, and has lines to take
+abbrev pub is_ready : LinkSeen → Bool
+is_ready link = not link.blocked && nat_lt 0 (length link.queue.lines)
+
+abbrev pub is_there : LinkSeen → Bool
+is_there link = not link.gone
+
+abbrev pub is_another : ℕ → LinkSeen → Bool
+is_another number link = not (link.link == number)
