@@ -53,13 +53,13 @@ wants trace from link = not (from == link) && is_live trace link && is_some (ses
 abbrev pub added_by : Setting → Trace → ℕ → Verdict → ℕ → List (List ℕ)
 added_by setting earlier from PassedOver link = []
 added_by setting earlier from (Refused refusal) link = []
-added_by setting earlier from (LoggedIn session) link = if from == link then login_reply setting.server session ∷ [] else []
+added_by setting earlier from (LoggedIn session) link = if link == from then login_reply setting.server session ∷ [] else []
 added_by setting earlier from (Accepted parts line) link = if wants earlier from link then line ∷ [] else []
 
 -- the lines of a link's text, in order, from its opening on
 abbrev pub lines_of : Setting → Trace → ℕ → List (List ℕ)
 lines_of setting [] link = []
-lines_of setting (Opened serves opened from ∷ earlier) link = if opened == link then banner_of serves else lines_of setting earlier link
+lines_of setting (Opened serves opened from ∷ earlier) link = if link == opened then banner_of serves else lines_of setting earlier link
 lines_of setting (Said from cut verdict ∷ earlier) link = lines_of setting earlier link ++ added_by setting earlier from verdict link
 lines_of setting (entry ∷ earlier) link = lines_of setting earlier link
 

@@ -1,3 +1,5 @@
+pub mod FollowLemmas
 pub mod LinkLemmas
 pub mod PartLemmas
 pub mod VerdictLemmas
+pub mod WalkLemmas

@@ -1,3 +1,4 @@
 pub mod LinkSteps
 pub mod Meaning
 pub mod Pending
+pub mod Walks
