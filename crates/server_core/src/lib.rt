@@ -6,5 +6,6 @@ mod judging;
 mod link;
 mod links;
 mod queue;
+mod replies;
 
 pub use conf::Conf;
