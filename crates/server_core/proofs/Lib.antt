@@ -1,3 +1,4 @@
+pub mod CoreLemmas
 pub mod FollowLemmas
 pub mod LinkLemmas
 pub mod PartLemmas

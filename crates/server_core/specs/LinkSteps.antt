@@ -5,7 +5,11 @@ use Rattle.aprs_base.specs.Held.{Held, held_after}
 use Rattle.aprs_history.specs.declared.verdicts.Session.{Session}
 use Rattle.aprs_history.specs.Stands.{LinkSeen}
 use Rattle.aprs_history.specs.Links.{Opening}
-use Rattle.aprs_history.specs.Texts.{kind_wants, banner}
+use Rattle.aprs_base.specs.declared.cutting.Cut.{Cut}
+use Rattle.aprs_history.specs.declared.verdicts.Verdict.{Verdict}
+use Rattle.aprs_history.specs.declared.verdicts.Verdict.TheVariants.{PassedOver, Refused, LoggedIn, Accepted}
+use Rattle.aprs_history.specs.Verdicts.{verdict_of}
+use Rattle.aprs_history.specs.Texts.{kind_wants, banner, login_reply}
 use Rattle.server_core.specs.Pending.{with_line, without_bytes, pending_bytes}
 
 abbrev pub has_that : ℕ → LinkSeen → Bool
@@ -47,10 +51,31 @@ abbrev pub Rises : ℕ → List ℕ → ℕ → Type 0
 Rises low [] high = low ≤ high
 Rises low (n ∷ ns) high = (low < n) × Rises n ns high
 
--- the bytes that the link of that number has still to take
+-- what the link of that number has, or another value where there is none
+abbrev pub picked_at : {X : Type 0} → (LinkSeen → X) → X → ℕ → List LinkSeen → X
+picked_at pick none number [] = none
+picked_at pick none number (link ∷ links) = if has_that number link then pick link else picked_at pick none number links
+
+abbrev pub pending_of : LinkSeen → List ℕ
+pending_of link = pending_bytes link.queue
+
+abbrev pub session_kept : LinkSeen → Option Session
+session_kept link = link.session
+
+abbrev pub held_kept : LinkSeen → Option Held
+held_kept link = Some link.held
+
+-- the bytes that it has still to take
 abbrev pub pending_at : ℕ → List LinkSeen → List ℕ
-pending_at number [] = []
-pending_at number (link ∷ links) = if has_that number link then pending_bytes link.queue else pending_at number links
+pending_at number links = picked_at pending_of [] number links
+
+-- its login
+abbrev pub session_at : ℕ → List LinkSeen → Option Session
+session_at number links = picked_at session_kept None number links
+
+-- what its cutter keeps
+abbrev pub held_at : ℕ → List LinkSeen → Option Held
+held_at number links = picked_at held_kept None number links
 
 -- whether a link is sent an accepted packet of another
 abbrev pub wants_packet : ℕ → LinkSeen → Bool
@@ -75,3 +100,14 @@ is_there link = not link.gone
 
 abbrev pub is_another : ℕ → LinkSeen → Bool
 is_another number link = not (link.link == number)
+
+-- the links after a verdict on what one of them said
+abbrev pub after_verdict : List ℕ → ℕ → Verdict → List LinkSeen → List LinkSeen
+after_verdict server number PassedOver links = links
+after_verdict server number (Refused refusal) links = links
+after_verdict server number (LoggedIn session) links = map (at_link number (with_session session (login_reply server session))) links
+after_verdict server number (Accepted parts line) links = map (with_packet number line) links
+
+-- the links after one of them said a line
+abbrev pub after_line : List ℕ → ℕ → Cut → List LinkSeen → List LinkSeen
+after_line server number cut links = after_verdict server number (verdict_of server (session_at number links) cut) links

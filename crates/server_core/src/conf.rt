@@ -19,3 +19,12 @@ impl Model for Conf {
 
     ghost view = { λ c. record { server = c.server; code = c.code; listens = c.listens.items } };
 }
+
+impl Conf {
+    /// The server's call.
+    pub fn server(&self) -> &Call
+        ensures { result.now ≡ self.now.server }
+    {
+        &self.server
+    }
+}

@@ -7,5 +7,7 @@ mod link;
 mod links;
 mod queue;
 mod replies;
+mod server;
 
 pub use conf::Conf;
+pub use server::Core;

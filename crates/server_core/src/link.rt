@@ -1,16 +1,18 @@
 //! What the core keeps of a link.
-ghost use Rattle.std.specs.Prelude.{◌≡◌, ℕ, ◌≤◌, ◌<◌, List, ◌++◌, Some, None, OnOk, IfOk, length, min, take, map, option_map, true, false};
+ghost use Rattle.std.specs.Prelude.{◌≡◌, IsTrue, ℕ, ◌≤◌, ◌<◌, List, ◌++◌, Some, None, OnOk, IfOk, length, min, take, map, option_map, true, false};
 ghost use Rattle.std.specs.Arc.{arc_value};
 ghost use Rattle.aprs_base.specs.Held.{held_after};
 ghost use Rattle.server_core.specs.LinkSteps.{is_ready, new_link_seen, number_of, wants_packet, when_gone, with_bytes, with_packet, with_room, with_session, with_taken, with_text};
-ghost use Rattle.aprs_base.specs.Bytes.{IsLine};
+ghost use Rattle.aprs_base.specs.Bytes.{IsLine, is_station};
+ghost use Rattle.aprs_history.specs.Verdicts.{verdict_of};
 ghost use Rattle.aprs_base.specs.Cuts.{cuts_by};
 ghost use Rattle.aprs_history.specs.Texts.{is_full_kind};
 ghost use Rattle.server_core.specs.Pending.{pending_bytes};
 
+use crate::judging::judge;
 use crate::queue::Queue;
-use aprs_base::{Addr, Cut, Cutter, Line, Memory, PortKind};
-use aprs_history::Session;
+use aprs_base::{Addr, Call, Cut, Cutter, Line, Memory, PortKind};
+use aprs_history::{Session, Verdict};
 use std::alloc::Global;
 use std::marker::Model;
 use std::sync::Arc;
@@ -64,7 +66,8 @@ impl Link {
 
     /// Bytes came: they are cut into lines.
     pub fn bring(&mut self, alloc: Global, moment: u64, bytes: &[u8], cuts: &mut Vec<Cut>) -> Result<(), Memory>
-        ensures { (before : List ℕ) → self.old.held ≡ held_after before
+        ensures number { self.new.link ≡ self.old.link }
+        ensures brought { (before : List ℕ) → self.old.held ≡ held_after before
             → OnOk result ((self.new ≡ with_bytes moment (held_after (before ++ bytes.now)) self.old) × (cuts.new.items ≡ cuts.old.items ++ cuts_by before bytes.now)) }
     {
         self.cutter.feed(alloc, bytes, cuts)?;
@@ -74,11 +77,20 @@ impl Link {
 
     /// The link has logged in, and is told so.
     pub fn log_in(&mut self, session: Session, reply: Arc<Line>) -> Result<(), Memory>
-        ensures { OnOk result (self.new ≡ with_session session (arc_value reply) self.old) }
+        ensures number { self.new.link ≡ self.old.link }
+        ensures ok { OnOk result (self.new ≡ with_session session (arc_value reply) self.old) }
     {
         self.queue.push(reply)?;
         self.session = Some(session);
         Ok(())
+    }
+
+    /// The verdict on what it said.
+    pub fn judge(&self, server: &Call, cut: &Cut) -> Verdict
+        requires { IsTrue (is_station server.now) }
+        ensures { result ≡ verdict_of server.now self.now.session cut.now }
+    {
+        judge(server, self.session.as_ref(), cut)
     }
 
     /// Whether it is sent a packet that came from another link.
@@ -90,7 +102,8 @@ impl Link {
 
     /// Takes a packet that came from another link, where it wants it.
     pub fn hear(&mut self, from: u32, line: &Arc<Line>) -> Result<(), Memory>
-        ensures { OnOk result (self.new ≡ with_packet from (arc_value line.now) self.old) }
+        ensures number { self.new.link ≡ self.old.link }
+        ensures ok { OnOk result (self.new ≡ with_packet from (arc_value line.now) self.old) }
     {
         if self.wants(from) {
             self.push(line.clone()?)?;
@@ -113,7 +126,8 @@ impl Link {
     }
 
     fn push(&mut self, line: Arc<Line>) -> Result<(), Memory>
-        ensures { OnOk result (self.new ≡ with_text (arc_value line) self.old) }
+        ensures number { self.new.link ≡ self.old.link }
+        ensures ok { OnOk result (self.new ≡ with_text (arc_value line) self.old) }
     {
         self.queue.push(line)
     }
