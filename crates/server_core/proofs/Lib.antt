@@ -2,5 +2,7 @@ pub mod CoreLemmas
 pub mod FollowLemmas
 pub mod LinkLemmas
 pub mod PartLemmas
+pub mod RoundLemmas
 pub mod VerdictLemmas
 pub mod WalkLemmas
+pub mod WholeRoundLemmas

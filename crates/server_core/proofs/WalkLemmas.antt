@@ -210,7 +210,7 @@ module _ (s : Setting) (core : CoreSeen) (t : Trace) (follows : Follows s core t
     took = took_opened s t follows.took None k from;
   }
 
-  filter_seen : (p : LinkSeen → Bool) (q : ℕ → Bool) (ks : List ℕ) → ((j : ℕ) → p (link_seen s t j) ≡ q j) → filter p (map (link_seen s t) ks) ≡ map (link_seen s t) (filter q ks)
+  pub filter_seen : (p : LinkSeen → Bool) (q : ℕ → Bool) (ks : List ℕ) → ((j : ℕ) → p (link_seen s t j) ≡ q j) → filter p (map (link_seen s t) ks) ≡ map (link_seen s t) (filter q ks)
   filter_seen p q [] same = refl
   filter_seen p q (k ∷ ks) same =
       let x = link_seen s t k in
@@ -248,7 +248,7 @@ abbrev without_all : List ℕ → List ℕ → List ℕ
 without_all [] xs = xs
 without_all (k ∷ ks) xs = without_all ks (filter (is_other k) xs)
 
-live_after : (reason : EndReason) (ks : List ℕ) (t : Trace) → live_links (end_all reason ks t) ≡ without_all ks (live_links t)
+pub live_after : (reason : EndReason) (ks : List ℕ) (t : Trace) → live_links (end_all reason ks t) ≡ without_all ks (live_links t)
 live_after reason [] t = refl
 live_after reason (k ∷ ks) t = live_after reason ks (Ended k reason ∷ t)
 
@@ -350,7 +350,7 @@ left_failing : (p : ℕ → Bool) (xs : List ℕ) → without_all (filter p xs) 
 left_failing p xs =
     left_without (filter p xs) xs ∙ filter_members (λ x. not (is_member x (filter p xs))) (λ x. not (p x)) [] xs (λ x member. ap not (member_filtered p xs x member))
 
-left_none : (xs : List ℕ) → without_all xs xs ≡ []
+pub left_none : (xs : List ℕ) → without_all xs xs ≡ []
 left_none xs = left_without xs xs ∙ filter_members (λ x. not (is_member x xs)) (λ x. false) [] xs (λ x member. ap not member) ∙ nothing xs
   where
   nothing : (xs : List ℕ) → filter (λ x. false) xs ≡ []

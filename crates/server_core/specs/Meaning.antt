@@ -1,9 +1,11 @@
 -- The core as contracts see it: its configuration, and what it keeps.
-use Rattle.std.specs.Prelude.{ℕ, List}
+use Rattle.std.specs.Prelude.{◌≡◌, ℕ, List, [], ◌++◌, map, None}
 use Rattle.aprs_base.specs.declared.packets.ListenSpec.{ListenSpec}
 use Rattle.aprs_history.specs.Setting.{Setting}
 use Rattle.aprs_history.specs.Stands.{CoreSeen, StandsFor}
-use Rattle.aprs_history.specs.History.{History}
+use Rattle.aprs_history.specs.History.{History, trace_of}
+use Rattle.aprs_history.specs.Acts.{Act, Closes, due, offer_to}
+use Rattle.server_core.specs.ActsSeen.{ActsSeen}
 
 pub record ConfSeen : Type 0 where
   pub server : List ℕ
@@ -20,3 +22,9 @@ pub record CoreMeaning : Type 0 where
 -- the core stands for a history
 abbrev pub Stands : CoreMeaning → History → Type 0
 Stands core history = StandsFor (setting_of core.conf) core.seen history
+
+-- the acts are those that are due: the offers, and then the closes
+pub record AreActs (setting : Setting) (history : History) (acts : ActsSeen) : Type 0 where
+  pub due : due setting history ≡ map (offer_to setting (trace_of setting history)) acts.offers ++ map Closes acts.closes
+  pub dial : acts.dial ≡ None
+  pub casts : acts.casts ≡ []

@@ -1,6 +1,7 @@
 //! The core of the server: sessions, rounds and acts, with no socket and no clock.
 #![tactic(auto)]
 
+mod acts;
 mod conf;
 mod judging;
 mod link;
@@ -9,5 +10,6 @@ mod queue;
 mod replies;
 mod server;
 
+pub use acts::{Acts, CastOut};
 pub use conf::Conf;
 pub use server::Core;

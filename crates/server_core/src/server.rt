@@ -1,5 +1,5 @@
 //! The core: it takes a round of events, and says what is to be done.
-ghost use Rattle.std.specs.Prelude.{◌≡◌, ◌∷◌, [], ◌≤◌, ◌<◌, ◌||◌, ℕ, IsTrue, IfOk, OnOk, IfSome, List, length, false, true};
+ghost use Rattle.std.specs.Prelude.{◌≡◌, ◌∷◌, [], ◌≤◌, ◌<◌, ◌||◌, ℕ, IsTrue, IfOk, OnOk, IfSome, List, length, false, true, None, filter, map, if◌then◌else◌};
 ghost use Rattle.std.specs.Arc.{arc_value};
 ghost use Rattle.aprs_base.specs.Bytes.{is_station};
 ghost use Rattle.aprs_base.specs.Outside.{new_link};
@@ -9,16 +9,21 @@ ghost use Rattle.aprs_base.specs.Cuts.{cuts_by};
 ghost use Rattle.aprs_history.specs.Setting.{kind_at};
 ghost use Rattle.aprs_history.specs.Verdicts.{verdict_of};
 ghost use Rattle.aprs_history.specs.Stands.{Follows};
-ghost use Rattle.aprs_history.specs.History.{begin_round, end_all, greater_link, is_stop, say_all, with_bytes_of, with_event};
-ghost use Rattle.server_core.specs.Meaning.{setting_of};
+ghost use Rattle.aprs_history.specs.History.{History, begin_round, end_all, greater_link, is_stop, say_all, with_bytes_of, with_event};
+ghost use Rattle.aprs_history.specs.Rounds.{AreFresh, events_trace, greatest_after, is_whole, stopped_after, with_events};
+ghost use Rattle.server_core.specs.LinkSteps.{is_ready, number_of, numbers};
+ghost use Rattle.server_core.specs.Meaning.{AreActs, Stands, setting_of};
+ghost use Rattle.server_core.specs.RoundWalk.{Traced, Walking};
 ghost use Rattle.server_core.specs.Steps.{AfterEvent, SameRest, Walks, saying};
 
 use crate::conf::Conf;
 use crate::link::Link;
-use crate::links::{bring, drop_gone, drop_link, give_room, hear};
+use crate::acts::Acts;
+use crate::links::{all, bring, drop_gone, drop_link, give_room, hear, ready};
 use aprs_base::{Addr, Chunk, Cut, Event, Memory, PortKind};
 use std::alloc::Global;
-use std::marker::Model;
+use std::marker::{Model, Sync};
+use std::thread::Threads;
 
 /// The greatest moment: the last second of the year 9999.
 const LAST_MOMENT: u64 = 253_402_300_799;
@@ -181,5 +186,60 @@ impl Core {
             Event::Unjoined(_) | Event::Datagram { .. } => {}
         }
         Ok(())
+    }
+
+    /// The events of a round, one after another.
+    fn walk(&mut self, alloc: Global, events: &[Event]) -> Result<(), Memory>
+        requires whole { is_whole 0 events.now ≡ true }
+        requires fresh { AreFresh self.old.seen.greatest events.now }
+        requires going { self.old.seen.stopped ≡ false }
+        ensures walking { OnOk result (Walking self.old events.now self.new []) }
+        ensures traced { (t : Trace) → Walks self.old t → OnOk result (Traced self.old t events.now self.new [] (events_trace (setting_of self.old.conf) events.now t)) }
+    {
+        for event in events {
+            self.take_event(alloc, event)?;
+        }
+        Ok(())
+    }
+
+    /// What is to be done now: offers, and after a stop the close of each link.
+    fn acts(&self, alloc: Global) -> Result<Acts, Memory>
+        ensures offers { IfOk result (λ acts. acts.offers ≡ map number_of (filter is_ready self.now.seen.links)) }
+        ensures closes { IfOk result (λ acts. acts.closes ≡ (if self.now.seen.stopped then numbers self.now.seen.links else [])) }
+        ensures done { IfOk result (λ acts. acts.done ≡ self.now.seen.stopped) }
+        ensures none { IfOk result (λ acts. (acts.dial ≡ None) × (acts.casts ≡ [])) }
+    {
+        let offers = ready(alloc, self.links.as_slice())?;
+        let closes = if self.stopped {
+            all(alloc, self.links.as_slice())?
+        } else {
+            Vec::new(alloc)
+        };
+        Ok(Acts {
+            dial: None,
+            casts: Vec::new(alloc),
+            offers,
+            closes,
+            done: self.stopped,
+        })
+    }
+
+    /// Takes one whole round of events, and says what is to be done. After `Memory` the core is spent.
+    pub fn round<R: Threads + Sync>(&mut self, _rt: &R, alloc: Global, events: &[Event]) -> Result<Acts, Memory>
+        requires whole { is_whole 0 events.now ≡ true }
+        requires fresh { AreFresh self.old.seen.greatest events.now }
+        requires going { self.old.seen.stopped ≡ false }
+        ensures conf { OnOk result (self.new.conf ≡ self.old.conf) }
+        ensures greatest { OnOk result (self.new.seen.greatest ≡ greatest_after events.now self.old.seen.greatest) }
+        ensures stopped { OnOk result (self.new.seen.stopped ≡ stopped_after events.now false) }
+        ensures done { IfOk result (λ acts. acts.done ≡ self.new.seen.stopped) }
+        // The core stands for the history with the round, and the acts are those that are due after it.
+        ensures stands { (h : History) → Stands self.old h → OnOk result (Stands self.new (with_events events.now h)) }
+        ensures due { (h : History) → Stands self.old h
+            → IfOk result (λ acts. AreActs (setting_of self.new.conf) (with_events events.now h) acts) }
+    {
+        self.begin();
+        self.walk(alloc, events)?;
+        self.acts(alloc)
     }
 }

@@ -1,0 +1,13 @@
+-- The acts of a round, as contracts see them.
+use Rattle.std.specs.Prelude.{ℕ, Bool, List, Option}
+
+pub record CastSeen : Type 0 where
+  pub peer : ℕ
+  pub line : List ℕ
+
+pub record ActsSeen : Type 0 where
+  pub dial : Option ℕ
+  pub casts : List CastSeen
+  pub offers : List ℕ
+  pub closes : List ℕ
+  pub done : Bool
