@@ -139,3 +139,13 @@ module _ (old mid new : CoreMeaning) (events : List Event) (round : WholeRound o
       → AreActs (setting_of new.conf) (with_events events h) acts
   round_acts acts offers closes dial casts =
       subst (λ conf. AreActs (setting_of conf) (with_events events h) acts) (sym same_conf) (acts_old acts offers closes dial casts)
+
+  pub acts_ok : {E : Type 0} (result : Result ActsSeen E) → IfOk result (λ acts. acts.offers ≡ map number_of (filter is_ready new.seen.links))
+      → IfOk result (λ acts. acts.closes ≡ (if new.seen.stopped then numbers new.seen.links else [])) → IfOk result (λ acts. (acts.dial ≡ None) × (acts.casts ≡ []))
+      → IfOk result (λ acts. AreActs (setting_of new.conf) (with_events events h) acts)
+  acts_ok (Ok acts) offers closes none = round_acts acts offers closes none.0 none.1
+  acts_ok (Err e) offers closes none = offers
+
+pub stands_ok : {T E P : Type 0} (result : Result T E) → P → OnOk result P
+stands_ok (Ok x) p = p
+stands_ok (Err e) p = tt

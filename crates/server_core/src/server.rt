@@ -1,5 +1,5 @@
 //! The core: it takes a round of events, and says what is to be done.
-ghost use Rattle.std.specs.Prelude.{◌≡◌, ◌∷◌, [], ◌≤◌, ◌<◌, ◌||◌, ℕ, IsTrue, IfOk, OnOk, IfSome, List, length, false, true, None, filter, map, if◌then◌else◌};
+ghost use Rattle.std.specs.Prelude.{◌≡◌, ◌∷◌, [], ◌≤◌, ◌<◌, ◌||◌, ℕ, IsTrue, IfOk, OnOk, IfSome, List, length, false, true, None, filter, map, min, take, if◌then◌else◌};
 ghost use Rattle.std.specs.Arc.{arc_value};
 ghost use Rattle.aprs_base.specs.Bytes.{is_station};
 ghost use Rattle.aprs_base.specs.Outside.{new_link};
@@ -9,9 +9,12 @@ ghost use Rattle.aprs_base.specs.Cuts.{cuts_by};
 ghost use Rattle.aprs_history.specs.Setting.{kind_at};
 ghost use Rattle.aprs_history.specs.Verdicts.{verdict_of};
 ghost use Rattle.aprs_history.specs.Stands.{Follows};
-ghost use Rattle.aprs_history.specs.History.{History, begin_round, end_all, greater_link, is_stop, say_all, with_bytes_of, with_event};
-ghost use Rattle.aprs_history.specs.Rounds.{AreFresh, events_trace, greatest_after, is_whole, stopped_after, with_events};
-ghost use Rattle.server_core.specs.LinkSteps.{is_ready, number_of, numbers};
+ghost use Rattle.aprs_history.specs.History.{History, begin_round, end_all, greater_link, is_stop, say_all, trace_of, with_bytes_of, with_event};
+ghost use Rattle.aprs_history.specs.Rounds.{AreFresh, events_trace, greatest_after, is_whole, only_listens, stopped_after, with_events};
+ghost use Rattle.aprs_history.specs.Texts.{untaken};
+ghost use Rattle.server_core.specs.LinkSteps.{has_number, is_ready, number_of, numbers, pending_at};
+ghost use Rattle.aprs_base.specs.declared.events.Happening.{Happening};
+ghost use Rattle.aprs_base.specs.declared.events.Sent.{Sent};
 ghost use Rattle.server_core.specs.Meaning.{AreActs, Stands, setting_of};
 ghost use Rattle.server_core.specs.RoundWalk.{Traced, Walking};
 ghost use Rattle.server_core.specs.Steps.{AfterEvent, SameRest, Walks, saying};
@@ -19,7 +22,7 @@ ghost use Rattle.server_core.specs.Steps.{AfterEvent, SameRest, Walks, saying};
 use crate::conf::Conf;
 use crate::link::Link;
 use crate::acts::Acts;
-use crate::links::{all, bring, drop_gone, drop_link, give_room, hear, ready};
+use crate::links::{all, bring, drop_gone, drop_link, give_room, hear, lose, offer, ready, take};
 use aprs_base::{Addr, Chunk, Cut, Event, Memory, PortKind};
 use std::alloc::Global;
 use std::marker::{Model, Sync};
@@ -27,6 +30,9 @@ use std::thread::Threads;
 
 /// The greatest moment: the last second of the year 9999.
 const LAST_MOMENT: u64 = 253_402_300_799;
+
+/// The most bytes of one offer.
+const MOST_OFFERED: usize = 65_536;
 
 /// The core of a server.
 #[derive(Drop)]
@@ -241,5 +247,66 @@ impl Core {
         self.begin();
         self.walk(alloc, events)?;
         self.acts(alloc)
+    }
+
+    /// Writes the next bytes that the link has still to take, as many as there are and as fit, at most 65,536, and says
+    /// how many.
+    pub fn offer(&self, link: u32, out: &mut [u8]) -> usize
+        requires served { IsTrue (has_number link self.now.seen.links) }
+        ensures count { result ≡ min (min (length out.old) 65536) (length (pending_at link self.now.seen.links)) }
+        ensures bytes { take result out.new ≡ take (min (length out.old) 65536) (pending_at link self.now.seen.links) }
+        ensures next { (h : History) → Stands self.now h
+            → take result out.new ≡ take (min (length out.old) 65536) (untaken (setting_of self.now.conf) (trace_of (setting_of self.now.conf) h) link) }
+    {
+        let room = out.len().min(MOST_OFFERED);
+        offer(self.links.as_slice(), link, &mut out[..room])
+    }
+
+    /// The link took the first `n` of the `offered` bytes, which were its last offer.
+    pub fn took(&mut self, link: u32, offered: usize, n: usize)
+        requires part { n ≤ offered }
+        requires small { offered ≤ 65536 }
+        requires pending { offered ≤ length (pending_at link self.old.seen.links) }
+        ensures stands { (h : History) (bytes : List ℕ) → length bytes ≡ offered → Stands self.old h → Stands self.new (Happening.Sent link bytes (Sent.Took n) ∷ h) }
+        ensures numbers { numbers self.new.seen.links ≡ numbers self.old.seen.links }
+        ensures rest { SameRest self.old self.new }
+    {
+        take(&mut self.links, link, offered, n);
+    }
+
+    /// A send found the link gone: it ends as the next round begins.
+    pub fn gone(&mut self, link: u32)
+        ensures stands { (h : History) (bytes : List ℕ) → Stands self.old h → Stands self.new (Happening.Sent link bytes Sent.Gone ∷ h) }
+        ensures numbers { numbers self.new.seen.links ≡ numbers self.old.seen.links }
+        ensures rest { SameRest self.old self.new }
+    {
+        lose(&mut self.links, link);
+    }
+
+    /// A core for this configuration and this many workers, which have no effect yet. It stands for the history of its
+    /// listeners alone.
+    pub fn new(alloc: Global, conf: Conf, _workers: u32) -> Result<Core, Memory>
+        requires some { 1 ≤ _workers }
+        requires most { _workers ≤ 64 }
+        requires listens { length conf.listens ≤ 16 }
+        requires station { IsTrue (is_station conf.server) }
+        ensures conf { IfOk result (λ core. core.conf ≡ conf) }
+        ensures stands { IfOk result (λ core. Stands core (only_listens (setting_of conf))) }
+        ensures fresh { IfOk result (λ core. (core.seen.greatest ≡ 0) × (core.seen.stopped ≡ false)) }
+    {
+        Ok(Core {
+            conf,
+            moment: 0,
+            links: Vec::new(alloc),
+            greatest: 0,
+            stopped: false,
+        })
+    }
+
+    /// The configuration that it was made with.
+    pub fn conf(&self) -> &Conf
+        ensures { result.now ≡ self.now.conf }
+    {
+        &self.conf
     }
 }
