@@ -37,7 +37,7 @@ walks_begun core t links walks is = record {
 }
 
 -- what is picked of a link that lives is what there is to keep of it
-picked_seen : {X : Type 0} (pick : LinkSeen → X) (none : X) (s : Setting) (t : Trace) (number : ℕ) (ks : List ℕ) → is_member number ks ≡ true
+pub picked_seen : {X : Type 0} (pick : LinkSeen → X) (none : X) (s : Setting) (t : Trace) (number : ℕ) (ks : List ℕ) → is_member number ks ≡ true
     → picked_at pick none number (map (link_seen s t) ks) ≡ pick (link_seen s t number)
 unfolding link_seen
 picked_seen pick none s t number [] member = absurd (true≢false (sym member))
@@ -46,11 +46,11 @@ picked_seen pick none s t number (k ∷ ks) member =
     ⊎_elim
     (λ here. ap (λ b. if b then pick (link_seen s t k) else rest) here ∙ ap (λ n. pick (link_seen s t n)) (eqb-true k number here))
     (λ other. ap (λ b. if b then pick (link_seen s t k) else rest) other
-        ∙ picked_seen pick none s t number ks (sym (ap (λ b. b || is_member number ks) other) ∙ member))
+    ∙ picked_seen pick none s t number ks (sym (ap (λ b. b || is_member number ks) other) ∙ member))
     (cases_Bool (k == number))
 
 -- what is picked of a link that doesn't live
-picked_missing : {X : Type 0} (pick : LinkSeen → X) (none : X) (s : Setting) (t : Trace) (number : ℕ) (ks : List ℕ) → is_member number ks ≡ false
+pub picked_missing : {X : Type 0} (pick : LinkSeen → X) (none : X) (s : Setting) (t : Trace) (number : ℕ) (ks : List ℕ) → is_member number ks ≡ false
     → picked_at pick none number (map (link_seen s t) ks) ≡ none
 unfolding link_seen
 picked_missing pick none s t number [] member = refl
@@ -59,7 +59,7 @@ picked_missing pick none s t number (k ∷ ks) member =
     ⊎_elim
     (λ here. absurd (true≢false (sym (ap (λ b. b || is_member number ks) here) ∙ member)))
     (λ other. ap (λ b. if b then pick (link_seen s t k) else rest) other
-        ∙ picked_missing pick none s t number ks (sym (ap (λ b. b || is_member number ks) other) ∙ member))
+    ∙ picked_missing pick none s t number ks (sym (ap (λ b. b || is_member number ks) other) ∙ member))
     (cases_Bool (k == number))
 
 module _ (core : CoreMeaning) (t : Trace) (walks : Walks core t) where
@@ -101,7 +101,7 @@ module _ (core : CoreMeaning) (t : Trace) (walks : Walks core t) where
       subst (λ verdict. Walks (relinked links core) (Said number cut verdict ∷ t)) (verdict_now number cut (LoggedIn session) live is)
       (record {
         follows = subst (λ ls. Follows (setting_of core.conf) (with_links ls core.seen) (Said number cut (LoggedIn session) ∷ t)) (sym new)
-          (follows_login (setting_of core.conf) core.seen t walks.follows number cut session);
+            (follows_login (setting_of core.conf) core.seen t walks.follows number cut session);
         going = walks.going;
       })
 
@@ -113,14 +113,14 @@ module _ (core : CoreMeaning) (t : Trace) (walks : Walks core t) where
       subst (λ verdict. Walks (relinked links core) (Said number cut verdict ∷ t)) (verdict_now number cut (Accepted parts line) live is)
       (record {
         follows = subst (λ ls. Follows (setting_of core.conf) (with_links ls core.seen) (Said number cut (Accepted parts line) ∷ t)) (sym new)
-          (follows_accepted (setting_of core.conf) core.seen t walks.follows walks.going number cut parts line);
+            (follows_accepted (setting_of core.conf) core.seen t walks.follows walks.going number cut parts line);
         going = walks.going;
       })
 
   pub walks_roomed : (number : ℕ) (links : List LinkSeen) → links ≡ map (at_link number with_room) core.seen.links → Walks (relinked links core) (Roomed number ∷ t)
   walks_roomed number links new = record {
     follows = subst (λ ls. Follows (setting_of core.conf) (with_links ls core.seen) (Roomed number ∷ t)) (sym new)
-      (follows_roomed (setting_of core.conf) core.seen t walks.follows number);
+        (follows_roomed (setting_of core.conf) core.seen t walks.follows number);
     going = walks.going;
   }
 
@@ -129,14 +129,14 @@ module _ (core : CoreMeaning) (t : Trace) (walks : Walks core t) where
       → Walks (relinked links core) (Brought number bytes ∷ t)
   walks_brought number bytes links new = record {
     follows = subst (λ ls. Follows (setting_of core.conf) (with_links ls core.seen) (Brought number bytes ∷ t)) (sym new)
-      (follows_brought (setting_of core.conf) core.seen t walks.follows number bytes);
+        (follows_brought (setting_of core.conf) core.seen t walks.follows number bytes);
     going = walks.going;
   }
 
   pub walks_ended : (number : ℕ) (links : List LinkSeen) → links ≡ filter (is_another number) core.seen.links → Walks (relinked links core) (Ended number ByPeer ∷ t)
   walks_ended number links new = record {
     follows = subst (λ ls. Follows (setting_of core.conf) (with_links ls core.seen) (Ended number ByPeer ∷ t)) (sym new)
-      (follows_ended (setting_of core.conf) core.seen t walks.follows walks.going number);
+        (follows_ended (setting_of core.conf) core.seen t walks.follows walks.going number);
     going = append-nil (stopped_links t) ∙ walks.going;
   }
 
@@ -196,7 +196,7 @@ all_other number (x ∷ links) none =
     ⊎_elim
     (λ here. absurd (true≢false (sym (ap (λ b. b || has_number number links) here) ∙ none)))
     (λ other. ap (λ b. cond (not b) (x ∷ filter (is_another number) links) (filter (is_another number) links)) other
-        ∙ ap (λ ls. x ∷ ls) (all_other number links (sym (ap (λ b. b || has_number number links) other) ∙ none)))
+    ∙ ap (λ ls. x ∷ ls) (all_other number links (sym (ap (λ b. b || has_number number links) other) ∙ none)))
     (cases_Bool (has_that number x))
 
 -- a step at a link that doesn't live changes nothing

@@ -32,10 +32,10 @@ queued-more [] taken n = refl
 queued-more (line ∷ lines) taken n =
     ⊎_elim
     (λ over.
-        let le : length line + 2 ≤ taken = leb-true (length line + 2) taken over in
-        let more : nat_le (length line + 2) (taken + n) ≡ true = le-leb (length line + 2) (taken + n) (omega arith) in
-        let e : taken + n - (length line + 2) ≡ (taken - (length line + 2)) + n = omega arith in
-        rw (over, more, e) (queued-more lines (taken - (length line + 2)) n))
+    let le : length line + 2 ≤ taken = leb-true (length line + 2) taken over in
+    let more : nat_le (length line + 2) (taken + n) ≡ true = le-leb (length line + 2) (taken + n) (omega arith) in
+    let e : taken + n - (length line + 2) ≡ (taken - (length line + 2)) + n = omega arith in
+    rw (over, more, e) (queued-more lines (taken - (length line + 2)) n))
     (λ under. rw under refl)
     (cases_Bool (nat_le (length line + 2) taken))
 
@@ -62,10 +62,10 @@ queued-bytes (line ∷ lines) taken le =
     let ended : length (ended_line line) ≡ length line + 2 = length-append line (13 ∷ 10 ∷ []) in
     ⊎_elim
     (λ over.
-        let at_least : length line + 2 ≤ taken = leb-true (length line + 2) taken over in
-        let past : length (ended_line line) + (taken - (length line + 2)) ≡ taken = omega arith in
-        rw over (queued-bytes lines (taken - (length line + 2)) (omega arith) ∙ sym (drop-append-add (ended_line line) (text_bytes lines) (taken - (length line + 2)))
-        ∙ ap (λ n. drop n (text_bytes (line ∷ lines))) past))
+    let at_least : length line + 2 ≤ taken = leb-true (length line + 2) taken over in
+    let past : length (ended_line line) + (taken - (length line + 2)) ≡ taken = omega arith in
+    rw over (queued-bytes lines (taken - (length line + 2)) (omega arith) ∙ sym (drop-append-add (ended_line line) (text_bytes lines) (taken - (length line + 2)))
+    ∙ ap (λ n. drop n (text_bytes (line ∷ lines))) past))
     (λ under. rw under refl)
     (cases_Bool (nat_le (length line + 2) taken))
 
@@ -89,12 +89,12 @@ queued-left (line ∷ lines) taken le =
     let size = text_size line lines in
     ⊎_elim
     (λ over.
-        let at_least : length line + 2 ≤ taken = leb-true (length line + 2) taken over in
-        rw over (queued-left lines (taken - (length line + 2)) (omega arith)
-        ∙ same_order (taken - (length line + 2)) (length (text_bytes lines)) taken (length (text_bytes (line ∷ lines))) (length line + 2) (omega arith) size))
+    let at_least : length line + 2 ≤ taken = leb-true (length line + 2) taken over in
+    rw over (queued-left lines (taken - (length line + 2)) (omega arith)
+    ∙ same_order (taken - (length line + 2)) (length (text_bytes lines)) taken (length (text_bytes (line ∷ lines))) (length line + 2) (omega arith) size))
     (λ under.
-        let below : taken < length line + 2 = leb-false (length line + 2) taken under in
-        rw under (is_below 0 (length (line ∷ lines)) (omega arith) ∙ sym (is_below taken (length (text_bytes (line ∷ lines))) (omega arith))))
+    let below : taken < length line + 2 = leb-false (length line + 2) taken under in
+    rw under (is_below 0 (length (line ∷ lines)) (omega arith) ∙ sym (is_below taken (length (text_bytes (line ∷ lines))) (omega arith))))
     (cases_Bool (nat_le (length line + 2) taken))
 
 and_true : (a b c : Bool) → (a && true && b && c) ≡ (a && b && c)
@@ -104,7 +104,7 @@ and_true false b c = refl
 -- a link with a line more or none
 packet_shape : (base : LinkSeen) (lines : List (List ℕ)) (taken : ℕ) (line : List ℕ) (own wanted : Bool) → base.queue ≡ queued lines taken → taken ≤ length (text_bytes lines)
     → record base { session = if own then base.session else base.session; queue = queued (lines ++ (if wanted then line ∷ [] else [])) taken }
-      ≡ (if wanted then with_text line base else base)
+    ≡ (if wanted then with_text line base else base)
 packet_shape base lines taken line true true is le =
     ap (λ (q : Queued). record base { queue = q }) (queued-push lines line taken le ∙ ap (λ (q : Queued). with_line q line) (sym is))
 packet_shape base lines taken line false true is le =
@@ -175,8 +175,8 @@ module _ (s : Setting) where
   accepted_seen t took k cut parts line j live =
       let base = link_seen s t j in
       let wanted : wants t k j ≡ wants_packet k base =
-          ap (λ b. not (k == j) && b && is_some (session_of t j) && kind_wants (opening_of t j)) live
-          ∙ and_true (not (k == j)) (is_some (session_of t j)) (kind_wants (opening_of t j)) in
+      ap (λ b. not (k == j) && b && is_some (session_of t j) && kind_wants (opening_of t j)) live
+      ∙ and_true (not (k == j)) (is_some (session_of t j)) (kind_wants (opening_of t j)) in
       ap (λ b. record base { session = if j == k then base.session else base.session; queue = queued (lines_of s t j ++ (if b then line ∷ [] else [])) (taken_by t j) }) wanted
       ∙ packet_shape base (lines_of s t j) (taken_by t j) line (j == k) (wants_packet k base) refl (took j)
 

@@ -3,6 +3,7 @@ pub mod FollowLemmas
 pub mod LinkLemmas
 pub mod PartLemmas
 pub mod RoundLemmas
+pub mod SendLemmas
 pub mod VerdictLemmas
 pub mod WalkLemmas
 pub mod WholeRoundLemmas

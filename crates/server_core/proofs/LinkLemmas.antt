@@ -55,7 +55,7 @@ module _ {X : Type 0} (test : X → Bool) where
   position_some xs i is =
       ⊎_elim
       (λ within. let same : Some i ≡ Some (position_or_len test xs) = rw within at is in (
-          let place : position_or_len test xs ≡ i = cc in (omega (arith, ltb-true (position_or_len test xs) (length xs) within), place)))
+      let place : position_or_len test xs ≡ i = cc in (omega (arith, ltb-true (position_or_len test xs) (length xs) within), place)))
       (λ past. let none : Some i ≡ None = rw past at is in absurd (cc))
       (cases_Bool (nat_lt (position_or_len test xs) (length xs)))
 
@@ -64,7 +64,7 @@ module _ {X : Type 0} (test : X → Bool) where
       ⊎_elim
       (λ within. let some : None ≡ Some (position_or_len test xs) = rw within at is in absurd (cc))
       (λ past. let all : length xs ≤ position_or_len test xs = ltb-false (position_or_len test xs) (length xs) past in
-        list_any_none test xs (λ k d lt. fails_before_first test xs k d (omega arith)))
+      list_any_none test xs (λ k d lt. fails_before_first test xs k d (omega arith)))
       (cases_Bool (nat_lt (position_or_len test xs) (length xs)))
 
 -- the link that a search found, as a step leaves it
@@ -108,9 +108,9 @@ module _ {X : Type 0} (pick : LinkSeen → X) (none : X) (number : ℕ) where
       ⊎_elim
       (λ here. let zero_is : 0 ≡ place = rw here at is in rw here (subst (λ n. pick x ≡ pick (get_or (x ∷ links) n d)) zero_is refl))
       (λ other.
-        let plus : 1 + position_or_len (has_that number) links ≡ place = rw other at is in
-        let later : suc (position_or_len (has_that number) links) ≡ place = omega arith in
-        rw other (subst (λ n. picked_at pick none number links ≡ pick (get_or (x ∷ links) n d)) later (picked_here links (position_or_len (has_that number) links) d (omega arith) refl)))
+      let plus : 1 + position_or_len (has_that number) links ≡ place = rw other at is in
+      let later : suc (position_or_len (has_that number) links) ≡ place = omega arith in
+      rw other (subst (λ n. picked_at pick none number links ≡ pick (get_or (x ∷ links) n d)) later (picked_here links (position_or_len (has_that number) links) d (omega arith) refl)))
       (cases_Bool (has_that number x))
 
   pub picked_found : (links : List LinkSeen) (place : ℕ) (d : LinkSeen) → Some place ≡ position (has_that number) links → d ≡ get_or links place d → picked_at pick none number links ≡ pick d

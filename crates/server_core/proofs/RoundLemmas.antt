@@ -30,9 +30,9 @@ ends_not n e next events whole =
     let parts = and_parts (not (ends_round n e)) (is_whole (n + 1) (next ∷ events)) whole in
     (not_true (ends_round n e) parts.0, parts.1)
   where
-  not_true : (b : Bool) → not b ≡ true → b ≡ false
-  not_true true h = absurd (false≢true h)
-  not_true false h = refl
+    not_true : (b : Bool) → not b ≡ true → b ≡ false
+    not_true true h = absurd (false≢true h)
+    not_true false h = refl
 
 more_events : (n : ℕ) (e : Event) (h : History) → ends_round n e ≡ false → open_events h ≡ n → open_events (did.Event e ∷ h) ≡ n + 1
 more_events n e h goes_on open_is =

@@ -35,7 +35,7 @@ map_members : {Y : Type 0} (f : ℕ → Y) (h : ℕ → Y) (before xs : List ℕ
 map_members f h before [] same = refl
 map_members f h before (x ∷ xs) same =
     let later : map f xs ≡ map h xs =
-        map_members f h (before ++ x ∷ []) xs (λ y member. same y (subst (λ ys. is_member y ys ≡ true) (append_assoc before (x ∷ []) xs) member)) in
+    map_members f h (before ++ x ∷ []) xs (λ y member. same y (subst (λ ys. is_member y ys ≡ true) (append_assoc before (x ∷ []) xs) member)) in
     rw (same x (member_here before xs x), later) refl
 
 pub map_on : {Y : Type 0} (f : ℕ → Y) (h : ℕ → Y) (xs : List ℕ) → ((x : ℕ) → is_member x xs ≡ true → f x ≡ h x) → map f xs ≡ map h xs
@@ -63,7 +63,7 @@ member_below low high (n ∷ ns) x rises member =
 text_more : (lines more : List (List ℕ)) (n : ℕ) → n ≤ length (text_bytes lines) → n ≤ length (text_bytes (lines ++ more))
 text_more lines more n le =
     let split : length (text_bytes (lines ++ more)) ≡ length (text_bytes lines) + length (text_bytes more) =
-        ap length (flat_map-append ended_line lines more) ∙ length-append (text_bytes lines) (text_bytes more) in
+    ap length (flat_map-append ended_line lines more) ∙ length-append (text_bytes lines) (text_bytes more) in
     omega arith
 
 module _ (s : Setting) where
@@ -127,7 +127,7 @@ module _ (s : Setting) (core : CoreSeen) (t : Trace) (follows : Follows s core t
   follows_took k offered n le = record {
     moment = follows.moment;
     links = ap (map (at_link k (with_taken offered n))) follows.links
-      ∙ sym (map_through (link_seen s (Took k offered n ∷ t)) (at_link k (with_taken offered n)) (link_seen s t) (took_seen s t k offered n) (served_links t));
+        ∙ sym (map_through (link_seen s (Took k offered n ∷ t)) (at_link k (with_taken offered n)) (link_seen s t) (took_seen s t k offered n) (served_links t));
     took = took_took s t follows.took k offered n le;
   }
 
@@ -136,8 +136,8 @@ module _ (s : Setting) (core : CoreSeen) (t : Trace) (follows : Follows s core t
   follows_brought k bytes = record {
     moment = follows.moment;
     links = ap (λ m. map (at_link k (with_bytes m (held_after (brought_by t k ++ bytes)))) core.links) follows.moment
-      ∙ ap (map (at_link k (with_bytes (moment_of t) (held_after (brought_by t k ++ bytes))))) follows.links
-      ∙ sym (map_through (link_seen s (Brought k bytes ∷ t)) (at_link k (with_bytes (moment_of t) (held_after (brought_by t k ++ bytes)))) (link_seen s t)
+        ∙ ap (map (at_link k (with_bytes (moment_of t) (held_after (brought_by t k ++ bytes))))) follows.links
+        ∙ sym (map_through (link_seen s (Brought k bytes ∷ t)) (at_link k (with_bytes (moment_of t) (held_after (brought_by t k ++ bytes)))) (link_seen s t)
         (brought_seen s t k bytes) (served_links t));
     took = follows.took;
   }
@@ -161,7 +161,7 @@ module _ (s : Setting) (core : CoreSeen) (t : Trace) (follows : Follows s core t
   follows_login k cut session = record {
     moment = follows.moment;
     links = ap (map (at_link k (with_session session (login_reply s.server session)))) follows.links
-      ∙ sym (map_through (link_seen s (Said k cut (LoggedIn session) ∷ t)) (at_link k (with_session session (login_reply s.server session))) (link_seen s t)
+        ∙ sym (map_through (link_seen s (Said k cut (LoggedIn session) ∷ t)) (at_link k (with_session session (login_reply s.server session))) (link_seen s t)
         (login_seen s t follows.took k cut session) (served_links t));
     took = took_said s t follows.took k cut (LoggedIn session);
   }
@@ -171,8 +171,8 @@ module _ (s : Setting) (core : CoreSeen) (t : Trace) (follows : Follows s core t
   follows_accepted going k cut parts line = record {
     moment = follows.moment;
     links = ap (map (with_packet k line)) follows.links
-      ∙ map_twice (with_packet k line) (link_seen s t) (served_links t)
-      ∙ sym (map_on (link_seen s (Said k cut (Accepted parts line) ∷ t)) (λ j. with_packet k line (link_seen s t j)) (served_links t)
+        ∙ map_twice (with_packet k line) (link_seen s t) (served_links t)
+        ∙ sym (map_on (link_seen s (Said k cut (Accepted parts line) ∷ t)) (λ j. with_packet k line (link_seen s t j)) (served_links t)
         (λ j member. accepted_seen s t follows.took k cut parts line j (subst (λ stopped. is_member j (stopped ++ live_links t) ≡ true) going member)));
     took = took_said s t follows.took k cut (Accepted parts line);
   }
@@ -184,7 +184,7 @@ module _ (s : Setting) (core : CoreSeen) (t : Trace) (follows : Follows s core t
       → map (link_seen s t) (served_links t) ≡ map (link_seen s (Opened serves k from ∷ t)) (served_links t)
   opened_kept serves k high from rises above =
       sym (map_on (link_seen s (Opened serves k from ∷ t)) (link_seen s t) (served_links t) (λ j member.
-        opened_seen s t serves k from j (below_other j k high (served_links t) (subst (λ ns. Rises 0 ns high) numbers_are rises) above member)))
+      opened_seen s t serves k from j (below_other j k high (served_links t) (subst (λ ns. Rises 0 ns high) numbers_are rises) above member)))
 
   -- a link that a client opens
   pub follows_opened : (kind : PortKind) (k high : ℕ) (from : Addr) → Rises 0 (numbers core.links) high → high < k
@@ -194,11 +194,11 @@ module _ (s : Setting) (core : CoreSeen) (t : Trace) (follows : Follows s core t
       record {
         moment = follows.moment;
         links =
-          ap (λ links. links ++ new_link_seen k (record { kind = kind; from = from; moment = core.moment }) ∷ []) (follows.links ∙ opened_kept (Some kind) k high from rises above)
-          ∙ ap (λ m. map seen (served_links t) ++ new_link_seen k (record { kind = kind; from = from; moment = m }) ∷ []) follows.moment
-          ∙ ap (λ l. map seen (served_links t) ++ l ∷ []) (sym (new_seen s t kind k from))
-          ∙ sym (map_push seen (served_links t) k)
-          ∙ ap (map seen) (append_assoc (stopped_links t) (live_links t) (k ∷ []));
+            ap (λ links. links ++ new_link_seen k (record { kind = kind; from = from; moment = core.moment }) ∷ []) (follows.links ∙ opened_kept (Some kind) k high from rises above)
+            ∙ ap (λ m. map seen (served_links t) ++ new_link_seen k (record { kind = kind; from = from; moment = m }) ∷ []) follows.moment
+            ∙ ap (λ l. map seen (served_links t) ++ l ∷ []) (sym (new_seen s t kind k from))
+            ∙ sym (map_push seen (served_links t) k)
+            ∙ ap (map seen) (append_assoc (stopped_links t) (live_links t) (k ∷ []));
         took = took_opened s t follows.took (Some kind) k from;
       }
 
@@ -217,9 +217,9 @@ module _ (s : Setting) (core : CoreSeen) (t : Trace) (follows : Follows s core t
       let xs = filter p (map (link_seen s t) ks) in
       ⊎_elim
       (λ kept. ap (λ b. cond b (x ∷ xs) xs) (same k ∙ kept) ∙ ap (λ links. x ∷ links) (filter_seen p q ks same)
-        ∙ ap (map (link_seen s t)) (sym (ap (λ b. cond b (k ∷ filter q ks) (filter q ks)) kept)))
+      ∙ ap (map (link_seen s t)) (sym (ap (λ b. cond b (k ∷ filter q ks) (filter q ks)) kept)))
       (λ left. ap (λ b. cond b (x ∷ xs) xs) (same k ∙ left) ∙ filter_seen p q ks same
-        ∙ ap (map (link_seen s t)) (sym (ap (λ b. cond b (k ∷ filter q ks) (filter q ks)) left)))
+      ∙ ap (map (link_seen s t)) (sym (ap (λ b. cond b (k ∷ filter q ks) (filter q ks)) left)))
       (cases_Bool (q k))
 
   another_seen : (k j : ℕ) → is_another k (link_seen s t j) ≡ is_other k j
@@ -234,10 +234,10 @@ module _ (s : Setting) (core : CoreSeen) (t : Trace) (follows : Follows s core t
   follows_ended going k = record {
     moment = follows.moment;
     links =
-      ap (filter (is_another k)) (follows.links ∙ ap (λ stopped. map (link_seen s t) (stopped ++ live_links t)) going)
-      ∙ filter_seen (is_another k) (is_other k) (live_links t) (another_seen k)
-      ∙ sym (ended_seen k ByPeer (filter (is_other k) (live_links t)))
-      ∙ ap (λ stopped. map (link_seen s (Ended k ByPeer ∷ t)) (stopped ++ filter (is_other k) (live_links t))) (sym (append-nil (stopped_links t) ∙ going));
+        ap (filter (is_another k)) (follows.links ∙ ap (λ stopped. map (link_seen s t) (stopped ++ live_links t)) going)
+        ∙ filter_seen (is_another k) (is_other k) (live_links t) (another_seen k)
+        ∙ sym (ended_seen k ByPeer (filter (is_other k) (live_links t)))
+        ∙ ap (λ stopped. map (link_seen s (Ended k ByPeer ∷ t)) (stopped ++ filter (is_other k) (live_links t))) (sym (append-nil (stopped_links t) ∙ going));
     took = follows.took;
   }
 
@@ -298,12 +298,12 @@ filter_twice ks k (x ∷ xs) =
     let both = filter (λ x. not (is_member x (k ∷ ks))) xs in
     ⊎_elim
     (λ same.
-        ap (λ b. filter (λ x. not (is_member x ks)) (cond (not b) (x ∷ kept) kept)) same ∙ later
-        ∙ ap (λ b. cond (not (b || is_member x ks)) (x ∷ both) both) (sym (eqb_turned k x ∙ same)))
+    ap (λ b. filter (λ x. not (is_member x ks)) (cond (not b) (x ∷ kept) kept)) same ∙ later
+    ∙ ap (λ b. cond (not (b || is_member x ks)) (x ∷ both) both) (sym (eqb_turned k x ∙ same)))
     (λ differ.
-        ap (λ b. filter (λ x. not (is_member x ks)) (cond (not b) (x ∷ kept) kept)) differ
-        ∙ ap (λ ys. cond (not (is_member x ks)) (x ∷ ys) ys) later
-        ∙ ap (λ b. cond (not (b || is_member x ks)) (x ∷ both) both) (sym (eqb_turned k x ∙ differ)))
+    ap (λ b. filter (λ x. not (is_member x ks)) (cond (not b) (x ∷ kept) kept)) differ
+    ∙ ap (λ ys. cond (not (is_member x ks)) (x ∷ ys) ys) later
+    ∙ ap (λ b. cond (not (b || is_member x ks)) (x ∷ both) both) (sym (eqb_turned k x ∙ differ)))
     (cases_Bool (x == k))
 
 -- what is left without the members of a list
@@ -316,7 +316,7 @@ filter_members : (p q : ℕ → Bool) (before xs : List ℕ) → ((x : ℕ) → 
 filter_members p q before [] same = refl
 filter_members p q before (x ∷ xs) same =
     let later : filter p xs ≡ filter q xs =
-        filter_members p q (before ++ x ∷ []) xs (λ y member. same y (subst (λ ys. is_member y ys ≡ true) (append_assoc before (x ∷ []) xs) member)) in
+    filter_members p q (before ++ x ∷ []) xs (λ y member. same y (subst (λ ys. is_member y ys ≡ true) (append_assoc before (x ∷ []) xs) member)) in
     ap (λ b. cond b (x ∷ filter p xs) (filter p xs)) (same x (member_here before xs x)) ∙ ap (λ ys. cond (q x) (x ∷ ys) ys) later
 
 member_dropped : (p : ℕ → Bool) (xs : List ℕ) (x : ℕ) → p x ≡ false → is_member x (filter p xs) ≡ false
@@ -325,8 +325,8 @@ member_dropped p (y ∷ xs) x fails =
     let later = member_dropped p xs x fails in
     ⊎_elim
     (λ passes.
-        let differ : (y == x) ≡ false = false_from_ne_true _ (λ is. true≢false (sym passes ∙ ap p (eqb-true y x is) ∙ fails)) in
-        ap (λ b. is_member x (cond b (y ∷ filter p xs) (filter p xs))) passes ∙ ap (λ b. b || is_member x (filter p xs)) differ ∙ later)
+    let differ : (y == x) ≡ false = false_from_ne_true _ (λ is. true≢false (sym passes ∙ ap p (eqb-true y x is) ∙ fails)) in
+    ap (λ b. is_member x (cond b (y ∷ filter p xs) (filter p xs))) passes ∙ ap (λ b. b || is_member x (filter p xs)) differ ∙ later)
     (λ left. ap (λ b. is_member x (cond b (y ∷ filter p xs) (filter p xs))) left ∙ later)
     (cases_Bool (p y))
 
@@ -336,13 +336,13 @@ member_filtered p [] x member = absurd (true≢false (sym member))
 member_filtered p (y ∷ xs) x member =
     ⊎_elim
     (λ here. let same : y ≡ x = eqb-true y x here in ⊎_elim
-        (λ passes. ap (λ b. is_member x (cond b (y ∷ filter p xs) (filter p xs))) passes ∙ ap (λ b. b || is_member x (filter p xs)) here ∙ sym (ap p (sym same) ∙ passes))
-        (λ left. ap (λ b. is_member x (cond b (y ∷ filter p xs) (filter p xs))) left ∙ member_dropped p xs x (ap p (sym same) ∙ left) ∙ sym (ap p (sym same) ∙ left))
-        (cases_Bool (p y)))
+    (λ passes. ap (λ b. is_member x (cond b (y ∷ filter p xs) (filter p xs))) passes ∙ ap (λ b. b || is_member x (filter p xs)) here ∙ sym (ap p (sym same) ∙ passes))
+    (λ left. ap (λ b. is_member x (cond b (y ∷ filter p xs) (filter p xs))) left ∙ member_dropped p xs x (ap p (sym same) ∙ left) ∙ sym (ap p (sym same) ∙ left))
+    (cases_Bool (p y)))
     (λ other. let later = member_filtered p xs x (sym (ap (λ b. b || is_member x xs) other) ∙ member) in ⊎_elim
-        (λ passes. ap (λ b. is_member x (cond b (y ∷ filter p xs) (filter p xs))) passes ∙ ap (λ b. b || is_member x (filter p xs)) other ∙ later)
-        (λ left. ap (λ b. is_member x (cond b (y ∷ filter p xs) (filter p xs))) left ∙ later)
-        (cases_Bool (p y)))
+    (λ passes. ap (λ b. is_member x (cond b (y ∷ filter p xs) (filter p xs))) passes ∙ ap (λ b. b || is_member x (filter p xs)) other ∙ later)
+    (λ left. ap (λ b. is_member x (cond b (y ∷ filter p xs) (filter p xs))) left ∙ later)
+    (cases_Bool (p y)))
     (cases_Bool (y == x))
 
 -- without those that pass a test, those that fail it are left
@@ -353,9 +353,9 @@ left_failing p xs =
 pub left_none : (xs : List ℕ) → without_all xs xs ≡ []
 left_none xs = left_without xs xs ∙ filter_members (λ x. not (is_member x xs)) (λ x. false) [] xs (λ x member. ap not member) ∙ nothing xs
   where
-  nothing : (xs : List ℕ) → filter (λ x. false) xs ≡ []
-  nothing [] = refl
-  nothing (x ∷ xs) = nothing xs
+    nothing : (xs : List ℕ) → filter (λ x. false) xs ≡ []
+    nothing [] = refl
+    nothing (x ∷ xs) = nothing xs
 
 module _ (s : Setting) (core : CoreSeen) (t : Trace) (follows : Follows s core t) (going : stopped_links t ≡ []) where
   there_seen : (j : ℕ) → is_there (link_seen s t j) ≡ not (is_gone t j)
@@ -367,11 +367,11 @@ module _ (s : Setting) (core : CoreSeen) (t : Trace) (follows : Follows s core t
   follows_begun = record {
     moment = follows.moment ∙ sym (moment_after FoundGone (gone_links t) t);
     links =
-      ap (filter is_there) (follows.links ∙ ap (λ stopped. map (link_seen s t) (stopped ++ live_links t)) going)
-      ∙ filter_seen s core t follows is_there (λ j. not (is_gone t j)) (live_links t) there_seen
-      ∙ sym (map_on (link_seen s (begin_round t)) (link_seen s t) (filter (λ j. not (is_gone t j)) (live_links t)) (λ j member. seen_after s FoundGone (gone_links t) t j))
-      ∙ ap (map (link_seen s (begin_round t))) (sym (live_after FoundGone (gone_links t) t ∙ left_failing (is_gone t) (live_links t)))
-      ∙ ap (λ stopped. map (link_seen s (begin_round t)) (stopped ++ live_links (begin_round t))) (sym (going_after (gone_links t) t ∙ going));
+        ap (filter is_there) (follows.links ∙ ap (λ stopped. map (link_seen s t) (stopped ++ live_links t)) going)
+        ∙ filter_seen s core t follows is_there (λ j. not (is_gone t j)) (live_links t) there_seen
+        ∙ sym (map_on (link_seen s (begin_round t)) (link_seen s t) (filter (λ j. not (is_gone t j)) (live_links t)) (λ j member. seen_after s FoundGone (gone_links t) t j))
+        ∙ ap (map (link_seen s (begin_round t))) (sym (live_after FoundGone (gone_links t) t ∙ left_failing (is_gone t) (live_links t)))
+        ∙ ap (λ stopped. map (link_seen s (begin_round t)) (stopped ++ live_links (begin_round t))) (sym (going_after (gone_links t) t ∙ going));
     took = took_after s FoundGone (gone_links t) t follows.took;
   }
 
@@ -380,9 +380,9 @@ module _ (s : Setting) (core : CoreSeen) (t : Trace) (follows : Follows s core t
   follows_stopped = record {
     moment = follows.moment ∙ sym (moment_after ByStop (live_links t) t);
     links =
-      follows.links
-      ∙ sym (map_on (link_seen s (end_all ByStop (live_links t) t)) (link_seen s t) (served_links t) (λ j member. seen_after s ByStop (live_links t) t j))
-      ∙ ap (map (link_seen s (end_all ByStop (live_links t) t))) (sym (
+        follows.links
+        ∙ sym (map_on (link_seen s (end_all ByStop (live_links t) t)) (link_seen s t) (served_links t) (λ j member. seen_after s ByStop (live_links t) t j))
+        ∙ ap (map (link_seen s (end_all ByStop (live_links t) t))) (sym (
         ap (λ stopped. stopped ++ live_links (end_all ByStop (live_links t) t)) (stopped_after (live_links t) t)
         ∙ ap (λ live. (stopped_links t ++ live_links t) ++ live) (live_after ByStop (live_links t) t ∙ left_none (live_links t))
         ∙ append-nil (stopped_links t ++ live_links t)));

@@ -73,12 +73,13 @@ pub round_next : (start : CoreMeaning) (events : List Event) (core new : CoreMea
     → ((t : Trace) → Walks core t → Follows (setting_of core.conf) new.seen (with_event (setting_of core.conf) e t)) → AfterEvent core new e
     → Walking start events new rest × ((first : Trace) → Walks start first → (now : Trace) × Traced start first events new rest now)
 round_next start events core new left e rest is so_far steps after =
-    let walking = subst (Walking start events core) is so_far.0 in
-    (walking_next start events core new e rest walking after,
-    λ first walks.
-        let now = so_far.1 first walks in
-        let traced = subst (λ ls. Traced start first events core ls now.0) is now.1 in
-        (with_event (setting_of start.conf) e now.0, traced_next start first events core new e rest now.0 walking traced steps after))
+    let walking = subst (Walking start events core) is so_far.0 in (
+      walking_next start events core new e rest walking after,
+      λ first walks.
+          let now = so_far.1 first walks in
+          let traced = subst (λ ls. Traced start first events core ls now.0) is now.1 in
+          (with_event (setting_of start.conf) e now.0, traced_next start first events core new e rest now.0 walking traced steps after),
+    )
 
 -- the walk as a whole: what stands before and after a round
 pub record WholeRound (old mid new : CoreMeaning) (events : List Event) : Type 0 where
@@ -125,12 +126,12 @@ module _ (old mid new : CoreMeaning) (events : List Event) (round : WholeRound o
       let t = trace_of s (with_events events h) in
       let offered : acts.offers ≡ offered_links s t = offers ∙ offers_are s new.seen t follows_old in
       let closed : acts.closes ≡ stopped_links t =
-          closes ∙ closes_are s new.seen t follows_old new.seen.stopped
-            (λ none. ap stopped_links (sym trace_is) ∙ traced_now.going none)
-            (λ stop. ap live_links (sym trace_is) ∙ traced_now.ended stop) in
+      closes ∙ closes_are s new.seen t follows_old new.seen.stopped
+      (λ none. ap stopped_links (sym trace_is) ∙ traced_now.going none)
+      (λ stop. ap live_links (sym trace_is) ∙ traced_now.ended stop) in
       record {
         due = due_whole s 0 events h round.whole stands.finished ∙ ap (λ ks. map (offer_to s t) ks ++ map Closes (stopped_links t)) (sym offered)
-          ∙ ap (λ ks. map (offer_to s t) acts.offers ++ map Closes ks) (sym closed);
+            ∙ ap (λ ks. map (offer_to s t) acts.offers ++ map Closes ks) (sym closed);
         dial = dial;
         casts = casts;
       }

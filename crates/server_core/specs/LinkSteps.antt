@@ -87,8 +87,14 @@ with_packet from line link = if wants_packet from link then with_text line link 
 -- a link that has just been opened
 abbrev pub new_link_seen : ℕ → Opening → LinkSeen
 new_link_seen number opening = record {
-  link = number; opening = Some opening; last = opening.moment; held = held_after []; session = None;
-  queue = record { lines = banner ∷ []; offset = 0 }; blocked = false; gone = false;
+  link = number;
+  opening = Some opening;
+  last = opening.moment;
+  held = held_after [];
+  session = None;
+  queue = record { lines = banner ∷ []; offset = 0 };
+  blocked = false;
+  gone = false;
 }
 
 -- it isn't blocked, and has lines to take

@@ -17,6 +17,6 @@ without_bytes queue n = queued queue.lines (queue.offset + n)
 abbrev pub IsBegun : Queued → Type 0
 IsBegun queue = begun queue.lines queue.offset
   where
-  begun : List (List ℕ) → ℕ → Type 0
-  begun [] offset = offset ≡ 0
-  begun (line ∷ lines) offset = offset < length line + 2
+    begun : List (List ℕ) → ℕ → Type 0
+    begun [] offset = offset ≡ 0
+    begun (line ∷ lines) offset = offset < length line + 2

@@ -39,13 +39,26 @@ impl Model for Link {
     ghost Value = { LinkSeen };
 
     ghost view = { λ l. record {
-        link = l.number; opening = Some (record { kind = l.kind; from = l.from; moment = l.opened }); last = l.last;
-        held = l.cutter; session = l.session; queue = l.queue; blocked = l.blocked; gone = l.gone } };
+      link = l.number;
+      opening = Some (record { kind = l.kind; from = l.from; moment = l.opened });
+      last = l.last;
+      held = l.cutter;
+      session = l.session;
+      queue = l.queue;
+      blocked = l.blocked;
+      gone = l.gone;
+    } };
 }
 
 impl Link {
     /// A link that has just been opened, with the banner in its queue.
-    pub fn open(alloc: Global, number: u32, kind: PortKind, from: Addr, moment: u64) -> Result<Link, Memory>
+    pub fn open(
+        alloc: Global,
+        number: u32,
+        kind: PortKind,
+        from: Addr,
+        moment: u64,
+    ) -> Result<Link, Memory>
         ensures { IfOk result (λ l. l ≡ new_link_seen number (record { kind = kind; from = from; moment = moment })) }
     {
         let mut queue = Queue::new(alloc);
@@ -65,7 +78,13 @@ impl Link {
     }
 
     /// Bytes came: they are cut into lines.
-    pub fn bring(&mut self, alloc: Global, moment: u64, bytes: &[u8], cuts: &mut Vec<Cut>) -> Result<(), Memory>
+    pub fn bring(
+        &mut self,
+        alloc: Global,
+        moment: u64,
+        bytes: &[u8],
+        cuts: &mut Vec<Cut>,
+    ) -> Result<(), Memory>
         ensures number { self.new.link ≡ self.old.link }
         ensures brought { (before : List ℕ) → self.old.held ≡ held_after before
             → OnOk result ((self.new ≡ with_bytes moment (held_after (before ++ bytes.now)) self.old) × (cuts.new.items ≡ cuts.old.items ++ cuts_by before bytes.now)) }

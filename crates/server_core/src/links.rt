@@ -128,7 +128,12 @@ pub(crate) fn judge_at(server: &Call, links: &[Link], number: u32, cut: &Cut) ->
 }
 
 /// The link of that number has logged in.
-pub(crate) fn log_in(links: &mut Vec<Link>, number: u32, session: Session, reply: Arc<Line>) -> Result<(), Memory>
+pub(crate) fn log_in(
+    links: &mut Vec<Link>,
+    number: u32,
+    session: Session,
+    reply: Arc<Line>,
+) -> Result<(), Memory>
     requires { Rises 0 (numbers links.old.items) (2 ^ 32) }
     ensures numbers { numbers links.new.items ≡ numbers links.old.items }
     ensures ok { OnOk result (links.new.items ≡ map (at_link number (with_session session (arc_value reply))) links.old.items) }
@@ -143,7 +148,13 @@ pub(crate) fn log_in(links: &mut Vec<Link>, number: u32, session: Session, reply
 }
 
 /// The link of that number brought bytes: what they cut.
-pub(crate) fn bring(alloc: Global, links: &mut Vec<Link>, number: u32, moment: u64, bytes: &[u8]) -> Result<Vec<Cut>, Memory>
+pub(crate) fn bring(
+    alloc: Global,
+    links: &mut Vec<Link>,
+    number: u32,
+    moment: u64,
+    bytes: &[u8],
+) -> Result<Vec<Cut>, Memory>
     requires { Rises 0 (numbers links.old.items) (2 ^ 32) }
     ensures numbers { numbers links.new.items ≡ numbers links.old.items }
     ensures links { (before : List ℕ) → held_at number links.old.items ≡ Some (held_after before)
@@ -162,7 +173,13 @@ pub(crate) fn bring(alloc: Global, links: &mut Vec<Link>, number: u32, moment: u
 }
 
 /// What the link of that number said: it is judged, and what comes of it is done.
-pub(crate) fn hear(alloc: Global, server: &Call, links: &mut Vec<Link>, number: u32, cut: &Cut) -> Result<(), Memory>
+pub(crate) fn hear(
+    alloc: Global,
+    server: &Call,
+    links: &mut Vec<Link>,
+    number: u32,
+    cut: &Cut,
+) -> Result<(), Memory>
     requires rises { Rises 0 (numbers links.old.items) (2 ^ 32) }
     requires station { IsTrue (is_station server.now) }
     ensures numbers { numbers links.new.items ≡ numbers links.old.items }

@@ -19,9 +19,9 @@ ghost use Rattle.server_core.specs.Meaning.{AreActs, Stands, setting_of};
 ghost use Rattle.server_core.specs.RoundWalk.{Traced, Walking};
 ghost use Rattle.server_core.specs.Steps.{AfterEvent, SameRest, Walks, saying};
 
+use crate::acts::Acts;
 use crate::conf::Conf;
 use crate::link::Link;
-use crate::acts::Acts;
 use crate::links::{all, bring, drop_gone, drop_link, give_room, hear, lose, offer, ready, take};
 use aprs_base::{Addr, Chunk, Cut, Event, Memory, PortKind};
 use std::alloc::Global;
@@ -104,7 +104,8 @@ impl Core {
         self.greatest = number;
         match self.conf.client_kind(listener) {
             Some(kind) => {
-                self.links.push(Link::open(alloc, number, kind, from, self.moment)?)?;
+                self.links
+                    .push(Link::open(alloc, number, kind, from, self.moment)?)?;
                 Ok(())
             }
             None => Ok(()),
@@ -231,7 +232,12 @@ impl Core {
     }
 
     /// Takes one whole round of events, and says what is to be done. After `Memory` the core is spent.
-    pub fn round<R: Threads + Sync>(&mut self, _rt: &R, alloc: Global, events: &[Event]) -> Result<Acts, Memory>
+    pub fn round<R: Threads + Sync>(
+        &mut self,
+        _rt: &R,
+        alloc: Global,
+        events: &[Event],
+    ) -> Result<Acts, Memory>
         requires whole { is_whole 0 events.now ≡ true }
         requires fresh { AreFresh self.old.seen.greatest events.now }
         requires going { self.old.seen.stopped ≡ false }
@@ -257,6 +263,13 @@ impl Core {
         ensures bytes { take result out.new ≡ take (min (length out.old) 65536) (pending_at link self.now.seen.links) }
         ensures next { (h : History) → Stands self.now h
             → take result out.new ≡ take (min (length out.old) 65536) (untaken (setting_of self.now.conf) (trace_of (setting_of self.now.conf) h) link) }
+    {
+        self.next_bytes(link, out)
+    }
+
+    fn next_bytes(&self, link: u32, out: &mut [u8]) -> usize
+        ensures count { result ≡ min (min (length out.old) 65536) (length (pending_at link self.now.seen.links)) }
+        ensures bytes { take result out.new ≡ take (min (length out.old) 65536) (pending_at link self.now.seen.links) }
     {
         let room = out.len().min(MOST_OFFERED);
         offer(self.links.as_slice(), link, &mut out[..room])

@@ -11,7 +11,7 @@ put_ended-at-requires-clause-part c =
     let lines = map arc_value c.self.inside.lines.items in
     let line = c.bytes.ensures.bytes ∙ c.deref.ensures in
     let next : drop c.loop-i.i lines ≡ c.bytes.result.now ∷ drop (c.loop-i.i + 1) lines =
-        next_mapped arc_value c.self.inside.lines.items c.loop-i.i c.index.result.now (omega arith) c.index.ensures ∙ ap (λ x. x ∷ drop (c.loop-i.i + 1) lines) (sym line) in
+    next_mapped arc_value c.self.inside.lines.items c.loop-i.i c.index.result.now (omega arith) c.index.ensures ∙ ap (λ x. x ∷ drop (c.loop-i.i + 1) lines) (sym line) in
     first_begun (drop c.loop-i.i lines) (drop (c.loop-i.i + 1) lines) c.bytes.result.now c.loop-i.skip next c.loop-i.invariant.1
 
 pub loop-i-preserved : goal.loop-i-preserved
@@ -20,21 +20,20 @@ loop-i-preserved c =
     let line = c.bytes.ensures.bytes ∙ c.deref.ensures in
     let more = drop (c.loop-i.i + 1) lines in
     let next : drop c.loop-i.i lines ≡ c.bytes.result.now ∷ more =
-        next_mapped arc_value c.self.inside.lines.items c.loop-i.i c.index.result.now (omega arith) c.index.ensures ∙ ap (λ x. x ∷ more) (sym line) in
+    next_mapped arc_value c.self.inside.lines.items c.loop-i.i c.index.result.now (omega arith) c.index.ensures ∙ ap (λ x. x ∷ more) (sym line) in
     let part : c.loop-i.skip < length c.bytes.result.now + 2 = first_begun (drop c.loop-i.i lines) more c.bytes.result.now c.loop-i.skip next c.loop-i.invariant.1 in
     let room = length c.loop-i.out - c.loop-i.at in
     let before = take c.loop-i.at c.loop-i.out in
     let end : c.put_ended-at.result ≡ c.loop-i.at + min room (length c.bytes.result.now + 2 - c.loop-i.skip) = c.put_ended-at.ensures.end in
     let same : length c.put_ended-at.new.out ≡ length c.loop-i.out = c.put_ended-at.auto.out in
     let left : length c.put_ended-at.new.out - c.put_ended-at.result ≡ room - min room (length c.bytes.result.now + 2 - c.loop-i.skip) = omega (arith, end, same) in
-    let written : take c.put_ended-at.result c.put_ended-at.new.out ≡ before ++ take room (drop c.loop-i.skip (ended_line c.bytes.result.now)) = c.put_ended-at.ensures.bytes in
-    (
+    let written : take c.put_ended-at.result c.put_ended-at.new.out ≡ before ++ take room (drop c.loop-i.skip (ended_line c.bytes.result.now)) = c.put_ended-at.ensures.bytes in (
       c.put_ended-at.ensures.within,
       begun_anew more,
       ap (λ bytes. bytes ++ take (length c.put_ended-at.new.out - c.put_ended-at.result) (text_bytes more)) written
-      ∙ ap (λ n. (before ++ take room (drop c.loop-i.skip (ended_line c.bytes.result.now))) ++ take n (text_bytes more)) left
-      ∙ written_more (drop c.loop-i.i lines) more c.bytes.result.now before c.loop-i.skip room next part
-      ∙ c.loop-i.invariant.2,
+          ∙ ap (λ n. (before ++ take room (drop c.loop-i.skip (ended_line c.bytes.result.now))) ++ take n (text_bytes more)) left
+          ∙ written_more (drop c.loop-i.i lines) more c.bytes.result.now before c.loop-i.skip room next part
+          ∙ c.loop-i.invariant.2,
     )
 
 pub returns-clause-count : goal.returns-clause-count

@@ -10,4 +10,4 @@ invariant-loop-i l =
     (l.at ≤ length l.out)
     × IsBegun (record { lines = drop l.i (map arc_value l.self-inside.lines.items); offset = l.skip })
     × (take l.at l.out ++ take (length l.out - l.at) (drop l.skip (text_bytes (drop l.i (map arc_value l.self-inside.lines.items))))
-      ≡ take (length l.initial.out) (pending_bytes l.self))
+    ≡ take (length l.initial.out) (pending_bytes l.self))

@@ -15,5 +15,5 @@ returns-clause-walks c = λ t walks live.
     let server = ap (λ server. after_line server c.args.number c.args.cut.now c.self.inside.links.items) c.server.ensures in
     on_ok_weaker c.hear.result
     (λ is. walks_heard _ c.args.self.now.conf t (subst (λ core. Walks core t) (sym c.self.view_is) walks) (ap (λ (core : CoreMeaning). core.conf) c.self.view_is)
-        c.args.number c.args.cut.now c.hear.new.links.items live (is ∙ server))
+    c.args.number c.args.cut.now c.hear.new.links.items live (is ∙ server))
     c.hear.ensures.ok

@@ -10,5 +10,5 @@ abbrev pub invariant-loop-cut : goal.invariant-loop-cut
 invariant-loop-cut l =
     SameRest l.initial.self l.self
     × ((first : Trace) → Walks l.initial.self first → IsTrue (is_live first l.number) →
-      (t : Trace) × Walks l.self t × IsTrue (is_live t l.number)
-      × (say_all (setting_of l.initial.self.conf) l.number l.cuts first ≡ say_all (setting_of l.initial.self.conf) l.number (drop l.cut-index l.cuts) t))
+    (t : Trace) × Walks l.self t × IsTrue (is_live t l.number)
+    × (say_all (setting_of l.initial.self.conf) l.number l.cuts first ≡ say_all (setting_of l.initial.self.conf) l.number (drop l.cut-index l.cuts) t))

@@ -1,0 +1,97 @@
+-- What a send leaves of the core, and the history with it.
+use Rattle.std.proofs.Common.{◌≡◌, ℕ, ◌+◌, ◌-◌, ◌≤◌, ◌==◌, Bool, true, false, ◌||◌, List, [], ◌∷◌, length, map, take, min, drop, refl, sym, ap, ◌∙◌, subst, arith, ⊎_elim, length-drop, IsTrue}
+use Rattle.std.proofs.lemmas.Bool.{cases_Bool, true≢false}
+use Rattle.aprs_base.specs.declared.events.Sent.TheVariants as sent
+use Rattle.aprs_base.specs.declared.events.Happening.TheVariants as did
+use Rattle.aprs_base.specs.declared.packets.ListenSpec.{ListenSpec}
+use Rattle.aprs_history.specs.Setting.{Setting}
+use Rattle.aprs_history.specs.Trace.{Trace, served_links}
+use Rattle.aprs_history.specs.Links.{taken_by}
+use Rattle.aprs_history.specs.Texts.{lines_of, text_bytes, untaken}
+use Rattle.aprs_history.specs.History.{History, trace_of, open_events, is_stopped, greatest_link}
+use Rattle.aprs_history.specs.Rounds.{listens_after, only_listens}
+use Rattle.aprs_history.specs.Stands.{LinkSeen, CoreSeen, link_seen, Follows, StandsFor}
+use Rattle.server_core.specs.LinkSteps.{at_link, has_number, with_taken, when_gone, pending_at, pending_of, numbers}
+use Rattle.server_core.specs.Meaning.{CoreMeaning, setting_of, Stands}
+use Rattle.server_core.proofs.FollowLemmas.{queued-bytes}
+use Rattle.server_core.proofs.WalkLemmas.{is_member, follows_took, follows_lost}
+use Rattle.server_core.proofs.CoreLemmas.{relinked, picked_seen, picked_missing}
+
+number_member : (s : Setting) (t : Trace) (k : ℕ) (ks : List ℕ) → has_number k (map (link_seen s t) ks) ≡ is_member k ks
+unfolding link_seen
+number_member s t k [] = refl
+number_member s t k (x ∷ ks) = ap (λ b. (x == k) || b) (number_member s t k ks)
+
+module _ (s : Setting) (core : CoreSeen) (t : Trace) (follows : Follows s core t) (k : ℕ) where
+  pending_served : is_member k (served_links t) ≡ true → pending_at k core.links ≡ untaken s t k
+  unfolding link_seen
+  pending_served member =
+      ap (pending_at k) follows.links ∙ picked_seen pending_of [] s t k (served_links t) member ∙ queued-bytes (lines_of s t k) (taken_by t k) (follows.took k)
+
+  pub pending_now : has_number k core.links ≡ true → pending_at k core.links ≡ untaken s t k
+  pending_now here = pending_served (sym (number_member s t k (served_links t)) ∙ ap (has_number k) (sym follows.links) ∙ here)
+
+  within : (n : ℕ) → n ≤ length (pending_at k core.links) → taken_by t k + n ≤ length (text_bytes (lines_of s t k))
+  within n le =
+      let took = follows.took k in
+      ⊎_elim
+      (λ served.
+      let size : length (pending_at k core.links) ≡ length (text_bytes (lines_of s t k)) - taken_by t k = ap length (pending_served served) ∙ length-drop (taken_by t k) (text_bytes (lines_of s t k)) in
+      omega arith)
+      (λ missing.
+      let none : length (pending_at k core.links) ≡ 0 = ap length (ap (pending_at k) follows.links ∙ picked_missing pending_of [] s t k (served_links t) missing) in
+      omega arith)
+      (cases_Bool (is_member k (served_links t)))
+
+pub stands_took : (core : CoreMeaning) (links : List LinkSeen) (k offered n : ℕ) (bytes : List ℕ) (h : History) → length bytes ≡ offered → Stands core h
+    → n ≤ offered → offered ≤ length (pending_at k core.seen.links) → links ≡ map (at_link k (with_taken offered n)) core.seen.links
+    → Stands (relinked links core) (did.Sent k bytes (sent.Took n) ∷ h)
+unfolding trace_of
+stands_took core links k offered n bytes h size stands part pending new =
+    let s = setting_of core.conf in
+    let t = trace_of s h in
+    let follows = follows_took s core.seen t stands.follows k (length bytes) n (within s core.seen t stands.follows k n (omega arith)) in
+    record {
+      finished = stands.finished;
+      follows = record {
+        moment = follows.moment;
+        links = new ∙ ap (λ m. map (at_link k (with_taken m n)) core.seen.links) (sym size) ∙ follows.links;
+        took = follows.took;
+      };
+      greatest = stands.greatest;
+      stopped = stands.stopped;
+    }
+
+pub stands_gone : (core : CoreMeaning) (links : List LinkSeen) (k : ℕ) (bytes : List ℕ) (h : History) → Stands core h
+    → links ≡ map (at_link k when_gone) core.seen.links → Stands (relinked links core) (did.Sent k bytes sent.Gone ∷ h)
+unfolding trace_of
+stands_gone core links k bytes h stands new =
+    let s = setting_of core.conf in
+    let follows = follows_lost s core.seen (trace_of s h) stands.follows k in
+    record {
+      finished = stands.finished;
+      follows = record { moment = follows.moment; links = new ∙ follows.links; took = follows.took };
+      greatest = stands.greatest;
+      stopped = stands.stopped;
+    }
+
+-- listens change nothing of what there is to keep
+pub stands_listening : (s : Setting) (core : CoreSeen) (specs : List ListenSpec) (n : ℕ) (h : History) → StandsFor s core h → StandsFor s core (listens_after n specs h)
+unfolding trace_of
+stands_listening s core [] n h stands = stands
+stands_listening s core (spec ∷ specs) n h stands = stands_listening s core specs (n + 1) (did.Listen n ∷ h) (record {
+  finished = stands.finished;
+  follows = stands.follows;
+  greatest = stands.greatest;
+  stopped = stands.stopped;
+})
+
+-- nothing has happened
+pub stands_new : (s : Setting) (core : CoreSeen) → core.moment ≡ 0 → core.links ≡ [] → core.greatest ≡ 0 → core.stopped ≡ false → StandsFor s core []
+unfolding trace_of
+stands_new s core moment links greatest stopped = record {
+  finished = refl;
+  follows = record { moment = moment; links = links; took = λ k. omega arith };
+  greatest = greatest;
+  stopped = stopped;
+}

@@ -1,0 +1,26 @@
+use Rattle.std.proofs.Common.{◌≡◌, ◌^◌, ◌≤◌, length, subst, sym, ap, ◌∙◌, arith, refl}
+use Rattle.server_core.specs.LinkSteps.{numbers, at_link, with_taken, when_gone, pending_at}
+use Rattle.server_core.specs.Meaning.{CoreMeaning, Stands}
+use Rattle.server_core.proofs.LinkLemmas.{rises_to, rises_at, numbers_kept, at_keeps}
+use Rattle.server_core.proofs.SendLemmas.{stands_took, stands_gone}
+use Rattle.server_core.proofs.server.Core.gone.Goals as goal
+
+pub lose-requires : goal.lose-requires
+lose-requires c = rises_to 0 c.self.inside.greatest (2 ^ 32) _ c.self.invariant.rising (let small = c.self.invariant.small in omega arith)
+
+pub invariant_of-self : goal.invariant_of-self
+invariant_of-self c = record {
+  rising = rises_at c.args.link when_gone (λ link. refl) c.self.inside.greatest c.self.inside.links.items c.lose.new.links.items c.lose.ensures c.self.invariant.rising;
+  small = c.self.invariant.small;
+  station = c.self.invariant.station;
+}
+
+pub returns-clause-stands : goal.returns-clause-stands
+returns-clause-stands c = λ h bytes stands.
+    let core : CoreMeaning = record { conf = c.self.inside.conf; seen = record { moment = c.self.inside.moment; links = c.self.inside.links.items; greatest = c.self.inside.greatest; stopped = c.self.inside.stopped } } in
+    stands_gone core c.lose.new.links.items c.args.link bytes h (subst (λ core. Stands core h) (sym c.self.view_is) stands) c.lose.ensures
+
+pub returns-clause-numbers : goal.returns-clause-numbers
+returns-clause-numbers c =
+    ap numbers c.lose.ensures ∙ numbers_kept (at_link c.args.link when_gone) (at_keeps c.args.link when_gone (λ link. refl)) c.self.inside.links.items
+    ∙ ap (λ (core : CoreMeaning). numbers core.seen.links) c.self.view_is
