@@ -3,12 +3,13 @@ use Rattle.std.specs.Prelude.{ℕ, ◌+◌, ◌-◌, ◌*◌, ◌/◌, ◌%◌, 
 use Rattle.std.specs.List.{list_any, before_first, after_first, find}
 use Rattle.std.specs.Option.{option_map}
 use Rattle.std.specs.Cmp.Lexicographic.{pointwise}
+use Rattle.aprs_base.specs.Bytes.{is_station}
 use Rattle.aprs_base.specs.declared.texts.Addr.{Addr}
 use Rattle.aprs_base.specs.declared.packets.Via.{Via}
 use Rattle.aprs_base.specs.declared.packets.Parts.{Parts}
 use Rattle.tnc2_line.specs.Packet.{names_construct, from_construct, text_of}
-use Rattle.q_construct.specs.declared.rule.Origin.{Origin}
-use Rattle.q_construct.specs.declared.rule.Origin.TheVariants.{Udp, Client, Uplink, Peer}
+use Rattle.q_construct.specs.declared.origins.Origin.{Origin}
+use Rattle.q_construct.specs.declared.origins.Origin.TheVariants.{Udp, Client, Uplink, Peer}
 use Rattle.q_construct.specs.declared.rule.QDrop.{QDrop}
 use Rattle.q_construct.specs.declared.rule.QDrop.TheVariants as drop_for
 
@@ -121,6 +122,13 @@ is_only (Peer call) = false
 abbrev pub is_submission : Origin → Bool
 is_submission origin = is_udp origin || is_client origin
 
+-- a name of an origin that is to be a station's call
+abbrev pub has_station : Origin → Bool
+has_station (Udp login) = is_station login
+has_station (Client login verified only) = is_station login
+has_station (Uplink addr) = true
+has_station (Peer call) = is_station call
+
 -- whether the name is the link's own login
 abbrev pub is_own : Origin → List ℕ → Bool
 is_own origin name = is_client origin && same name (name_of origin)
@@ -146,23 +154,28 @@ is_alone login [] = false
 is_alone login (name ∷ []) = same name login
 is_alone login (name ∷ next ∷ names) = false
 
+-- what a gateway that only receives sends for others, on a port for clients alone
+abbrev pub receive_rows : Bool → List ℕ → List Via → List Row
+receive_rows relays name given =
+    row (relays && same (construct_of given) (codes "qAR") && is_alone name (names_after given)) (before given ++ ending (codes "qAo") name) true
+    ∷ row (relays && not (has_construct given) && ends_in_gate_of name given) (gate_front given ++ ending (codes "qAo") name) true
+    ∷ row (relays && not (has_construct given) && not (ends_in_gate given)) (given ++ ending (codes "qAO") name) true
+    ∷ []
+
 unfoldable pub rows : List ℕ → Origin → List ℕ → List Via → List Row
 rows source origin server given =
     let name = name_of origin in
     let own = same source name in
-    let relays = is_only origin && not own in
     row (is_udp origin && own) (starred (codes "TCPIP") ∷ ending (codes "qAU") server) false
     ∷ row (is_udp origin) (before given ++ ending (codes "qAU") server) false
     ∷ row (is_unverified origin) (starred (codes "TCPXX") ∷ ending (codes "qAX") server) false
-    ∷ row (relays && same (construct_of given) (codes "qAR") && is_alone name (names_after given)) (before given ++ ending (codes "qAo") name) true
-    ∷ row (relays && not (has_construct given) && ends_in_gate_of name given) (gate_front given ++ ending (codes "qAo") name) true
-    ∷ row (relays && not (has_construct given) && not (ends_in_gate given)) (given ++ ending (codes "qAO") name) true
-    ∷ row (has_construct given) given true
+    ∷ (receive_rows (is_only origin && not own) name given
+    ++ (row (has_construct given) given true
     ∷ row (is_client origin && ends_in_gate_of name given) (gate_front given ++ ending (codes "qAR") name) true
     ∷ row (ends_in_gate given) (gate_front given ++ ending (codes "qAr") (gate_call given)) true
     ∷ row (is_client origin && own) (starred (codes "TCPIP") ∷ ending (codes "qAC") server) false
     ∷ row true (given ++ ending (codes "qAS") name) true
-    ∷ []
+    ∷ []))
 
 unfoldable pub built_row : List ℕ → Origin → List ℕ → List Via → Row
 built_row source origin server given = first_row (rows source origin server given)

@@ -1,6 +1,9 @@
 //! The q construct rule: how a server marks the way that a packet came, and which packets it drops.
 #![tactic(auto)]
 
+mod origins;
+mod paths;
 mod rule;
 
-pub use rule::{Origin, QDrop};
+pub use origins::Origin;
+pub use rule::QDrop;

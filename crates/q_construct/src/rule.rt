@@ -1,18 +1,5 @@
 //! The rule.
-use aprs_base::{Addr, Call};
-
-/// Where a line came from.
-#[derive(Clone, PartialEq, Eq, Debug, Drop)]
-pub enum Origin {
-    /// A datagram with a login.
-    Udp { login: Call },
-    /// A link that was opened to this server.
-    Client { login: Call, verified: bool, only: bool },
-    /// The server at this address, to which this one has linked itself.
-    Uplink(Addr),
-    /// A server of the same group.
-    Peer(Call),
-}
+use aprs_base::Call;
 
 /// Why a packet goes no further: the first of these that applies.
 #[derive(Clone, PartialEq, Eq, Debug, Drop)]
