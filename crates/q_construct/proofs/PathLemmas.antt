@@ -1,10 +1,12 @@
 -- The parts of a path, by the places of its elements.
 use Rattle.std.proofs.Common.{◌≡◌, ℕ, suc, ◌+◌, ◌-◌, ◌<◌, ◌≤◌, Bool, true, false, cond, not, ◌||◌, ◌&&◌, List, [], ◌∷◌, ◌++◌, map, take, drop, length, get_or, refl, sym, ap, ◌∙◌, inl, inr, arith}
+use Rattle.std.proofs.lemmas.List.{length-map, take-map}
 use Rattle.std.specs.List.{list_all, list_any, position_or_len}
 use Rattle.aprs_base.specs.Bytes.{is_construct}
 use Rattle.aprs_base.specs.declared.packets.Via.{Via}
 use Rattle.tnc2_line.specs.Packet.{names_construct, from_construct}
-use Rattle.q_construct.specs.Rule.{same, among, first_call, construct_of}
+use Rattle.q_construct.specs.Rule.{same, among, first_call, construct_of, is_own, is_login_not_last}
+use Rattle.q_construct.specs.declared.origins.Origin.{Origin}
 
 pub among_calls : (name : List ℕ) (vias : List Via) → list_any (λ via. same name via.call) vias ≡ among name (map (λ via. via.call) vias)
 among_calls name [] = refl
@@ -36,3 +38,12 @@ construct_first path d n text place lt is = is ∙ ap (λ k. (get_or path k d).c
 
 pub construct_none : (path : List Via) (n : ℕ) → n ≡ position_or_len names_construct path → length path ≤ n → [] ≡ construct_of path
 construct_none path n place le = construct_nowhere path (omega arith)
+
+any_calls : (test : List ℕ → Bool) (vias : List Via) → list_any (λ via. test via.call) vias ≡ list_any test (map (λ via. via.call) vias)
+any_calls test [] = refl
+any_calls test (via ∷ vias) = ap (λ b. test via.call || b) (any_calls test vias)
+
+pub own_before_last : (origin : Origin) (vias : List Via) (n : ℕ) → n ≡ length vias - 1 → list_any (λ via. is_own origin via.call) (take n vias) ≡ is_login_not_last origin (map (λ via. via.call) vias)
+own_before_last origin vias n e =
+    let long : length (map (λ via. via.call) vias) - 1 ≡ n = omega (arith, length-map vias (λ (via : Via). via.call)) in
+    any_calls (is_own origin) (take n vias) ∙ ap (list_any (is_own origin)) (sym (take-map (λ (via : Via). via.call) n vias)) ∙ ap (λ k. list_any (is_own origin) (take k (map (λ via. via.call) vias))) (sym long)

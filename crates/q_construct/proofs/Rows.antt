@@ -7,8 +7,8 @@ use Rattle.tnc2_line.specs.declared.reading.LineFault.{LineFault}
 use Rattle.q_construct.specs.Rule.{process_of, given_drops, built_drops, built_row, rows}
 use Rattle.q_construct.specs.declared.origins.Origin.{Origin}
 use Rattle.q_construct.specs.declared.origins.Origin.TheVariants.{Udp, Client, Uplink, Peer}
-use Rattle.q_construct.specs.declared.rule.QDrop.{QDrop}
-use Rattle.q_construct.specs.declared.rule.QDrop.TheVariants as drop_for
+use Rattle.q_construct.specs.declared.drops.QDrop.{QDrop}
+use Rattle.q_construct.specs.declared.drops.QDrop.TheVariants as drop_for
 
 abbrev texts : Result Parts QDrop → Result (List ℕ) QDrop
 texts (Ok parts) = Ok (text_of parts)

@@ -10,8 +10,8 @@ use Rattle.aprs_base.specs.declared.packets.Parts.{Parts}
 use Rattle.tnc2_line.specs.Packet.{names_construct, from_construct, text_of}
 use Rattle.q_construct.specs.declared.origins.Origin.{Origin}
 use Rattle.q_construct.specs.declared.origins.Origin.TheVariants.{Udp, Client, Uplink, Peer}
-use Rattle.q_construct.specs.declared.rule.QDrop.{QDrop}
-use Rattle.q_construct.specs.declared.rule.QDrop.TheVariants as drop_for
+use Rattle.q_construct.specs.declared.drops.QDrop.{QDrop}
+use Rattle.q_construct.specs.declared.drops.QDrop.TheVariants as drop_for
 
 -- ---- names and elements
 

@@ -1,9 +1,10 @@
 //! The q construct rule: how a server marks the way that a packet came, and which packets it drops.
 #![tactic(auto)]
 
+mod drops;
 mod origins;
 mod paths;
-mod rule;
 
+pub use drops::QDrop;
 pub use origins::Origin;
-pub use rule::QDrop;
+
