@@ -1,3 +1,4 @@
 pub mod HexLemmas
 pub mod PathLemmas
+pub mod RowLemmas
 mod Rows

@@ -162,20 +162,24 @@ receive_rows relays name given =
     ∷ row (relays && not (has_construct given) && not (ends_in_gate given)) (given ++ ending (codes "qAO") name) true
     ∷ []
 
+-- what else goes on
+abbrev pub common_rows : List ℕ → Origin → List ℕ → List Via → List Row
+common_rows source origin server given =
+    let name = name_of origin in
+    row (has_construct given) given true
+    ∷ row (is_client origin && ends_in_gate_of name given) (gate_front given ++ ending (codes "qAR") name) true
+    ∷ row (ends_in_gate given) (gate_front given ++ ending (codes "qAr") (gate_call given)) true
+    ∷ row (is_client origin && same source name) (starred (codes "TCPIP") ∷ ending (codes "qAC") server) false
+    ∷ row true (given ++ ending (codes "qAS") name) true
+    ∷ []
+
 unfoldable pub rows : List ℕ → Origin → List ℕ → List Via → List Row
 rows source origin server given =
     let name = name_of origin in
-    let own = same source name in
-    row (is_udp origin && own) (starred (codes "TCPIP") ∷ ending (codes "qAU") server) false
+    row (is_udp origin && same source name) (starred (codes "TCPIP") ∷ ending (codes "qAU") server) false
     ∷ row (is_udp origin) (before given ++ ending (codes "qAU") server) false
     ∷ row (is_unverified origin) (starred (codes "TCPXX") ∷ ending (codes "qAX") server) false
-    ∷ (receive_rows (is_only origin && not own) name given
-    ++ (row (has_construct given) given true
-    ∷ row (is_client origin && ends_in_gate_of name given) (gate_front given ++ ending (codes "qAR") name) true
-    ∷ row (ends_in_gate given) (gate_front given ++ ending (codes "qAr") (gate_call given)) true
-    ∷ row (is_client origin && own) (starred (codes "TCPIP") ∷ ending (codes "qAC") server) false
-    ∷ row true (given ++ ending (codes "qAS") name) true
-    ∷ []))
+    ∷ (receive_rows (is_only origin && not (same source name)) name given ++ common_rows source origin server given)
 
 unfoldable pub built_row : List ℕ → Origin → List ℕ → List Via → Row
 built_row source origin server given = first_row (rows source origin server given)

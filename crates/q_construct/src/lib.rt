@@ -1,6 +1,7 @@
 //! The q construct rule: how a server marks the way that a packet came, and which packets it drops.
 #![tactic(auto)]
 
+mod building;
 mod drops;
 mod origins;
 mod paths;
