@@ -52,3 +52,8 @@ verified_rest source login only server given built none b =
 pub of_origin : (source : List ℕ) (server : List ℕ) (given : List Via) (built : Built) (origin same_one : Origin) → origin ≡ same_one
     → IsBuilt built (built_row source same_one server given) → IsBuilt built (built_row source origin server given)
 of_origin source server given built origin same_one e b = subst (λ o. IsBuilt built (built_row source o server given)) (sym e) b
+
+pub verified_first : (source login : List ℕ) (only : Bool) (server : List ℕ) (given : List Via) (built : Built)
+    → ((rest : List Row) → IsBuilt built (first_row (receive_rows (only && not (same source login)) login given ++ rest))) → IsBuilt built (built_row source (Client login true only) server given)
+unfolding built_row rows
+verified_first source login only server given built b = b (common_rows source (Client login true only) server given)

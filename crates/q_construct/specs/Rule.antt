@@ -246,13 +246,13 @@ given_drops parts origin server given =
     ∷ []
 
 -- the drops by the path that is built
-unfoldable pub built_drops : Origin → List ℕ → List (List ℕ) → Row → List (Option QDrop)
-built_drops origin server others built =
-    let names = names_after built.path in
-    only_if built.checked (when (among server names) drop_for.NamesServer)
-    ∷ only_if built.checked (option_map drop_for.Twice (first_twice [] names))
-    ∷ only_if built.checked (option_map drop_for.OtherLogin (first_other origin others names))
-    ∷ only_if built.checked (when (is_login_not_last origin names) drop_for.LoginNotLast)
+unfoldable pub built_drops : Origin → List ℕ → List (List ℕ) → Bool → List Via → List (Option QDrop)
+built_drops origin server others checked path =
+    let names = names_after path in
+    only_if checked (when (among server names) drop_for.NamesServer)
+    ∷ only_if checked (option_map drop_for.Twice (first_twice [] names))
+    ∷ only_if checked (option_map drop_for.OtherLogin (first_other origin others names))
+    ∷ only_if checked (when (is_login_not_last origin names) drop_for.LoginNotLast)
     ∷ []
 
 -- 32 elements at most, and 510 bytes
@@ -265,6 +265,6 @@ process_of parts origin server others = do
   given ← Ok (given_path parts.vias.items)
   _ ← refused (given_drops parts origin server given)
   built ← Ok (built_row parts.source origin server given)
-  _ ← refused (built_drops origin server others built)
+  _ ← refused (built_drops origin server others built.checked built.path)
   whole ← Ok (with_path parts (traced origin server built.path))
   if is_long whole then Err drop_for.Long else Ok whole

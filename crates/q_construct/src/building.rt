@@ -1,5 +1,5 @@
 //! The path as it goes on.
-ghost use Rattle.std.specs.Prelude.{◌≡◌, ℕ, ◌≤◌, ◌∷◌, ◌++◌, ◌&&◌, not, List, Bool, length, map, true, false};
+ghost use Rattle.std.specs.Prelude.{◌≡◌, ℕ, ◌≤◌, ◌∷◌, ◌++◌, ◌&&◌, not, List, Bool, length, map, true, false, IfSome};
 ghost use Rattle.aprs_base.specs.Bytes.{IsCall};
 ghost use Rattle.q_construct.specs.Building.{IsBuilt, Receives};
 ghost use Rattle.q_construct.specs.Rule.{built_row, common_rows, ending, first_row, is_alone, row, same, starred};
@@ -18,7 +18,8 @@ pub struct Built {
 /// The path as it came.
 fn kept(given: &[Via]) -> Built
     requires { length given.now ≤ 32 }
-    ensures { IsBuilt result (row true given.now true) }
+    ensures row { IsBuilt result (row true given.now true) }
+    ensures short { length result.path.items ≤ 34 }
 {
     Built { path: copy_path(given), checked: true }
 }
@@ -27,7 +28,8 @@ fn kept(given: &[Via]) -> Built
 fn ended(front: &[Via], construct: &[u8], name: &Call) -> Built
     requires short { length front.now ≤ 32 }
     requires construct { IsCall construct.now }
-    ensures { IsBuilt result (row true (front.now ++ ending construct.now name.now) true) }
+    ensures row { IsBuilt result (row true (front.now ++ ending construct.now name.now) true) }
+    ensures short { length result.path.items ≤ 34 }
 {
     Built { path: with_ending(front, construct, name), checked: true }
 }
@@ -36,7 +38,8 @@ fn ended(front: &[Via], construct: &[u8], name: &Call) -> Built
 fn sent_here(way: &[u8], construct: &[u8], server: &Call) -> Built
     requires way { IsCall way.now }
     requires construct { IsCall construct.now }
-    ensures { IsBuilt result (row true (starred way.now ∷ ending construct.now server.now) false) }
+    ensures row { IsBuilt result (row true (starred way.now ∷ ending construct.now server.now) false) }
+    ensures short { length result.path.items ≤ 34 }
 {
     Built { path: submitted(way, construct, server), checked: false }
 }
@@ -54,7 +57,8 @@ fn is_alone(login: &Call, vias: &[Via]) -> bool
 #[tactic(auto, unfolding(crate::specs::Rule::built_row, crate::specs::Rule::rows))]
 fn build_submitted(source: &Call, login: &Call, server: &Call, given: &[Via]) -> Built
     requires { length given.now ≤ 32 }
-    ensures { IsBuilt result (built_row source.now (Origin.Udp login.now) server.now given.now) }
+    ensures row { IsBuilt result (built_row source.now (Origin.Udp login.now) server.now given.now) }
+    ensures short { length result.path.items ≤ 34 }
 {
     if *source == *login {
         return sent_here(b"TCPIP", b"qAU", server);
@@ -66,7 +70,8 @@ fn build_submitted(source: &Call, login: &Call, server: &Call, given: &[Via]) ->
 /// The path of another's packet, which a gateway sends that only receives.
 fn build_received(login: &Call, given: &[Via]) -> Option<Built>
     requires { length given.now ≤ 32 }
-    ensures { Receives result true login.now given.now }
+    ensures row { Receives result true login.now given.now }
+    ensures short { IfSome result (λ built. length built.path.items ≤ 34) }
 {
     if has_construct(given) {
         if construct_bytes(given) == b"qAR".as_slice() && is_alone(login, after(given)) {
@@ -85,7 +90,8 @@ fn build_received(login: &Call, given: &[Via]) -> Option<Built>
 /// The path of what such a gateway sends for others, on a port for clients alone.
 fn build_relayed(source: &Call, login: &Call, only: bool, given: &[Via]) -> Option<Built>
     requires { length given.now ≤ 32 }
-    ensures { Receives result (only && not (same source.now login.now)) login.now given.now }
+    ensures row { Receives result (only && not (same source.now login.now)) login.now given.now }
+    ensures short { IfSome result (λ built. length built.path.items ≤ 34) }
 {
     if only && *source != *login { build_received(login, given) } else { None }
 }
@@ -93,7 +99,8 @@ fn build_relayed(source: &Call, login: &Call, only: bool, given: &[Via]) -> Opti
 /// The path of what a verified link sends, apart from those gateways.
 fn build_sent(source: &Call, login: &Call, server: &Call, given: &[Via]) -> Built
     requires { length given.now ≤ 32 }
-    ensures { (only : Bool) → IsBuilt result (first_row (common_rows source.now (Origin.Client login.now true only) server.now given.now)) }
+    ensures row { (only : Bool) → IsBuilt result (first_row (common_rows source.now (Origin.Client login.now true only) server.now given.now)) }
+    ensures short { length result.path.items ≤ 34 }
 {
     if has_construct(given) {
         return kept(given);
@@ -111,7 +118,8 @@ fn build_sent(source: &Call, login: &Call, server: &Call, given: &[Via]) -> Buil
 #[tactic(auto, unfolding(crate::specs::Rule::built_row, crate::specs::Rule::rows))]
 fn build_verified(source: &Call, login: &Call, only: bool, server: &Call, given: &[Via]) -> Built
     requires { length given.now ≤ 32 }
-    ensures { IsBuilt result (built_row source.now (Origin.Client login.now true only) server.now given.now) }
+    ensures row { IsBuilt result (built_row source.now (Origin.Client login.now true only) server.now given.now) }
+    ensures short { length result.path.items ≤ 34 }
 {
     match build_relayed(source, login, only, given) {
         Some(built) => built,
@@ -123,7 +131,8 @@ fn build_verified(source: &Call, login: &Call, only: bool, server: &Call, given:
 #[tactic(auto, unfolding(crate::specs::Rule::built_row, crate::specs::Rule::rows))]
 fn build_passed(name: &Call, given: &[Via]) -> Built
     requires { length given.now ≤ 32 }
-    ensures { (source server : List ℕ) → IsBuilt result (built_row source (Origin.Peer name.now) server given.now) }
+    ensures row { (source server : List ℕ) → IsBuilt result (built_row source (Origin.Peer name.now) server given.now) }
+    ensures short { length result.path.items ≤ 34 }
 {
     if has_construct(given) {
         return kept(given);
@@ -138,7 +147,8 @@ fn build_passed(name: &Call, given: &[Via]) -> Built
 #[tactic(auto, unfolding(crate::specs::Rule::built_row, crate::specs::Rule::rows))]
 pub fn build(source: &Call, origin: &Origin, server: &Call, given: &[Via]) -> Built
     requires { length given.now ≤ 32 }
-    ensures { IsBuilt result (built_row source.now origin.now server.now given.now) }
+    ensures row { IsBuilt result (built_row source.now origin.now server.now given.now) }
+    ensures short { length result.path.items ≤ 34 }
 {
     match origin {
         Origin::Udp { login } => build_submitted(source, login, server, given),

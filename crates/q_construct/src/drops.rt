@@ -2,8 +2,9 @@
 ghost use Rattle.std.specs.Prelude.{◌≡◌, ℕ, ◌+◌, ◌-◌, ◌<◌, ◌≤◌, [], ◌∷◌, List, length, take, map, true};
 ghost use Rattle.std.specs.List.{after_first, list_any};
 ghost use Rattle.tnc2_line.specs.Packet.{names_construct};
-ghost use Rattle.q_construct.specs.Rule.{among, begins_with, built_drops, first_other, first_twice, given_drops, is_login_not_last, is_own, refused, row};
+ghost use Rattle.q_construct.specs.Rule.{among, begins_with, built_drops, first_other, first_twice, given_drops, is_login_not_last, is_own, refused};
 
+use crate::building::Built;
 use crate::origins::{Origin, is_own, is_submission, is_unverified_for};
 use crate::paths::{after, before, construct_bytes, has_bar, has_call};
 use aprs_base::{Call, Parts, Via, copy_call};
@@ -113,10 +114,10 @@ fn is_login_not_last(origin: &Origin, vias: &[Via]) -> bool
     any_own(origin, &vias[..vias.len().saturating_sub(1)])
 }
 
-/// The drops by the calls after the construct of the path that is built.
+/// The drops by the calls after the construct of a path that is checked.
 #[tactic(auto, unfolding(crate::specs::Rule::built_drops))]
-pub fn check_built(origin: &Origin, server: &Call, others: &[Call], path: &[Via]) -> Result<(), QDrop>
-    ensures { result ≡ refused (built_drops origin.now server.now others.now (row true path.now true)) }
+fn check_names(origin: &Origin, server: &Call, others: &[Call], path: &[Via]) -> Result<(), QDrop>
+    ensures { result ≡ refused (built_drops origin.now server.now others.now true path.now) }
 {
     let names = after(path);
     if has_call(server, names) {
@@ -132,4 +133,12 @@ pub fn check_built(origin: &Origin, server: &Call, others: &[Call], path: &[Via]
         return Err(QDrop::LoginNotLast);
     }
     Ok(())
+}
+
+/// The drops by the path that is built.
+#[tactic(auto, unfolding(crate::specs::Rule::built_drops))]
+pub fn check_built(origin: &Origin, server: &Call, others: &[Call], built: &Built) -> Result<(), QDrop>
+    ensures { result ≡ refused (built_drops origin.now server.now others.now built.now.checked built.now.path.items) }
+{
+    if built.checked { check_names(origin, server, others, built.path.as_slice()) } else { Ok(()) }
 }

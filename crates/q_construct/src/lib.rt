@@ -5,6 +5,7 @@ mod building;
 mod drops;
 mod origins;
 mod paths;
+mod rule;
 
 pub use drops::QDrop;
 pub use origins::Origin;

@@ -4,13 +4,13 @@ use Rattle.q_construct.specs.declared.origins.Origin.TheVariants.{Uplink, Peer}
 use Rattle.q_construct.proofs.RowLemmas.{uplink_as_peer, of_origin}
 use Rattle.q_construct.proofs.building.build.Goals as goal
 
-pub returns-in-Uplink : goal.returns-in-Uplink
-returns-in-Uplink c =
+pub returns-in-Uplink-clause-row : goal.returns-in-Uplink-clause-row
+returns-in-Uplink-clause-row c =
     of_origin c.args.source.now c.args.server.now c.args.given.now c.build_passed.result c.args.origin.now (Uplink c.in-Uplink.field-0) c.in-Uplink.is
     (uplink_as_peer c.args.source.now c.in-Uplink.field-0 c.args.server.now c.args.given.now c.origin_name.result c.build_passed.result
-      (c.origin_name.ensures ∙ ap name_of c.in-Uplink.is) (c.build_passed.ensures c.args.source.now c.args.server.now))
+      (c.origin_name.ensures ∙ ap name_of c.in-Uplink.is) (c.build_passed.ensures.row c.args.source.now c.args.server.now))
 
-pub returns-in-Peer : goal.returns-in-Peer
-returns-in-Peer c =
+pub returns-in-Peer-clause-row : goal.returns-in-Peer-clause-row
+returns-in-Peer-clause-row c =
     of_origin c.args.source.now c.args.server.now c.args.given.now c.build_passed-in-Peer.result c.args.origin.now (Peer c.in-Peer.call) c.in-Peer.is
-    (c.build_passed-in-Peer.ensures c.args.source.now c.args.server.now)
+    (c.build_passed-in-Peer.ensures.row c.args.source.now c.args.server.now)
