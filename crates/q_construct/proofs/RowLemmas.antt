@@ -57,3 +57,7 @@ pub verified_first : (source login : List ℕ) (only : Bool) (server : List ℕ)
     → ((rest : List Row) → IsBuilt built (first_row (receive_rows (only && not (same source login)) login given ++ rest))) → IsBuilt built (built_row source (Client login true only) server given)
 unfolding built_row rows
 verified_first source login only server given built b = b (common_rows source (Client login true only) server given)
+
+pub peer_as_named : (source call server : List ℕ) (given : List Via) (name : List ℕ) (built : Built) → name ≡ call
+    → IsBuilt built (built_row source (Peer name) server given) → IsBuilt built (built_row source (Peer call) server given)
+peer_as_named source call server given name built is b = subst (λ n. IsBuilt built (built_row source (Peer n) server given)) is b

@@ -188,9 +188,9 @@ built_row source origin server given = first_row (rows source origin server give
 abbrev pub with_name : List ℕ → List Via → List Via
 with_name name path = if among name (names_after path) then path else path ++ plain name ∷ []
 
--- behind qAI each server of the way leaves its name
-abbrev pub traced : Origin → List ℕ → List Via → List Via
-traced origin server path = if same (construct_of path) (codes "qAI") then with_name server (with_name (name_of origin) path) else path
+-- behind qAI each server of the way leaves its name, and the one before it if it hasn't
+abbrev pub traced : List ℕ → List ℕ → List Via → List Via
+traced name server path = if same (construct_of path) (codes "qAI") then with_name server (with_name name path) else path
 
 abbrev pub with_path : Parts → List Via → Parts
 with_path parts path = record parts { vias = record { items = path } }
@@ -266,5 +266,5 @@ process_of parts origin server others = do
   _ ← refused (given_drops parts origin server given)
   built ← Ok (built_row parts.source origin server given)
   _ ← refused (built_drops origin server others built.checked built.path)
-  whole ← Ok (with_path parts (traced origin server built.path))
+  whole ← Ok (with_path parts (traced (name_of origin) server built.path))
   if is_long whole then Err drop_for.Long else Ok whole

@@ -2,9 +2,9 @@
 ghost use Rattle.std.specs.Prelude.{◌≡◌, ℕ, ◌≤◌, ◌∷◌, ◌++◌, ◌&&◌, not, List, Bool, length, map, true, false, IfSome};
 ghost use Rattle.aprs_base.specs.Bytes.{IsCall};
 ghost use Rattle.q_construct.specs.Building.{IsBuilt, Receives};
-ghost use Rattle.q_construct.specs.Rule.{built_row, common_rows, ending, first_row, is_alone, row, same, starred};
+ghost use Rattle.q_construct.specs.Rule.{built_row, common_rows, ending, first_row, is_alone, name_of, row, same, starred};
 
-use crate::origins::{Origin, origin_name};
+use crate::origins::Origin;
 use crate::paths::{Path, after, before, construct_bytes, copy_path, gate_of, has_construct, submitted, with_ending};
 use aprs_base::{Call, Via};
 
@@ -145,8 +145,9 @@ fn build_passed(name: &Call, given: &[Via]) -> Built
 
 /// The path that is built: the first row of the table that fits.
 #[tactic(auto, unfolding(crate::specs::Rule::built_row, crate::specs::Rule::rows))]
-pub fn build(source: &Call, origin: &Origin, server: &Call, given: &[Via]) -> Built
-    requires { length given.now ≤ 32 }
+pub fn build(source: &Call, origin: &Origin, name: &Call, server: &Call, given: &[Via]) -> Built
+    requires name { name.now ≡ name_of origin.now }
+    requires short { length given.now ≤ 32 }
     ensures row { IsBuilt result (built_row source.now origin.now server.now given.now) }
     ensures short { length result.path.items ≤ 34 }
 {
@@ -154,7 +155,7 @@ pub fn build(source: &Call, origin: &Origin, server: &Call, given: &[Via]) -> Bu
         Origin::Udp { login } => build_submitted(source, login, server, given),
         Origin::Client { verified: false, .. } => sent_here(b"TCPXX", b"qAX", server),
         Origin::Client { login, only, .. } => build_verified(source, login, *only, server, given),
-        Origin::Uplink(_) => build_passed(&origin_name(origin), given),
-        Origin::Peer(call) => build_passed(call, given),
+        Origin::Uplink(_) => build_passed(name, given),
+        Origin::Peer(_) => build_passed(name, given),
     }
 }

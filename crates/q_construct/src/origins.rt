@@ -1,7 +1,7 @@
 //! Where lines come from.
 ghost use Rattle.std.specs.Prelude.{◌≡◌, ℕ, ◌<◌, ◌≤◌, ◌&&◌, ◌∷◌, ◌++◌, List, length, true, not};
-ghost use Rattle.aprs_base.specs.Bytes.{is_alphanumeric};
-ghost use Rattle.q_construct.specs.Rule.{hex_byte, hex_digit, hex_of, is_client, is_own, is_submission, is_unverified, name_of, same};
+ghost use Rattle.aprs_base.specs.Bytes.{is_alphanumeric, is_station};
+ghost use Rattle.q_construct.specs.Rule.{has_station, hex_byte, hex_digit, hex_of, is_client, is_own, is_submission, is_unverified, name_of, same};
 
 use aprs_base::{Addr, Call, copy_call};
 
@@ -29,7 +29,8 @@ fn hex_digit(digit: u8) -> u8
 
 /// The address as eight hexadecimal digits.
 fn hex_call(addr: &Addr) -> Call
-    ensures { result ≡ hex_of addr.now }
+    ensures value { result ≡ hex_of addr.now }
+    ensures station { is_station result ≡ true }
 {
     let [a, b, c, d] = addr.ip;
     let text = [
@@ -50,7 +51,8 @@ fn hex_call(addr: &Addr) -> Call
 
 /// The login, the address or the peer's call.
 pub fn origin_name(origin: &Origin) -> Call
-    ensures { result ≡ name_of origin.now }
+    ensures value { result ≡ name_of origin.now }
+    ensures station { has_station origin.now ≡ true → is_station result ≡ true }
 {
     match origin {
         Origin::Udp { login } => copy_call(login),

@@ -2,7 +2,7 @@
 ghost use Rattle.std.specs.Prelude.{◌≡◌, ℕ, ◌+◌, ◌<◌, ◌≤◌, List, length, Ok, Err, if◌then◌else◌};
 ghost use Rattle.std.specs.List.{flat_map};
 ghost use Rattle.tnc2_line.specs.Packet.{text_of, with_comma};
-ghost use Rattle.q_construct.specs.Rule.{is_long, process_of, traced, with_name, with_path};
+ghost use Rattle.q_construct.specs.Rule.{is_long, name_of, process_of, traced, with_name, with_path};
 
 use crate::building::build;
 use crate::drops::{QDrop, check_built, check_given};
@@ -23,12 +23,12 @@ fn add_name(path: &mut Path, name: &Call)
 }
 
 /// Behind qAI, puts the sender's name and this server's.
-fn trace(path: &mut Path, origin: &Origin, server: &Call)
+fn trace(path: &mut Path, name: &Call, server: &Call)
     requires { length path.old.items ≤ 34 }
-    ensures { path.new.items ≡ traced origin.now server.now path.old.items }
+    ensures { path.new.items ≡ traced name.now server.now path.old.items }
 {
     if construct_bytes(path.as_slice()) == b"qAI".as_slice() {
-        add_name(path, &origin_name(origin));
+        add_name(path, name);
         add_name(path, server);
     }
 }
@@ -104,13 +104,20 @@ fn finish(parts: &Parts, path: &[Via]) -> Result<Parts, QDrop>
 }
 
 #[tactic(auto, unfolding(crate::specs::Rule::process_of))]
-fn process_parts(parts: &Parts, origin: &Origin, server: &Call, others: &[Call]) -> Result<Parts, QDrop>
+fn process_from(
+    parts: &Parts,
+    origin: &Origin,
+    name: &Call,
+    server: &Call,
+    others: &[Call],
+) -> Result<Parts, QDrop>
+    requires { name.now ≡ name_of origin.now }
     ensures { result ≡ process_of parts.now origin.now server.now others.now }
 {
     let given = given_path(parts.vias.as_slice());
     check_given(parts, origin, server, given)?;
-    let mut built = build(&parts.source, origin, server, given);
+    let mut built = build(&parts.source, origin, name, server, given);
     check_built(origin, server, others, &built)?;
-    trace(&mut built.path, origin, server);
+    trace(&mut built.path, name, server);
     finish(parts, built.path.as_slice())
 }
