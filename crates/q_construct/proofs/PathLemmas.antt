@@ -20,7 +20,7 @@ pub construct_there : (path : List Via) (d : Via) → position_or_len names_cons
 construct_there [] d lt = absurd (omega arith)
 construct_there (via ∷ vias) d lt =
     elim (names_construct via) as (λ b. cond (not b) (1 + position_or_len names_construct vias) 0 < length (via ∷ vias)
-        → (get_or (via ∷ vias) (cond (not b) (1 + position_or_len names_construct vias) 0) d).call ≡ first_call (cond b (via ∷ vias) (from_construct vias))) [
+    → (get_or (via ∷ vias) (cond (not b) (1 + position_or_len names_construct vias) 0) d).call ≡ first_call (cond b (via ∷ vias) (from_construct vias))) [
       | true ↦ λ _. refl
       | false ↦ λ less. rw (get_one (position_or_len names_construct vias) via vias d) (construct_there vias d (omega arith))
     ] lt

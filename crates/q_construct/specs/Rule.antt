@@ -129,6 +129,10 @@ has_station (Client login verified only) = is_station login
 has_station (Uplink addr) = true
 has_station (Peer call) = is_station call
 
+-- whether what comes from there keeps the calls after its construct
+abbrev pub keeps_names : Origin → Bool
+keeps_names origin = not (is_udp origin) && not (is_unverified origin)
+
 -- whether the name is the link's own login
 abbrev pub is_own : Origin → List ℕ → Bool
 is_own origin name = is_client origin && same name (name_of origin)

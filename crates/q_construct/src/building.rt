@@ -5,7 +5,9 @@ ghost use Rattle.q_construct.specs.Building.{IsBuilt, Receives};
 ghost use Rattle.q_construct.specs.Rule.{built_row, common_rows, ending, first_row, is_alone, name_of, row, same, starred};
 
 use crate::origins::Origin;
-use crate::paths::{Path, after, before, construct_bytes, copy_path, gate_of, has_construct, submitted, with_ending};
+use crate::paths::{
+    Path, after, before, construct_bytes, copy_path, gate_of, has_construct, submitted, with_ending,
+};
 use aprs_base::{Call, Via};
 
 /// A path, and whether the calls after its construct are to be checked.
@@ -21,7 +23,10 @@ fn kept(given: &[Via]) -> Built
     ensures row { IsBuilt result (row true given.now true) }
     ensures short { length result.path.items ≤ 34 }
 {
-    Built { path: copy_path(given), checked: true }
+    Built {
+        path: copy_path(given),
+        checked: true,
+    }
 }
 
 /// The elements, and the construct with the name.
@@ -31,7 +36,10 @@ fn ended(front: &[Via], construct: &[u8], name: &Call) -> Built
     ensures row { IsBuilt result (row true (front.now ++ ending construct.now name.now) true) }
     ensures short { length result.path.items ≤ 34 }
 {
-    Built { path: with_ending(front, construct, name), checked: true }
+    Built {
+        path: with_ending(front, construct, name),
+        checked: true,
+    }
 }
 
 /// The path of what a user sends here.
@@ -41,7 +49,10 @@ fn sent_here(way: &[u8], construct: &[u8], server: &Call) -> Built
     ensures row { IsBuilt result (row true (starred way.now ∷ ending construct.now server.now) false) }
     ensures short { length result.path.items ≤ 34 }
 {
-    Built { path: submitted(way, construct, server), checked: false }
+    Built {
+        path: submitted(way, construct, server),
+        checked: false,
+    }
 }
 
 /// Whether these are the login alone.
@@ -64,7 +75,10 @@ fn build_submitted(source: &Call, login: &Call, server: &Call, given: &[Via]) ->
         return sent_here(b"TCPIP", b"qAU", server);
     }
     let path = with_ending(before(given), b"qAU", server);
-    Built { path, checked: false }
+    Built {
+        path,
+        checked: false,
+    }
 }
 
 /// The path of another's packet, which a gateway sends that only receives.
@@ -81,7 +95,11 @@ fn build_received(login: &Call, given: &[Via]) -> Option<Built>
     }
     match gate_of(given) {
         Some((front, gate)) => {
-            if *gate == *login { Some(ended(front, b"qAo", login)) } else { None }
+            if *gate == *login {
+                Some(ended(front, b"qAo", login))
+            } else {
+                None
+            }
         }
         None => Some(ended(given, b"qAO", login)),
     }
@@ -93,7 +111,11 @@ fn build_relayed(source: &Call, login: &Call, only: bool, given: &[Via]) -> Opti
     ensures row { Receives result (only && not (same source.now login.now)) login.now given.now }
     ensures short { IfSome result (λ built. length built.path.items ≤ 34) }
 {
-    if only && *source != *login { build_received(login, given) } else { None }
+    if only && *source != *login {
+        build_received(login, given)
+    } else {
+        None
+    }
 }
 
 /// The path of what a verified link sends, apart from those gateways.
@@ -107,10 +129,18 @@ fn build_sent(source: &Call, login: &Call, server: &Call, given: &[Via]) -> Buil
     }
     match gate_of(given) {
         Some((front, gate)) => {
-            if *gate == *login { ended(front, b"qAR", login) } else { ended(front, b"qAr", gate) }
+            if *gate == *login {
+                ended(front, b"qAR", login)
+            } else {
+                ended(front, b"qAr", gate)
+            }
         }
         None => {
-            if *source == *login { sent_here(b"TCPIP", b"qAC", server) } else { ended(given, b"qAS", login) }
+            if *source == *login {
+                sent_here(b"TCPIP", b"qAC", server)
+            } else {
+                ended(given, b"qAS", login)
+            }
         }
     }
 }
@@ -153,7 +183,10 @@ pub fn build(source: &Call, origin: &Origin, name: &Call, server: &Call, given: 
 {
     match origin {
         Origin::Udp { login } => build_submitted(source, login, server, given),
-        Origin::Client { verified: false, .. } => sent_here(b"TCPXX", b"qAX", server),
+        Origin::Client {
+            verified: false,
+            ..
+        } => sent_here(b"TCPXX", b"qAX", server),
         Origin::Client { login, only, .. } => build_verified(source, login, *only, server, given),
         Origin::Uplink(_) => build_passed(name, given),
         Origin::Peer(_) => build_passed(name, given),

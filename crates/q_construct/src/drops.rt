@@ -45,7 +45,12 @@ fn begins_with(byte: u8, body: &[u8]) -> bool
 
 /// The drops by what is given, before any path is built.
 #[tactic(auto, unfolding(crate::specs::Rule::given_drops))]
-pub fn check_given(parts: &Parts, origin: &Origin, server: &Call, given: &[Via]) -> Result<(), QDrop>
+pub fn check_given(
+    parts: &Parts,
+    origin: &Origin,
+    server: &Call,
+    given: &[Via],
+) -> Result<(), QDrop>
     ensures { result ≡ refused (given_drops parts.now origin.now server.now given.now) }
 {
     let submission = is_submission(origin);
@@ -137,8 +142,17 @@ fn check_names(origin: &Origin, server: &Call, others: &[Call], path: &[Via]) ->
 
 /// The drops by the path that is built.
 #[tactic(auto, unfolding(crate::specs::Rule::built_drops))]
-pub fn check_built(origin: &Origin, server: &Call, others: &[Call], built: &Built) -> Result<(), QDrop>
+pub fn check_built(
+    origin: &Origin,
+    server: &Call,
+    others: &[Call],
+    built: &Built,
+) -> Result<(), QDrop>
     ensures { result ≡ refused (built_drops origin.now server.now others.now built.now.checked built.now.path.items) }
 {
-    if built.checked { check_names(origin, server, others, built.path.as_slice()) } else { Ok(()) }
+    if built.checked {
+        check_names(origin, server, others, built.path.as_slice())
+    } else {
+        Ok(())
+    }
 }

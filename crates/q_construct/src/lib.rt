@@ -9,4 +9,4 @@ mod rule;
 
 pub use drops::QDrop;
 pub use origins::Origin;
-
+pub use rule::process;

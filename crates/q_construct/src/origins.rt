@@ -9,9 +9,15 @@ use aprs_base::{Addr, Call, copy_call};
 #[derive(Clone, PartialEq, Eq, Debug, Drop)]
 pub enum Origin {
     /// A datagram with a login.
-    Udp { login: Call },
+    Udp {
+        login: Call,
+    },
     /// A link that was opened to this server.
-    Client { login: Call, verified: bool, only: bool },
+    Client {
+        login: Call,
+        verified: bool,
+        only: bool,
+    },
     /// The server at this address, to which this one has linked itself.
     Uplink(Addr),
     /// A server of the same group.
@@ -24,7 +30,11 @@ fn hex_digit(digit: u8) -> u8
     ensures value { result ≡ hex_digit digit }
     ensures letter { is_alphanumeric result ≡ true }
 {
-    if digit < 10 { b'0' + digit } else { b'A' - 10 + digit }
+    if digit < 10 {
+        b'0' + digit
+    } else {
+        b'A' - 10 + digit
+    }
 }
 
 /// The address as eight hexadecimal digits.
@@ -74,7 +84,11 @@ pub fn is_unverified_for(origin: &Origin, source: &Call) -> bool
     ensures { result ≡ (is_unverified origin.now && not (same source.now (name_of origin.now))) }
 {
     match origin {
-        Origin::Client { login, verified: false, .. } => *source != *login,
+        Origin::Client {
+            login,
+            verified: false,
+            ..
+        } => *source != *login,
         _ => false,
     }
 }

@@ -43,7 +43,11 @@ pub fn after(path: &[Via]) -> &[Via]
     ensures { result.now ≡ after_first names_construct path.now }
 {
     let place = construct_place(path);
-    if place < path.len() { &path[place + 1..] } else { &path[path.len()..] }
+    if place < path.len() {
+        &path[place + 1..]
+    } else {
+        &path[path.len()..]
+    }
 }
 
 /// The construct, or no bytes.
@@ -51,7 +55,11 @@ pub fn construct_bytes(path: &[Via]) -> &[u8]
     ensures { result.now ≡ construct_of path.now }
 {
     let place = construct_place(path);
-    if place < path.len() { path[place].call.bytes() } else { b"" }
+    if place < path.len() {
+        path[place].call.bytes()
+    } else {
+        b""
+    }
 }
 
 /// The path without a construct that stands last.
@@ -59,7 +67,11 @@ pub fn given_path(path: &[Via]) -> &[Via]
     ensures { result.now ≡ given_path path.now }
 {
     let front = path.len().saturating_sub(1);
-    if has_construct(&path[front..]) { &path[..front] } else { path }
+    if has_construct(&path[front..]) {
+        &path[..front]
+    } else {
+        path
+    }
 }
 
 /// Whether one of these elements has this call.
@@ -145,7 +157,10 @@ pub fn with_ending(front: &[Via], construct: &[u8], name: &Call) -> Path
 {
     let mut path = copy_path(front);
     path.push(element(construct, false));
-    path.push(Via { call: copy_call(name), star: false });
+    path.push(Via {
+        call: copy_call(name),
+        star: false,
+    });
     path
 }
 
@@ -158,6 +173,9 @@ pub fn submitted(way: &[u8], construct: &[u8], server: &Call) -> Path
     let mut path: Path = ArrayVec::new();
     path.push(element(way, true));
     path.push(element(construct, false));
-    path.push(Via { call: copy_call(server), star: false });
+    path.push(Via {
+        call: copy_call(server),
+        star: false,
+    });
     path
 }

@@ -1,8 +1,9 @@
 //! The rule as a whole.
-ghost use Rattle.std.specs.Prelude.{◌≡◌, ℕ, ◌+◌, ◌<◌, ◌≤◌, List, length, Ok, Err, if◌then◌else◌};
+ghost use Rattle.std.specs.Prelude.{◌≡◌, ℕ, ◌+◌, ◌<◌, ◌≤◌, List, length, Ok, Err, IfOk, OnOk, IsTrue, false, if◌then◌else◌};
 ghost use Rattle.std.specs.List.{flat_map};
-ghost use Rattle.tnc2_line.specs.Packet.{text_of, with_comma};
-ghost use Rattle.q_construct.specs.Rule.{is_long, name_of, process_of, traced, with_name, with_path};
+ghost use Rattle.aprs_base.specs.Bytes.{is_station};
+ghost use Rattle.tnc2_line.specs.Packet.{IsParts, text_of, with_comma};
+ghost use Rattle.q_construct.specs.Rule.{among, has_station, is_long, keeps_names, name_of, names_after, process_of, traced, with_name, with_path};
 
 use crate::building::build;
 use crate::drops::{QDrop, check_built, check_given};
@@ -18,7 +19,10 @@ fn add_name(path: &mut Path, name: &Call)
     ensures short { length path.new.items ≤ length path.old.items + 1 }
 {
     if !has_call(name, after(path.as_slice())) {
-        path.push(Via { call: copy_call(name), star: false });
+        path.push(Via {
+            call: copy_call(name),
+            star: false,
+        });
     }
 }
 
@@ -100,7 +104,11 @@ fn finish(parts: &Parts, path: &[Via]) -> Result<Parts, QDrop>
         return Err(QDrop::Long);
     }
     let whole = with_path(parts, path);
-    if text_len(&whole) > 510 { Err(QDrop::Long) } else { Ok(whole) }
+    if text_len(&whole) > 510 {
+        Err(QDrop::Long)
+    } else {
+        Ok(whole)
+    }
 }
 
 #[tactic(auto, unfolding(crate::specs::Rule::process_of))]
@@ -120,4 +128,29 @@ fn process_from(
     check_built(origin, server, others, &built)?;
     trace(&mut built.path, name, server);
     finish(parts, built.path.as_slice())
+}
+
+/// The packet as it goes on from this server, or why it doesn't. `others` are the calls that other verified links
+/// have logged in with.
+pub fn process(
+    parts: &Parts,
+    origin: &Origin,
+    server: &Call,
+    others: &[Call],
+) -> Result<Parts, QDrop>
+    requires parts { IsParts parts.now }
+    requires server { IsTrue (is_station server.now) }
+    requires origin { IsTrue (has_station origin.now) }
+    ensures exact { result ≡ process_of parts.now origin.now server.now others.now }
+    // Its parts are again those of a text, and the text is a line.
+    ensures sound { IfOk result (λ whole. IsParts whole) }
+    ensures short { IfOk result (λ whole. length (text_of whole) ≤ 510) }
+    ensures stays { IfOk result (λ whole. (whole.source ≡ parts.now.source) × (whole.dest ≡ parts.now.dest) × (whole.body ≡ parts.now.body)) }
+    // Between servers each call after the construct stays there.
+    ensures keeps { IsTrue (keeps_names origin.now) → IfOk result (λ whole. (name : List ℕ) → IsTrue (among name (names_after parts.now.vias.items)) → IsTrue (among name (names_after whole.vias.items))) }
+    // What has passed here before doesn't pass again.
+    ensures unnamed { OnOk result (among server.now (names_after parts.now.vias.items) ≡ false) }
+{
+    let name = origin_name(origin);
+    process_from(parts, origin, &name, server, others)
 }
