@@ -27,8 +27,18 @@ fn reads_logins(rt: HostRuntime) {
         (b"user N0CALL pass 13024 vers t 1", Some(13024), false, None),
         (b"USER N0CALL PASS -1", None, false, None),
         (b" user  N0CALL pass 08385", Some(8385), false, None),
-        (b"user N0CALL pass 13023 vers igate 2.1 filter m/50", Some(13023), true, Some((45, 4))),
-        (b"user N0CALL pass 0 filter  r/1/2/3 t/m  ", Some(0), false, Some((27, 11))),
+        (
+            b"user N0CALL pass 13023 vers igate 2.1 filter m/50",
+            Some(13023),
+            true,
+            Some((45, 4)),
+        ),
+        (
+            b"user N0CALL pass 0 filter  r/1/2/3 t/m  ",
+            Some(0),
+            false,
+            Some((27, 11)),
+        ),
     ];
     for (text, code, verified, filter) in cases {
         let line = Line::new(text).expect(&rt, "a line");

@@ -1,5 +1,5 @@
 -- What the rule keeps: a rewritten packet's parts are again parts of a text, with one construct at most.
-use Rattle.std.proofs.Common.{◌≡◌, ℕ, suc, ◌+◌, ◌-◌, ◌<◌, ◌≤◌, Bool, true, false, cond, not, ◌||◌, ◌&&◌, List, [], ◌∷◌, ◌++◌, map, take, drop, length, Option, Some, None, Result, Ok, Err, refl, sym, ap, ◌∙◌, subst, inl, inr, leb, ltb, arith}
+use Rattle.std.proofs.Common.{◌≡◌, ℕ, suc, ◌+◌, ◌-◌, ◌<◌, ◌≤◌, Bool, true, false, cond, not, ◌||◌, ◌&&◌, List, [], ◌∷◌, ◌++◌, map, take, drop, length, Option, Result, Ok, Err, refl, sym, ap, ◌∙◌, subst, leb, ltb, arith}
 use Rattle.std.specs.Prelude.{count_by, codes, IfOk, if◌then◌else◌}
 use Rattle.std.specs.List.{list_all, list_any, position_or_len}
 use Rattle.std.proofs.lemmas.Bool.{and_parts, and_from, or_parts, or_from, or_left, ltb-false, not-true, not_from_false, leb-true}
@@ -10,8 +10,7 @@ use Rattle.aprs_base.specs.Bytes.{is_call, is_construct, is_station}
 use Rattle.aprs_base.specs.declared.packets.Via.{Via}
 use Rattle.tnc2_line.specs.Packet.{IsParts, text_of, names_construct, from_construct, is_element, has_no_star}
 use Rattle.q_construct.specs.declared.origins.Origin.{Origin}
-use Rattle.q_construct.specs.declared.origins.Origin.TheVariants.{Udp, Client, Uplink, Peer}
-use Rattle.q_construct.specs.Rule.{Row, row, first_row, rows, built_row, receive_rows, common_rows, name_of, is_udp, is_unverified, is_only, same, plain, starred, ending, has_construct, first_call, before, given_path, ends_in_gate, ends_in_gate_of, gate_front, gate_call, construct_of, among, names_after, with_name, with_path, traced, refused, when, is_submission, keeps_names, is_alone, bars, begins_with, given_drops, built_drops, is_long, process_of, ◌>>=◌}
+use Rattle.q_construct.specs.Rule.{Row, first_row, rows, built_row, common_rows, name_of, is_udp, is_unverified, same, plain, starred, ending, has_construct, first_call, before, given_path, ends_in_gate, gate_front, gate_call, construct_of, among, names_after, with_name, with_path, traced, refused, when, is_submission, keeps_names, is_alone, bars, begins_with, given_drops, built_drops, is_long, process_of, ◌>>=◌}
 use Rattle.q_construct.specs.declared.drops.QDrop.{QDrop}
 use Rattle.q_construct.specs.declared.drops.QDrop.TheVariants as drop_for
 use Rattle.aprs_base.specs.declared.packets.Parts.{Parts}

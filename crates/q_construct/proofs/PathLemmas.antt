@@ -1,8 +1,7 @@
 -- The parts of a path, by the places of its elements.
-use Rattle.std.proofs.Common.{◌≡◌, ℕ, suc, ◌+◌, ◌-◌, ◌<◌, ◌≤◌, Bool, true, false, cond, not, ◌||◌, ◌&&◌, List, [], ◌∷◌, ◌++◌, map, take, drop, length, get_or, refl, sym, ap, ◌∙◌, inl, inr, arith}
+use Rattle.std.proofs.Common.{◌≡◌, ℕ, suc, ◌+◌, ◌-◌, ◌<◌, ◌≤◌, Bool, true, false, cond, not, ◌||◌, List, [], ◌∷◌, map, take, length, get_or, refl, sym, ap, ◌∙◌, arith}
 use Rattle.std.proofs.lemmas.List.{length-map, take-map}
-use Rattle.std.specs.List.{list_all, list_any, position_or_len}
-use Rattle.aprs_base.specs.Bytes.{is_construct}
+use Rattle.std.specs.List.{list_any, position_or_len}
 use Rattle.aprs_base.specs.declared.packets.Via.{Via}
 use Rattle.tnc2_line.specs.Packet.{names_construct, from_construct}
 use Rattle.q_construct.specs.Rule.{same, among, first_call, construct_of, is_own, is_login_not_last}

@@ -1,5 +1,5 @@
 -- Which row fits.
-use Rattle.std.proofs.Common.{◌≡◌, ℕ, ◌+◌, ◌-◌, ◌<◌, ◌≤◌, Bool, true, false, cond, not, ◌||◌, ◌&&◌, List, [], ◌∷◌, ◌++◌, map, length, refl, sym, ap, ◌∙◌, subst}
+use Rattle.std.proofs.Common.{◌≡◌, ℕ, Bool, true, false, cond, not, ◌||◌, ◌&&◌, List, [], ◌∷◌, ◌++◌, refl, sym, ap, ◌∙◌, subst}
 use Rattle.std.specs.Prelude.{codes}
 use Rattle.std.specs.List.{list_any}
 use Rattle.aprs_base.specs.declared.texts.Addr.{Addr}
@@ -9,7 +9,7 @@ use Rattle.q_construct.specs.Rule.{first_call, Row, row, rows, built_row, first_
 use Rattle.q_construct.specs.Building.{IsBuilt}
 use Rattle.q_construct.specs.declared.building.Built.{Built}
 use Rattle.q_construct.specs.declared.origins.Origin.{Origin}
-use Rattle.q_construct.specs.declared.origins.Origin.TheVariants.{Udp, Client, Uplink, Peer}
+use Rattle.q_construct.specs.declared.origins.Origin.TheVariants.{Client, Uplink, Peer}
 
 -- a path without a construct has none of any letter
 pub construct_none : (path : List Via) → has_construct path ≡ false → construct_of path ≡ []

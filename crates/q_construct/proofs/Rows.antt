@@ -1,6 +1,5 @@
 -- Worked lines: what the rule makes of them at the server T2TEST.
-use Rattle.std.specs.Prelude.{◌≡◌, ℕ, Bool, List, [], ◌∷◌, true, false, Option, Some, None, Ok, Err, refl, codes, Result}
-use Rattle.aprs_base.specs.declared.texts.Addr.{Addr}
+use Rattle.std.specs.Prelude.{◌≡◌, ℕ, List, [], ◌∷◌, true, false, Ok, Err, refl, codes, Result}
 use Rattle.aprs_base.specs.declared.packets.Parts.{Parts}
 use Rattle.tnc2_line.specs.Packet.{parts_of, head_of, via_of, text_of}
 use Rattle.tnc2_line.specs.declared.reading.LineFault.{LineFault}

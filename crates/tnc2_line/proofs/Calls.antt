@@ -1,12 +1,12 @@
 -- The bytes of a call: letters, digits and the dash, and so none of the bytes that part a packet line.
-use Rattle.std.proofs.Common.{◌≡◌, ℕ, suc, ◌+◌, ◌<◌, ◌≤◌, Bool, true, false, cond, not, ◌||◌, ◌&&◌, List, [], ◌∷◌, ◌++◌, take, drop, length, refl, sym, ap, inl, inr, eqb, leb, arith}
+use Rattle.std.proofs.Common.{◌≡◌, ℕ, suc, ◌+◌, ◌≤◌, Bool, true, false, cond, not, ◌||◌, ◌&&◌, List, [], ◌∷◌, take, drop, length, refl, leb, arith}
 use Rattle.std.specs.Prelude.{◌==◌}
-use Rattle.std.specs.List.{list_all, list_any, position_or_len, before_first, after_first}
-use Rattle.std.proofs.lemmas.Bool.{and_parts, and_from, cases_lt, eqb-true, leb-true}
+use Rattle.std.specs.List.{list_all, position_or_len, before_first, after_first}
+use Rattle.std.proofs.lemmas.Bool.{and_parts, and_from, eqb-true, leb-true}
 use Rattle.std.proofs.lemmas.Bool.Decides.{nat_tests}
-use Rattle.std.proofs.lemmas.List.{length-take-le, length-drop}
+use Rattle.std.proofs.lemmas.List.{length-take-le}
 use Rattle.std.proofs.Math.ListN.{drop_of_length-le}
-use Rattle.aprs_base.specs.Bytes.{is_alphanumeric, is_dash, is_call, is_inner, is_digit, is_letter, base_of, ssid_of, is_ssid_text, has_no_bad_ssid}
+use Rattle.aprs_base.specs.Bytes.{is_alphanumeric, is_dash, is_call, is_inner, base_of, ssid_of, is_ssid_text, has_no_bad_ssid}
 use Rattle.tnc2_line.specs.Packet.{is_colon, is_arrow, is_comma, is_star}
 
 abbrev pub is_call_byte : ℕ → Bool

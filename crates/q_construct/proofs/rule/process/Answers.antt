@@ -1,6 +1,5 @@
-use Rattle.std.proofs.Common.{◌≡◌, ℕ, ◌≤◌, List, length, true, false, ap, ◌∙◌, sym}
+use Rattle.std.proofs.Common.{◌≡◌, ◌≤◌, length, true, false, ap, ◌∙◌, sym}
 use Rattle.aprs_base.specs.Bytes.{is_station}
-use Rattle.aprs_base.specs.declared.packets.Parts.{Parts}
 use Rattle.tnc2_line.specs.Packet.{IsParts, text_of}
 use Rattle.q_construct.specs.Rule.{among, name_of, names_after}
 use Rattle.q_construct.proofs.Laws.{Keeps, on_answer, answer_sound, answer_short, answer_stays, answer_keeps, answer_unnamed}
