@@ -1,5 +1,5 @@
 -- The first word of a text: what stands behind its leading blanks, up to the next blank.
-use Rattle.std.proofs.Common.{◌≡◌, ℕ, zero, suc, ◌+◌, ◌-◌, ◌<◌, ◌≤◌, Bool, true, false, cond, not, List, [], ◌∷◌, take, drop, length, refl, sym, ap, inl, inr, ◌∙◌, add-zero, arith}
+use Rattle.std.proofs.Common.{◌≡◌, ℕ, suc, ◌+◌, ◌-◌, ◌<◌, ◌≤◌, true, false, cond, not, List, [], ◌∷◌, take, drop, length, refl, sym, ap, inl, inr, ◌∙◌, add-zero, arith}
 use Rattle.std.specs.Prelude.{◌==◌}
 use Rattle.std.specs.List.{prefix_len, position_or_len, slice_split, slice_range, onto_first}
 use Rattle.std.proofs.lemmas.Bool.{cases_lt}

@@ -1,1 +1,5 @@
+pub mod HexLemmas
+pub mod Laws
+pub mod PathLemmas
+pub mod RowLemmas
 mod Rows

@@ -1,16 +1,17 @@
 -- The q construct rule, as tables on lists of elements (aprs-is.net, q Construct).
-use Rattle.std.specs.Prelude.{ℕ, ◌+◌, ◌-◌, ◌*◌, ◌/◌, ◌%◌, ◌==◌, ◌&&◌, ◌||◌, Bool, true, false, if◌then◌else◌, nat_le, nat_lt, not, List, [], ◌∷◌, ◌++◌, length, take, drop, map, codes, Option, Some, None, Result, Ok, Err, slice_index}
+use Rattle.std.specs.Prelude.{ℕ, ◌+◌, ◌-◌, ◌/◌, ◌%◌, ◌==◌, ◌&&◌, ◌||◌, Bool, true, false, if◌then◌else◌, nat_le, nat_lt, not, List, [], ◌∷◌, ◌++◌, length, take, drop, map, codes, Option, Some, None, Result, Ok, Err, slice_index}
 use Rattle.std.specs.List.{list_any, before_first, after_first, find}
 use Rattle.std.specs.Option.{option_map}
 use Rattle.std.specs.Cmp.Lexicographic.{pointwise}
+use Rattle.aprs_base.specs.Bytes.{is_station}
 use Rattle.aprs_base.specs.declared.texts.Addr.{Addr}
 use Rattle.aprs_base.specs.declared.packets.Via.{Via}
 use Rattle.aprs_base.specs.declared.packets.Parts.{Parts}
 use Rattle.tnc2_line.specs.Packet.{names_construct, from_construct, text_of}
-use Rattle.q_construct.specs.declared.rule.Origin.{Origin}
-use Rattle.q_construct.specs.declared.rule.Origin.TheVariants.{Udp, Client, Uplink, Peer}
-use Rattle.q_construct.specs.declared.rule.QDrop.{QDrop}
-use Rattle.q_construct.specs.declared.rule.QDrop.TheVariants as drop_for
+use Rattle.q_construct.specs.declared.origins.Origin.{Origin}
+use Rattle.q_construct.specs.declared.origins.Origin.TheVariants.{Udp, Client, Uplink, Peer}
+use Rattle.q_construct.specs.declared.drops.QDrop.{QDrop}
+use Rattle.q_construct.specs.declared.drops.QDrop.TheVariants as drop_for
 
 -- ---- names and elements
 
@@ -121,6 +122,17 @@ is_only (Peer call) = false
 abbrev pub is_submission : Origin → Bool
 is_submission origin = is_udp origin || is_client origin
 
+-- a name of an origin that is to be a station's call
+abbrev pub has_station : Origin → Bool
+has_station (Udp login) = is_station login
+has_station (Client login verified only) = is_station login
+has_station (Uplink addr) = true
+has_station (Peer call) = is_station call
+
+-- whether what comes from there keeps the calls after its construct
+abbrev pub keeps_names : Origin → Bool
+keeps_names origin = not (is_udp origin) && not (is_unverified origin)
+
 -- whether the name is the link's own login
 abbrev pub is_own : Origin → List ℕ → Bool
 is_own origin name = is_client origin && same name (name_of origin)
@@ -146,23 +158,32 @@ is_alone login [] = false
 is_alone login (name ∷ []) = same name login
 is_alone login (name ∷ next ∷ names) = false
 
+-- what a gateway that only receives sends for others, on a port for clients alone
+abbrev pub receive_rows : Bool → List ℕ → List Via → List Row
+receive_rows relays name given =
+    row (relays && same (construct_of given) (codes "qAR") && is_alone name (names_after given)) (before given ++ ending (codes "qAo") name) true
+    ∷ row (relays && not (has_construct given) && ends_in_gate_of name given) (gate_front given ++ ending (codes "qAo") name) true
+    ∷ row (relays && not (has_construct given) && not (ends_in_gate given)) (given ++ ending (codes "qAO") name) true
+    ∷ []
+
+-- what else goes on
+abbrev pub common_rows : List ℕ → Origin → List ℕ → List Via → List Row
+common_rows source origin server given =
+    let name = name_of origin in
+    row (has_construct given) given true
+    ∷ row (is_client origin && ends_in_gate_of name given) (gate_front given ++ ending (codes "qAR") name) true
+    ∷ row (ends_in_gate given) (gate_front given ++ ending (codes "qAr") (gate_call given)) true
+    ∷ row (is_client origin && same source name) (starred (codes "TCPIP") ∷ ending (codes "qAC") server) false
+    ∷ row true (given ++ ending (codes "qAS") name) true
+    ∷ []
+
 unfoldable pub rows : List ℕ → Origin → List ℕ → List Via → List Row
 rows source origin server given =
     let name = name_of origin in
-    let own = same source name in
-    let relays = is_only origin && not own in
-    row (is_udp origin && own) (starred (codes "TCPIP") ∷ ending (codes "qAU") server) false
+    row (is_udp origin && same source name) (starred (codes "TCPIP") ∷ ending (codes "qAU") server) false
     ∷ row (is_udp origin) (before given ++ ending (codes "qAU") server) false
     ∷ row (is_unverified origin) (starred (codes "TCPXX") ∷ ending (codes "qAX") server) false
-    ∷ row (relays && same (construct_of given) (codes "qAR") && is_alone name (names_after given)) (before given ++ ending (codes "qAo") name) true
-    ∷ row (relays && not (has_construct given) && ends_in_gate_of name given) (gate_front given ++ ending (codes "qAo") name) true
-    ∷ row (relays && not (has_construct given) && not (ends_in_gate given)) (given ++ ending (codes "qAO") name) true
-    ∷ row (has_construct given) given true
-    ∷ row (is_client origin && ends_in_gate_of name given) (gate_front given ++ ending (codes "qAR") name) true
-    ∷ row (ends_in_gate given) (gate_front given ++ ending (codes "qAr") (gate_call given)) true
-    ∷ row (is_client origin && own) (starred (codes "TCPIP") ∷ ending (codes "qAC") server) false
-    ∷ row true (given ++ ending (codes "qAS") name) true
-    ∷ []
+    ∷ (receive_rows (is_only origin && not (same source name)) name given ++ common_rows source origin server given)
 
 unfoldable pub built_row : List ℕ → Origin → List ℕ → List Via → Row
 built_row source origin server given = first_row (rows source origin server given)
@@ -171,9 +192,9 @@ built_row source origin server given = first_row (rows source origin server give
 abbrev pub with_name : List ℕ → List Via → List Via
 with_name name path = if among name (names_after path) then path else path ++ plain name ∷ []
 
--- behind qAI each server of the way leaves its name
-abbrev pub traced : Origin → List ℕ → List Via → List Via
-traced origin server path = if same (construct_of path) (codes "qAI") then with_name server (with_name (name_of origin) path) else path
+-- behind qAI each server of the way leaves its name, and the one before it if it hasn't
+abbrev pub traced : List ℕ → List ℕ → List Via → List Via
+traced name server path = if same (construct_of path) (codes "qAI") then with_name server (with_name name path) else path
 
 abbrev pub with_path : Parts → List Via → Parts
 with_path parts path = record parts { vias = record { items = path } }
@@ -229,13 +250,13 @@ given_drops parts origin server given =
     ∷ []
 
 -- the drops by the path that is built
-unfoldable pub built_drops : Origin → List ℕ → List (List ℕ) → Row → List (Option QDrop)
-built_drops origin server others built =
-    let names = names_after built.path in
-    only_if built.checked (when (among server names) drop_for.NamesServer)
-    ∷ only_if built.checked (option_map drop_for.Twice (first_twice [] names))
-    ∷ only_if built.checked (option_map drop_for.OtherLogin (first_other origin others names))
-    ∷ only_if built.checked (when (is_login_not_last origin names) drop_for.LoginNotLast)
+unfoldable pub built_drops : Origin → List ℕ → List (List ℕ) → Bool → List Via → List (Option QDrop)
+built_drops origin server others checked path =
+    let names = names_after path in
+    only_if checked (when (among server names) drop_for.NamesServer)
+    ∷ only_if checked (option_map drop_for.Twice (first_twice [] names))
+    ∷ only_if checked (option_map drop_for.OtherLogin (first_other origin others names))
+    ∷ only_if checked (when (is_login_not_last origin names) drop_for.LoginNotLast)
     ∷ []
 
 -- 32 elements at most, and 510 bytes
@@ -248,6 +269,6 @@ process_of parts origin server others = do
   given ← Ok (given_path parts.vias.items)
   _ ← refused (given_drops parts origin server given)
   built ← Ok (built_row parts.source origin server given)
-  _ ← refused (built_drops origin server others built)
-  whole ← Ok (with_path parts (traced origin server built.path))
+  _ ← refused (built_drops origin server others built.checked built.path)
+  whole ← Ok (with_path parts (traced (name_of origin) server built.path))
   if is_long whole then Err drop_for.Long else Ok whole

@@ -1,6 +1,14 @@
 //! The q construct rule: how a server marks the way that a packet came, and which packets it drops.
 #![tactic(auto)]
 
+mod building;
+mod drops;
+mod origins;
+mod paths;
 mod rule;
+#[cfg(test)]
+mod tests;
 
-pub use rule::{Origin, QDrop};
+pub use drops::QDrop;
+pub use origins::Origin;
+pub use rule::process;

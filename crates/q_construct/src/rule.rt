@@ -1,40 +1,156 @@
-//! The rule.
-use aprs_base::{Addr, Call};
+//! The rule as a whole.
+ghost use Rattle.std.specs.Prelude.{◌≡◌, ℕ, ◌+◌, ◌<◌, ◌≤◌, List, length, Ok, Err, IfOk, OnOk, IsTrue, false, if◌then◌else◌};
+ghost use Rattle.std.specs.List.{flat_map};
+ghost use Rattle.aprs_base.specs.Bytes.{is_station};
+ghost use Rattle.tnc2_line.specs.Packet.{IsParts, text_of, with_comma};
+ghost use Rattle.q_construct.specs.Rule.{among, has_station, is_long, keeps_names, name_of, names_after, process_of, traced, with_name, with_path};
 
-/// Where a line came from.
-#[derive(Clone, PartialEq, Eq, Debug, Drop)]
-pub enum Origin {
-    /// A datagram with a login.
-    Udp { login: Call },
-    /// A link that was opened to this server.
-    Client { login: Call, verified: bool, only: bool },
-    /// The server at this address, to which this one has linked itself.
-    Uplink(Addr),
-    /// A server of the same group.
-    Peer(Call),
+use crate::building::build;
+use crate::drops::{QDrop, check_built, check_given};
+use crate::origins::{Origin, origin_name};
+use crate::paths::{Path, after, construct_bytes, given_path, has_call};
+use aprs_base::{Call, Parts, Via, copy_call, copy_via};
+use arrayvec::ArrayVec;
+
+/// Puts the name behind the construct, unless it is there.
+fn add_name(path: &mut Path, name: &Call)
+    requires { length path.old.items < 36 }
+    ensures names { path.new.items ≡ with_name name.now path.old.items }
+    ensures short { length path.new.items ≤ length path.old.items + 1 }
+{
+    if !has_call(name, after(path.as_slice())) {
+        path.push(Via {
+            call: copy_call(name),
+            star: false,
+        });
+    }
 }
 
-/// Why a packet goes no further: the first of these that applies.
-#[derive(Clone, PartialEq, Eq, Debug, Drop)]
-pub enum QDrop {
-    /// The login is unverified, and the source is another.
-    Unverified,
-    /// The path says that the packet stays off the network.
-    NoGate,
-    /// The body is another's packet.
-    ThirdParty,
-    /// The body is a query.
-    Query,
-    /// The construct is qAZ.
-    QAZ,
-    /// This server stands after the construct.
-    NamesServer,
-    /// This call stands after the construct twice.
-    Twice(Call),
-    /// Another link has logged in with this call, which stands after the construct.
-    OtherLogin(Call),
-    /// The link's own login stands after the construct, and not last.
-    LoginNotLast,
-    /// The path has more than 32 elements, or the line more than 510 bytes.
-    Long,
+/// Behind qAI, puts the sender's name and this server's.
+fn trace(path: &mut Path, name: &Call, server: &Call)
+    requires { length path.old.items ≤ 34 }
+    ensures { path.new.items ≡ traced name.now server.now path.old.items }
+{
+    if construct_bytes(path.as_slice()) == b"qAI".as_slice() {
+        add_name(path, name);
+        add_name(path, server);
+    }
+}
+
+/// How many bytes an element has, with the comma before it.
+fn element_len(via: &Via) -> usize
+    ensures value { result ≡ length (with_comma via.now) }
+    ensures bound { result ≤ 11 }
+{
+    let call = via.call.bytes().len();
+    if via.star { call + 2 } else { call + 1 }
+}
+
+fn path_len(vias: &[Via]) -> usize
+    requires { length vias.now ≤ 32 }
+    ensures value { result ≡ length (flat_map with_comma vias.now) }
+    ensures bound { result ≤ 352 }
+{
+    let mut len = 0;
+    for via in vias {
+        len += element_len(via);
+    }
+    len
+}
+
+#[tactic(auto, unfolding(tnc2_line::specs::Packet::text_of))]
+fn text_len(parts: &Parts) -> usize
+    ensures { result ≡ length (text_of parts.now) }
+{
+    let calls = parts.source.bytes().len() + parts.dest.bytes().len();
+    calls + path_len(parts.vias.as_slice()) + parts.body.len() + 2
+}
+
+fn copy_vias(path: &[Via]) -> ArrayVec<Via, 32>
+    requires { length path.now ≤ 32 }
+    ensures { result.items ≡ path.now }
+{
+    let mut vias: ArrayVec<Via, 32> = ArrayVec::new();
+    for via in path {
+        vias.push(copy_via(via));
+    }
+    vias
+}
+
+fn copy_text(body: &ArrayVec<u8, 510>) -> ArrayVec<u8, 510>
+    ensures { result ≡ body.now }
+{
+    body.clone().unwrap()
+}
+
+/// The parts with this path.
+fn with_path(parts: &Parts, path: &[Via]) -> Parts
+    requires { length path.now ≤ 32 }
+    ensures { result ≡ with_path parts.now path.now }
+{
+    Parts {
+        source: copy_call(&parts.source),
+        dest: copy_call(&parts.dest),
+        vias: copy_vias(path),
+        body: copy_text(&parts.body),
+    }
+}
+
+/// The parts with this path, where they aren't too long.
+fn finish(parts: &Parts, path: &[Via]) -> Result<Parts, QDrop>
+    ensures { result ≡ (if is_long (with_path parts.now path.now) then Err QDrop.Long else Ok (with_path parts.now path.now)) }
+{
+    if path.len() > 32 {
+        return Err(QDrop::Long);
+    }
+    let whole = with_path(parts, path);
+    if text_len(&whole) > 510 {
+        Err(QDrop::Long)
+    } else {
+        Ok(whole)
+    }
+}
+
+#[tactic(auto, unfolding(crate::specs::Rule::process_of))]
+fn process_from(
+    parts: &Parts,
+    origin: &Origin,
+    name: &Call,
+    server: &Call,
+    others: &[Call],
+) -> Result<Parts, QDrop>
+    requires { name.now ≡ name_of origin.now }
+    ensures { result ≡ process_of parts.now origin.now server.now others.now }
+{
+    let given = given_path(parts.vias.as_slice());
+    check_given(parts, origin, server, given)?;
+    let mut built = build(&parts.source, origin, name, server, given);
+    check_built(origin, server, others, &built)?;
+    trace(&mut built.path, name, server);
+    finish(parts, built.path.as_slice())
+}
+
+/// The packet as it goes on from this server, or why it doesn't. `others` are the calls that other verified links
+/// have logged in with.
+pub fn process(
+    parts: &Parts,
+    origin: &Origin,
+    server: &Call,
+    others: &[Call],
+) -> Result<Parts, QDrop>
+    requires parts { IsParts parts.now }
+    requires server { IsTrue (is_station server.now) }
+    requires origin { IsTrue (has_station origin.now) }
+    ensures exact { result ≡ process_of parts.now origin.now server.now others.now }
+    // Its parts are again those of a text, and the text is a line.
+    ensures sound { IfOk result (λ whole. IsParts whole) }
+    ensures short { IfOk result (λ whole. length (text_of whole) ≤ 510) }
+    ensures stays { IfOk result (λ whole. (whole.source ≡ parts.now.source) × (whole.dest ≡ parts.now.dest) × (whole.body ≡ parts.now.body)) }
+    // Between servers each call after the construct stays there.
+    ensures keeps { IsTrue (keeps_names origin.now) → IfOk result (λ whole. (name : List ℕ) → IsTrue (among name (names_after parts.now.vias.items)) → IsTrue (among name (names_after whole.vias.items))) }
+    // What has passed here before doesn't pass again.
+    ensures unnamed { OnOk result (among server.now (names_after parts.now.vias.items) ≡ false) }
+{
+    let name = origin_name(origin);
+    process_from(parts, origin, &name, server, others)
 }

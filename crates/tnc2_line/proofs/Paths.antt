@@ -1,8 +1,8 @@
 -- The elements of a path, written and read.
-use Rattle.std.proofs.Common.{◌≡◌, ℕ, suc, ◌+◌, ◌<◌, ◌≤◌, Bool, true, false, cond, not, ◌||◌, ◌&&◌, List, [], ◌∷◌, ◌++◌, map, take, drop, length, Option, Some, None, Result, Ok, Err, refl, sym, ap, ◌∙◌, inl, inr, leb, ltb, arith, append_assoc}
+use Rattle.std.proofs.Common.{◌≡◌, ℕ, ◌+◌, ◌<◌, ◌≤◌, Bool, true, false, cond, not, ◌||◌, ◌&&◌, List, [], ◌∷◌, ◌++◌, map, take, length, Option, Some, None, Ok, refl, sym, ap, ◌∙◌, inl, inr, leb, ltb, arith, append_assoc}
 use Rattle.std.specs.List.{list_all, list_any, position_or_len, before_first, after_first, slice_split, flat_map, join_with_byte}
 use Rattle.std.specs.Option.{ok_or, option_and_then}
-use Rattle.std.proofs.lemmas.Bool.{and_parts, and_from, cases_lt, lt-ltb, ltb-true, le-leb, leb-true, eqb-true}
+use Rattle.std.proofs.lemmas.Bool.{and_parts, and_from, cases_lt, lt-ltb, ltb-true, leb-true, eqb-true}
 use Rattle.std.proofs.lemmas.Bool.Decides.{nat_tests}
 use Rattle.std.proofs.lemmas.Grind.{common_steps}
 use Rattle.std.proofs.lemmas.List.{length-append, append-nil, take_all, nil_from_length}
@@ -11,7 +11,6 @@ use Rattle.std.proofs.Math.Bool.{and-true, and-false, or-false}
 use Rattle.aprs_base.specs.Bytes.{is_call}
 use Rattle.aprs_base.specs.declared.packets.Via.{Via}
 use Rattle.tnc2_line.specs.Packet.{via_of, via_text, with_comma, is_star, is_comma, is_element, has_no_star, names_construct, from_construct, may_follow, next_via, vias_of, ◌>>=◌}
-use Rattle.tnc2_line.specs.declared.reading.LineFault.{LineFault}
 use Rattle.tnc2_line.specs.declared.reading.LineFault.TheVariants as fault
 use Rattle.tnc2_line.proofs.Calls.{call_without, no_star, no_comma}
 use Rattle.tnc2_line.proofs.Cuts.{position_at, position_none, any_at, any_none, cut_whole, cut_there, split_cut, split_none, parted}

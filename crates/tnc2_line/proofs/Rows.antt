@@ -1,9 +1,7 @@
 -- Worked lines: what the definitions make of them.
-use Rattle.std.specs.Prelude.{◌≡◌, ℕ, List, [], ◌∷◌, true, false, Some, None, Ok, Err, refl, codes, Result}
+use Rattle.std.specs.Prelude.{◌≡◌, [], ◌∷◌, true, false, Some, Ok, Err, refl, codes}
 use Rattle.tnc2_line.specs.Packet.{parts_of, text_of, is_parts, construct_at, via_of, head_of}
-use Rattle.tnc2_line.specs.declared.reading.LineFault.{LineFault}
 use Rattle.tnc2_line.specs.declared.reading.LineFault.TheVariants as fault
-use Rattle.aprs_base.specs.declared.packets.Via.{Via}
 use Rattle.aprs_base.specs.declared.packets.Parts.{Parts}
 
 no_colon : parts_of (codes "K1ABC") ≡ Err fault.NoColon

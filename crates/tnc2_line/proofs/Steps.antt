@@ -1,5 +1,5 @@
 -- The last step of the reading, from what the steps before it gave.
-use Rattle.std.proofs.Common.{◌≡◌, ℕ, List, Option, Some, None, Result, Ok, Err, refl, ap, ◌∙◌, sym}
+use Rattle.std.proofs.Common.{◌≡◌, ℕ, List, Result, Ok, ap, ◌∙◌, sym}
 use Rattle.std.specs.Option.{ok_or}
 use Rattle.aprs_base.specs.declared.packets.Via.{Via}
 use Rattle.aprs_base.specs.declared.packets.Parts.{Parts}

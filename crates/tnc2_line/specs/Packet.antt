@@ -1,5 +1,5 @@
 -- Packet lines: the reading of a text as a function of the whole text, and the texts of parts as a relation.
-use Rattle.std.specs.Prelude.{ℕ, ◌+◌, ◌==◌, ◌&&◌, ◌||◌, ◌≡◌, Bool, true, false, cond, if◌then◌else◌, nat_le, nat_lt, not, List, [], ◌∷◌, ◌++◌, length, IsTrue, Option, Some, None, Result, Ok, Err, count_by, position}
+use Rattle.std.specs.Prelude.{ℕ, ◌+◌, ◌==◌, ◌&&◌, ◌||◌, ◌≡◌, Bool, if◌then◌else◌, nat_le, nat_lt, not, List, [], ◌∷◌, ◌++◌, length, IsTrue, Option, Some, None, Result, Ok, Err, count_by, position}
 use Rattle.std.specs.List.{list_all, list_any, before_first, after_first, slice_split, flat_map}
 use Rattle.std.specs.Option.{ok_or, option_and_then}
 use Rattle.aprs_base.specs.Bytes.{is_call, is_construct, is_inner}

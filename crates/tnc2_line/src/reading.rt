@@ -4,7 +4,7 @@ ghost use Rattle.std.specs.List.{list_any, slice_split};
 ghost use Rattle.std.specs.Option.{ok_or, option_map};
 ghost use Rattle.aprs_base.specs.Bytes.{IsLine};
 ghost use Rattle.memchr.specs.Find.{is_byte};
-ghost use Rattle.tnc2_line.specs.Packet.{IsPacket, call_of, checked_body, checked_path, construct_at, cut_at, head_of, is_comma, is_construct_via, may_follow, names_construct, next_via, parts_of, path_of, via_of, vias_of};
+ghost use Rattle.tnc2_line.specs.Packet.{IsPacket, IsParts, call_of, checked_body, checked_path, construct_at, cut_at, head_of, is_comma, is_construct_via, may_follow, names_construct, next_via, parts_of, path_of, via_of, vias_of};
 ghost use Rattle.tnc2_line.specs.Pieces.{Gives, pieces_of};
 
 use aprs_base::{Call, Line, Parts, Via, first_place, is_construct_text};
@@ -196,6 +196,7 @@ fn read_parts(line: &Line) -> Result<Parts, LineFault>
 /// The parts of a packet line, or its first fault.
 pub fn read(line: &Line) -> Result<Parts, LineFault>
     ensures exact { result ≡ parts_of line.now }
+    ensures sound { IfOk result (λ parts. IsParts parts) }
     // What is read is the packet of that line.
     ensures packet { IfOk result (λ parts. IsPacket line.now parts) }
     // The packet of a line is read, so no line has two.

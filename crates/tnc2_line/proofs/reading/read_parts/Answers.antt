@@ -1,4 +1,3 @@
-use Rattle.std.proofs.Common.{◌∙◌}
 use Rattle.std.proofs.lemmas.Result.{err_from_is_err_and}
 use Rattle.tnc2_line.proofs.Steps.{parts_at}
 use Rattle.tnc2_line.proofs.reading.read_parts.Goals as goal

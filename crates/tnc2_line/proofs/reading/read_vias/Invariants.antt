@@ -1,4 +1,4 @@
-use Rattle.std.proofs.Common.{◌≡◌, ℕ, List, [], length}
+use Rattle.std.proofs.Common.{◌≡◌, [], length}
 use Rattle.std.specs.Option.{option_map}
 use Rattle.tnc2_line.specs.Packet.{vias_of}
 use Rattle.tnc2_line.specs.Pieces.{pieces_of}

@@ -1,7 +1,6 @@
-use Rattle.std.proofs.Common.{◌≡◌, ℕ, ◌<◌, ◌≤◌, [], ◌++◌, List, length, ap, subst, sym, false, true, arith, ◌∙◌}
+use Rattle.std.proofs.Common.{◌≡◌, ℕ, ◌≤◌, [], ◌++◌, List, length, ap, subst, sym, arith, ◌∙◌}
 use Rattle.aprs_base.specs.Bytes.{IsLine}
-use Rattle.aprs_base.specs.declared.packets.Parts.{Parts}
-use Rattle.tnc2_line.specs.Packet.{IsParts, parts_of, text_of}
+use Rattle.tnc2_line.specs.Packet.{parts_of, text_of}
 use Rattle.tnc2_line.proofs.Laws.{line_of_parts, parts_back}
 use Rattle.tnc2_line.proofs.writing.write.Goals as goal
 
