@@ -33,5 +33,14 @@ place_at lat lon table code used =
     given (int_le lat (pos 90000000)) (λ north.
     given (int_le (negsuc 179999999) lon) (λ west.
     given (int_le lon (pos 180000000)) (λ east.
-    Some (record { lat = lat; lon = lon; table = table; code = code; used = used;
-        south = record { le = south }; north = record { le = north }; west = record { le = west }; east = record { le = east } })))))
+    Some (record {
+      lat = lat;
+      lon = lon;
+      table = table;
+      code = code;
+      used = used;
+      south = record { le = south };
+      north = record { le = north };
+      west = record { le = west };
+      east = record { le = east };
+    })))))

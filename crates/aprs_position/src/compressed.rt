@@ -1,11 +1,11 @@
-//! The compressed form of a position, `/YYYYXXXX$csT`, and the choice between the two forms.
+//! The compressed form of a position, `/YYYYXXXX$csT`.
 ghost use Rattle.std.specs.Prelude.{◌≡◌, ℕ, ◌-◌, ◌*◌, ◌≤◌, IfSome, ◌-ℤ◌, pos, ◌/◌};
 ghost use Rattle.std.specs.List.{list_all};
+ghost use Rattle.aprs_base.specs.declared.packets.Place.{Place};
 ghost use Rattle.aprs_position.specs.Compressed.{compressed_place, is_base91, scaled_of, table_of};
-ghost use Rattle.aprs_position.specs.Either.{either_place};
+ghost use Rattle.aprs_position.specs.Grammar.{BeginsCompressed};
 
-use crate::places::{is_code, is_table, place};
-use crate::plain::read_plain;
+use crate::places::{is_code, is_table, place_at};
 use aprs_base::Place;
 
 /// Half the globe from pole to pole, and the whole of it round the equator, in the units of the form.
@@ -42,7 +42,8 @@ fn read_scaled(text: &[u8]) -> Option<u32>
     if !all_base91(text) {
         return None;
     }
-    let number = ((base91_digit(*a) * 91 + base91_digit(*b)) * 91 + base91_digit(*c)) * 91 + base91_digit(*d);
+    let number = ((base91_digit(*a) * 91 + base91_digit(*b)) * 91 + base91_digit(*c)) * 91
+        + base91_digit(*d);
     (number <= WHOLE).then_some(number)
 }
 
@@ -73,8 +74,7 @@ fn longitude(units: u32) -> i32
     (u64::from(units) * 1_000_000 / 190_463) as i32 - 180_000_000
 }
 
-/// The place that `text` begins with, in the compressed form. `None` exactly where it begins with none.
-pub fn read_compressed(text: &[u8]) -> Option<Place>
+fn parse(text: &[u8]) -> Option<Place>
     ensures { result ≡ compressed_place text.now }
 {
     if text.len() < 13 {
@@ -86,15 +86,14 @@ pub fn read_compressed(text: &[u8]) -> Option<Place>
     if !is_code(text[9]) {
         return None;
     }
-    place(latitude(south), longitude(east), table, text[9], 13)
+    place_at(latitude(south), longitude(east), table, text[9], 13)
 }
 
-/// The place that `text` begins with: in the plain form where it begins with a digit, else in the compressed one.
-pub fn read_either(text: &[u8]) -> Option<Place>
-    ensures { result ≡ either_place text.now }
+/// The place that `text` begins with, in the compressed form. `None` exactly where it begins with none.
+pub fn read_compressed(text: &[u8]) -> Option<Place>
+    ensures exact { result ≡ compressed_place text.now }
+    ensures read { IfSome result (BeginsCompressed text.now) }
+    ensures only { (place : Place) → BeginsCompressed text.now place → result ≡ Some place }
 {
-    match text.first() {
-        Some(b'0'..=b'9') => read_plain(text),
-        _ => read_compressed(text),
-    }
+    parse(text)
 }

@@ -2,9 +2,13 @@
 #![tactic(auto)]
 
 mod compressed;
+mod either;
 mod places;
 mod plain;
+#[cfg(test)]
+mod tests;
 
-pub use compressed::{read_compressed, read_either};
-pub use places::{is_code, is_table, place};
+pub use compressed::read_compressed;
+pub use either::read_either;
+pub use places::{is_code, is_table, place_at};
 pub use plain::read_plain;

@@ -25,11 +25,17 @@ fn is_on_globe(lat: i32, lon: i32) -> bool
 }
 
 /// The place of these numbers. `None` exactly where they aren't on the globe.
-pub fn place(lat: i32, lon: i32, table: u8, code: u8, used: u16) -> Option<Place>
+pub fn place_at(lat: i32, lon: i32, table: u8, code: u8, used: u16) -> Option<Place>
     ensures { result ≡ place_at lat lon table code used }
 {
     if !is_on_globe(lat, lon) {
         return None;
     }
-    Some(Place { lat, lon, table, code, used })
+    Some(Place {
+        lat,
+        lon,
+        table,
+        code,
+        used,
+    })
 }

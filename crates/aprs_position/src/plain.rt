@@ -2,10 +2,12 @@
 ghost use Rattle.std.specs.Prelude.{◌≡◌, ℕ, ◌+◌, ◌*◌, ◌^◌, ◌<◌, ◌≤◌, IfSome, length};
 ghost use Rattle.std.specs.List.{list_all, prefix_len};
 ghost use Rattle.aprs_base.specs.Bytes.{is_blank, is_digit};
+ghost use Rattle.aprs_base.specs.declared.packets.Place.{Place};
+ghost use Rattle.aprs_position.specs.Grammar.{BeginsPlain};
 ghost use Rattle.aprs_position.specs.Places.{is_code, is_table};
 ghost use Rattle.aprs_position.specs.Plain.{angle_of, degrees_of, digit_value, ends_in_blanks, hundredths_of, plain_place, toward};
 
-use crate::places::{is_code, is_table, place};
+use crate::places::{is_code, is_table, place_at};
 use aprs_base::Place;
 
 /// What a digit counts, and 0 for a blank.
@@ -111,17 +113,30 @@ fn toward(angle: u32, letter: u8, plus: u8, minus: u8) -> Option<i32>
     }
 }
 
-/// The place that `text` begins with, in the plain form. `None` exactly where it begins with none.
-pub fn read_plain(text: &[u8]) -> Option<Place>
+fn parse(text: &[u8]) -> Option<Place>
     ensures { result ≡ plain_place text.now }
 {
     if text.len() < 19 {
         return None;
     }
     let lat = toward(read_angle(&text[..2], &text[2..7])?, text[7], b'N', b'S')?;
-    let lon = toward(read_angle(&text[9..12], &text[12..17])?, text[17], b'E', b'W')?;
+    let lon = toward(
+        read_angle(&text[9..12], &text[12..17])?,
+        text[17],
+        b'E',
+        b'W',
+    )?;
     if !is_table(text[8]) || !is_code(text[18]) {
         return None;
     }
-    place(lat, lon, text[8], text[18], 19)
+    place_at(lat, lon, text[8], text[18], 19)
+}
+
+/// The place that `text` begins with, in the plain form. `None` exactly where it begins with none.
+pub fn read_plain(text: &[u8]) -> Option<Place>
+    ensures exact { result ≡ plain_place text.now }
+    ensures read { IfSome result (BeginsPlain text.now) }
+    ensures only { (place : Place) → BeginsPlain text.now place → result ≡ Some place }
+{
+    parse(text)
 }
