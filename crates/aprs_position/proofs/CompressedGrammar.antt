@@ -1,7 +1,6 @@
 -- What the compressed form's definition reads is what its grammar writes.
-use Rattle.std.proofs.Common.{◌≡◌, ℕ, ◌+◌, ◌-◌, ◌*◌, ◌/◌, ◌<◌, ◌≤◌, Bool, true, false, cond, not, ◌&&◌, ◌||◌, ◌⊎◌, inl, inr, ℤ, pos, ◌-ℤ◌, ltb, leb, eqb, List, [], ◌∷◌, ◌++◌, length, take, drop, get_or, Some, None, refl, sym, ap, subst, ◌∙◌, arith}
+use Rattle.std.proofs.Common.{◌≡◌, ℕ, ◌+◌, ◌-◌, ◌*◌, ◌/◌, ◌<◌, ◌≤◌, true, false, not, ◌&&◌, inl, inr, ℤ, pos, ◌-ℤ◌, ltb, leb, List, [], ◌∷◌, ◌++◌, length, take, drop, get_or, Some, refl, sym, ap, subst, ◌∙◌, arith}
 use Rattle.std.specs.List.{list_all}
-use Rattle.std.specs.declared.option.Option.{Option}
 use Rattle.std.proofs.lemmas.Bool.Decides.{nat_tests}
 use Rattle.std.proofs.lemmas.Option.{same_Some}
 use Rattle.std.proofs.Math.Bool.{and-false}
@@ -10,7 +9,7 @@ use Rattle.aprs_base.specs.Bytes.{is_digit}
 use Rattle.aprs_base.specs.declared.packets.Place.{Place}
 use Rattle.aprs_position.specs.Places.{is_code, is_table, place_at}
 use Rattle.aprs_position.specs.Compressed.{base91, compressed_place, is_base91, scaled_of, table_of}
-use Rattle.aprs_position.specs.Grammar.{BeginsCompressed, IsCompressed, NamesTable, WritesScaled}
+use Rattle.aprs_position.specs.Grammar.{BeginsCompressed, NamesTable, WritesScaled}
 use Rattle.aprs_position.proofs.PlaceLemmas.{place_at_numbers, place_at_used}
 use Rattle.aprs_position.proofs.Steps.{both, bound, chosen, fails_guard, four_same, guarded, holds_both, holds_guard, not_true, three, unless}
 

@@ -1,6 +1,5 @@
 -- A position in either form: the first byte tells which.
-use Rattle.std.proofs.Common.{◌≡◌, ℕ, Bool, true, false, cond, ◌⊎◌, inl, inr, List, get_or, Some, ◌∙◌, sym}
-use Rattle.std.specs.declared.option.Option.{Option}
+use Rattle.std.proofs.Common.{◌≡◌, ℕ, inl, inr, List, get_or, Some, ◌∙◌}
 use Rattle.aprs_base.specs.Bytes.{is_digit}
 use Rattle.aprs_base.specs.declared.packets.Place.{Place}
 use Rattle.aprs_position.specs.Compressed.{compressed_place}

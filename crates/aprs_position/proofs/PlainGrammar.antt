@@ -1,14 +1,13 @@
 -- What the plain form's definition reads is what its grammar writes.
-use Rattle.std.proofs.Common.{◌≡◌, ℕ, ◌+◌, ◌*◌, ◌/◌, ◌<◌, ◌≤◌, Bool, true, false, cond, ◌&&◌, ◌⊎◌, inl, inr, ℤ, pos, negsuc, neg_ℤ, ltb, leb, eqb, List, [], ◌∷◌, ◌++◌, length, take, drop, get_or, Some, None, refl, sym, ap, ◌∙◌, arith}
+use Rattle.std.proofs.Common.{◌≡◌, ℕ, ◌+◌, ◌*◌, ◌/◌, ◌<◌, Bool, true, false, cond, ◌&&◌, inl, inr, ℤ, pos, neg_ℤ, ltb, eqb, List, [], ◌∷◌, ◌++◌, length, take, drop, get_or, Some, refl, sym, ap, ◌∙◌, arith}
 use Rattle.std.specs.List.{list_all}
-use Rattle.std.specs.declared.option.Option.{Option}
 use Rattle.std.proofs.lemmas.Bool.Decides.{nat_tests}
-use Rattle.std.proofs.lemmas.Bool.{eqb-true, eq-eqb, false≢true, ltb-true, ltb-false, le-ltb, lt-ltb}
+use Rattle.std.proofs.lemmas.Bool.{eqb-true, eq-eqb, false≢true, ltb-true, le-ltb, lt-ltb}
 use Rattle.aprs_base.specs.Bytes.{is_blank, is_digit}
 use Rattle.aprs_base.specs.declared.packets.Place.{Place}
 use Rattle.aprs_position.specs.Places.{is_code, is_table, place_at}
-use Rattle.aprs_position.specs.Plain.{angle, angle_of, digit_value, degrees_of, ends_in_blanks, hundredths_of, number, plain_place, toward, whole_of}
-use Rattle.aprs_position.specs.Grammar.{Begins, BeginsPlain, IsPlain, IsToward, WritesAngle}
+use Rattle.aprs_position.specs.Plain.{angle, angle_of, digit_value, degrees_of, ends_in_blanks, hundredths_of, number, plain_place, toward}
+use Rattle.aprs_position.specs.Grammar.{BeginsPlain, IsToward, WritesAngle}
 use Rattle.aprs_position.proofs.PlaceLemmas.{place_at_numbers, place_at_used}
 use Rattle.aprs_position.proofs.Steps.{both, bound, chosen, guarded, mapped, three, two, unless}
 

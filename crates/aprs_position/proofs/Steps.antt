@@ -1,5 +1,5 @@
 -- Steps and tests turned round: what a value at the end says of each step.
-use Rattle.std.proofs.Common.{◌≡◌, ℕ, Bool, true, false, cond, not, ◌&&◌, ◌⊎◌, inl, inr, List, [], ◌∷◌, length, Some, None, refl, sym, ◌≤◌, ltb, arith}
+use Rattle.std.proofs.Common.{◌≡◌, ℕ, Bool, true, false, cond, not, ◌&&◌, ◌⊎◌, inl, inr, List, [], ◌∷◌, length, Some, None, refl, sym, arith}
 use Rattle.std.specs.declared.option.Option.{Option}
 use Rattle.std.specs.Option.{IfSome, option_map}
 use Rattle.aprs_position.specs.Places.{◌>>=◌}

@@ -1,5 +1,5 @@
 -- The plain form of a position, `DDMM.hhN/DDDMM.hhW$` (APRS Protocol Reference 1.0.1, Lat/Long Format, Position Ambiguity).
-use Rattle.std.specs.Prelude.{ℕ, ◌+◌, ◌-◌, ◌*◌, ◌/◌, ◌==◌, ◌&&◌, ℤ, pos, neg_ℤ, Bool, true, false, nat_lt, List, [], ◌∷◌, length, slice_index, slice_range, Some, None, if◌then◌else◌}
+use Rattle.std.specs.Prelude.{ℕ, ◌+◌, ◌-◌, ◌*◌, ◌/◌, ◌==◌, ◌&&◌, ℤ, pos, neg_ℤ, Bool, true, nat_lt, List, [], ◌∷◌, length, slice_index, slice_range, Some, None, if◌then◌else◌}
 use Rattle.std.specs.List.{fold, list_all}
 use Rattle.std.specs.declared.option.Option.{Option}
 use Rattle.std.specs.Option.{option_map}

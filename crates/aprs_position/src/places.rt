@@ -4,7 +4,7 @@ ghost use Rattle.aprs_position.specs.Places.{OnGlobe, is_code, is_table, place_a
 
 use aprs_base::Place;
 
-/// Whether a byte names a symbol's table: `/`, `\\`, a digit or a capital letter.
+/// Whether a byte names a symbol's table: `/`, `\`, a digit or a capital letter.
 pub fn is_table(byte: u8) -> bool
     ensures { result ≡ is_table byte }
 {

@@ -1,6 +1,5 @@
 use Rattle.std.proofs.Common.{◌≡◌, sym, ◌∙◌, to_z, of_z, w32, rules}
 use Rattle.std.proofs.lemmas.Int.{to_z-of_z}
-use Rattle.aprs_position.specs.Places.{place_at}
 use Rattle.aprs_position.proofs.PlaceLemmas.{place_at_none, place_at_same}
 use Rattle.aprs_position.proofs.places.place_at.Goals as goal
 

@@ -1,4 +1,4 @@
-use Rattle.std.proofs.Common.{rules, arith, ◌∙◌}
+use Rattle.std.proofs.Common.{arith}
 use Rattle.std.proofs.lemmas.Grind.{common_steps}
 use Rattle.aprs_position.proofs.PlainLemmas.{blank_after_digits}
 use Rattle.aprs_position.proofs.plain.ends_in_blanks.Goals as goal
