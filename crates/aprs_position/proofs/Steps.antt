@@ -1,5 +1,5 @@
 -- Steps and tests turned round: what a value at the end says of each step.
-use Rattle.std.proofs.Common.{◌≡◌, ℕ, Bool, true, false, cond, not, ◌&&◌, ◌⊎◌, inl, inr, List, [], ◌∷◌, length, Some, None, refl, sym, arith}
+use Rattle.std.proofs.Common.{◌≡◌, ℕ, Bool, true, false, cond, not, ◌&&◌, ◌||◌, ◌⊎◌, inl, inr, List, [], ◌∷◌, length, Some, None, refl, sym, arith}
 use Rattle.std.specs.declared.option.Option.{Option}
 use Rattle.std.specs.Option.{IfSome, option_map}
 use Rattle.aprs_position.specs.Places.{◌>>=◌}
@@ -64,3 +64,15 @@ four_same a b c d e f g h ae bf cg dh = cc
 pub if_some : {A : Type 0} (o f : Option A) (P : A → Type 0) → o ≡ f → ((x : A) → f ≡ Some x → P x) → IfSome o P
 if_some (Some x) f P e law = law x (sym e)
 if_some None f P e law = tt
+
+pub either : (a b : Bool) → (a || b) ≡ true → (a ≡ true) ⊎ (b ≡ true)
+either true b h = inl refl
+either false b h = inr h
+
+pub neither : (a b : Bool) → (a || b) ≡ false → (a ≡ false) × (b ≡ false)
+neither true b h = cc
+neither false b h = (refl, h)
+
+pub not_false : (b : Bool) → not b ≡ false → b ≡ true
+not_false true h = refl
+not_false false h = cc

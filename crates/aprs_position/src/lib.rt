@@ -11,4 +11,4 @@ mod tests;
 pub use compressed::read_compressed;
 pub use either::read_either;
 pub use places::{is_code, is_table, place_at};
-pub use plain::read_plain;
+pub use plain::{angle, read_plain};

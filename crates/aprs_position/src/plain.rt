@@ -5,7 +5,7 @@ ghost use Rattle.aprs_base.specs.Bytes.{is_blank, is_digit};
 ghost use Rattle.aprs_base.specs.declared.packets.Place.{Place};
 ghost use Rattle.aprs_position.specs.Grammar.{BeginsPlain};
 ghost use Rattle.aprs_position.specs.Places.{is_code, is_table};
-ghost use Rattle.aprs_position.specs.Plain.{angle_of, degrees_of, digit_value, ends_in_blanks, hundredths_of, plain_place, toward};
+ghost use Rattle.aprs_position.specs.Plain.{angle, angle_of, degrees_of, digit_value, ends_in_blanks, hundredths_of, plain_place, toward};
 
 use crate::places::{is_code, is_table, place_at};
 use aprs_base::Place;
@@ -89,13 +89,20 @@ fn read_degrees(text: &[u8]) -> Option<u32>
 }
 
 /// An angle in millionths of a degree.
+pub fn angle(degrees: u32, hundredths: u32) -> u32
+    requires degrees { degrees < 1000 }
+    requires minutes { hundredths < 6000 }
+    ensures value { result ≡ angle degrees hundredths }
+    ensures below { result ≤ 1000000000 }
+{
+    degrees * 1_000_000 + (u64::from(hundredths) * 1_000_000 / 6000) as u32
+}
+
 fn read_angle(degrees: &[u8], minutes: &[u8]) -> Option<u32>
     ensures value { result ≡ angle_of degrees.now minutes.now }
     ensures below { IfSome result (λ n. n ≤ 1000000000) }
 {
-    let degrees = read_degrees(degrees)?;
-    let hundredths = u64::from(read_hundredths(minutes)?);
-    Some(degrees * 1_000_000 + (hundredths * 1_000_000 / 6000) as u32)
+    Some(angle(read_degrees(degrees)?, read_hundredths(minutes)?))
 }
 
 /// The angle that a letter gives its side: `plus` keeps it, `minus` makes it negative.
