@@ -1,13 +1,10 @@
-// A library with one function.
+//! What the bodies of packets say: their classes, places, names and receivers.
 #![tactic(auto)]
 
-ghost use Rattle.std.specs.Prelude.{◌≡◌};
-ghost use Rattle.aprs_body.specs.Echo.{echo_of};
+pub mod class;
+mod forms;
+mod table;
+#[cfg(test)]
+mod tests;
 
-// The `ensures` clause is the contract: what `echo` returns is `echo_of` of its argument, a definition
-// in `specs/Echo.antt`, which a caller's clause can cite too.
-pub fn echo(x: usize) -> usize
-    ensures { result ≡ echo_of x }
-{
-    x
-}
+pub use table::classify;

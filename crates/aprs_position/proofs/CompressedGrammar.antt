@@ -150,6 +150,7 @@ compressed_written text place table south east at t s e code placed =
     }
 
 pub compressed_read : (text : List ℕ) (place : Place) → compressed_place text ≡ Some place → BeginsCompressed text place
+unfolding compressed_place
 compressed_read text place given =
     let sized = unless (ltb (length text) 13) _ place given in
     let table = bound (table_of (get_or text 0 0)) _ place sized.1 in
@@ -163,6 +164,7 @@ compressed_columns : (overlay a b c d e f g h code k l m : ℕ) (rest : List ℕ
     table_of overlay ≡ Some place.table → scaled_of (a ∷ b ∷ c ∷ d ∷ []) ≡ Some south → scaled_of (e ∷ f ∷ g ∷ h ∷ []) ≡ Some east → is_code code ≡ true →
     place_at (lat_of south) (lon_of east) place.table code 13 ≡ Some place →
     compressed_place (overlay ∷ a ∷ b ∷ c ∷ d ∷ e ∷ f ∷ g ∷ h ∷ code ∷ k ∷ l ∷ m ∷ rest) ≡ Some place
+unfolding compressed_place
 compressed_columns overlay a b c d e f g h code k l m rest place south east t s x symbol placed =
     let long : ltb (length (overlay ∷ a ∷ b ∷ c ∷ d ∷ e ∷ f ∷ g ∷ h ∷ code ∷ k ∷ l ∷ m ∷ rest)) 13 ≡ false = le-ltb _ _ (omega arith) in
     rw (long, t, s, x, symbol) placed
@@ -192,6 +194,7 @@ compressed_again text place begins =
 
 -- no digit begins the compressed form
 pub compressed_first : (text : List ℕ) (place : Place) → compressed_place text ≡ Some place → is_digit (get_or text 0 0) ≡ false
+unfolding compressed_place
 compressed_first text place h =
     let sized = unless (ltb (length text) 13) _ place h in
     let table = bound (table_of (get_or text 0 0)) _ place sized.1 in

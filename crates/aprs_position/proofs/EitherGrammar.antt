@@ -11,6 +11,7 @@ use Rattle.aprs_position.proofs.PlainGrammar.{plain_again, plain_first, plain_re
 use Rattle.aprs_position.proofs.Steps.{chosen, fails_guard, holds_guard}
 
 pub either_read : (text : List ℕ) (place : Place) → either_place text ≡ Some place → BeginsPosition text place
+unfolding either_place
 either_read text place h =
     elim (chosen (is_digit (get_or text 0 0)) (plain_place text) (compressed_place text) (Some place) h) [
       | inl plain ↦ inl (plain_read text place plain.1)
@@ -18,6 +19,7 @@ either_read text place h =
     ]
 
 pub either_again : (text : List ℕ) (place : Place) → BeginsPosition text place → either_place text ≡ Some place
+unfolding either_place
 either_again text place (inl plain) =
     let is = plain_again text place plain in
     holds_guard _ _ _ (plain_first text place is) ∙ is

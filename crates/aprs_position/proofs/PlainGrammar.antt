@@ -220,6 +220,7 @@ plain_written text place north east lat lon at n la e lo table code placed =
     }
 
 pub plain_read : (text : List ℕ) (place : Place) → plain_place text ≡ Some place → BeginsPlain text place
+unfolding plain_place
 plain_read text place given =
     let sized = unless (ltb (length text) 19) _ place given in
     let north = bound (angle_of (take 2 text) (take 5 (drop 2 text))) _ place sized.1 in
@@ -236,6 +237,7 @@ plain_columns : (a b m n h i north t c d e k l o q east code : ℕ) (rest : List
     toward 78 83 north y ≡ Some place.lat → toward 69 87 east x ≡ Some place.lon → is_table t ≡ true → is_code code ≡ true →
     place_at place.lat place.lon t code 19 ≡ Some place →
     plain_place (a ∷ b ∷ m ∷ n ∷ 46 ∷ h ∷ i ∷ north ∷ t ∷ c ∷ d ∷ e ∷ k ∷ l ∷ 46 ∷ o ∷ q ∷ east ∷ code ∷ rest) ≡ Some place
+unfolding plain_place
 plain_columns a b m n h i north t c d e k l o q east code rest place y x ya xa la lo table symbol placed =
     let long : ltb (length (a ∷ b ∷ m ∷ n ∷ 46 ∷ h ∷ i ∷ north ∷ t ∷ c ∷ d ∷ e ∷ k ∷ l ∷ 46 ∷ o ∷ q ∷ east ∷ code ∷ rest)) 19 ≡ false = le-ltb _ _ (omega arith) in
     rw (long, ya, la, xa, lo, table, symbol) placed
@@ -282,6 +284,7 @@ plain_again text place begins =
 
 -- the plain form begins with a digit
 pub plain_first : (text : List ℕ) (place : Place) → plain_place text ≡ Some place → is_digit (get_or text 0 0) ≡ true
+unfolding plain_place
 plain_first [] place h = cc
 plain_first (a ∷ []) place h = cc
 plain_first (a ∷ b ∷ more) place h =

@@ -25,7 +25,7 @@ abbrev pub table_of : ℕ → Option ℕ
 table_of b = if nat_le 97 b && nat_le b 106 then Some (b - 97 + 48) else if is_table b && not (is_digit b) then Some b else None
 
 -- the place that a text begins with, in the compressed form
-abbrev pub compressed_place : List ℕ → Option Place
+unfoldable pub compressed_place : List ℕ → Option Place
 compressed_place text = if nat_lt (length text) 13 then None else do
   table ← table_of (slice_index text 0)
   south ← scaled_of (slice_range text 1 5)

@@ -46,7 +46,7 @@ abbrev pub toward : (plus minus letter angle : ℕ) → Option ℤ
 toward plus minus letter angle = if letter == plus then Some (pos angle) else if letter == minus then Some (neg_ℤ (pos angle)) else None
 
 -- the place that a text begins with, in the plain form
-abbrev pub plain_place : List ℕ → Option Place
+unfoldable pub plain_place : List ℕ → Option Place
 plain_place text = if nat_lt (length text) 19 then None else do
   north ← angle_of (slice_range text 0 2) (slice_range text 2 7)
   lat ← toward 78 83 (slice_index text 7) north

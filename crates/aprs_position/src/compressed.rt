@@ -74,6 +74,7 @@ fn longitude(units: u32) -> i32
     (u64::from(units) * 1_000_000 / 190_463) as i32 - 180_000_000
 }
 
+#[tactic(auto, unfolding(crate::specs::Compressed::compressed_place))]
 fn parse(text: &[u8]) -> Option<Place>
     ensures { result ≡ compressed_place text.now }
 {

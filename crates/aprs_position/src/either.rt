@@ -8,6 +8,7 @@ use crate::compressed::read_compressed;
 use crate::plain::read_plain;
 use aprs_base::Place;
 
+#[tactic(auto, unfolding(crate::specs::Either::either_place))]
 fn parse(text: &[u8]) -> Option<Place>
     ensures { result ≡ either_place text.now }
 {

@@ -120,6 +120,7 @@ fn toward(angle: u32, letter: u8, plus: u8, minus: u8) -> Option<i32>
     }
 }
 
+#[tactic(auto, unfolding(crate::specs::Plain::plain_place))]
 fn parse(text: &[u8]) -> Option<Place>
     ensures { result ≡ plain_place text.now }
 {

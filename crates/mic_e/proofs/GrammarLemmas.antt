@@ -330,6 +330,7 @@ written a b c d e f body place lat lon long mark la lo code table placed =
 
 read_six : (a b c d e f : ℕ) (body : List ℕ) (place : Place) → place_of (a ∷ b ∷ c ∷ d ∷ e ∷ f ∷ []) body ≡ Some place →
     WritesMicE (a ∷ b ∷ c ∷ d ∷ e ∷ f ∷ []) body place
+unfolding place_of
 read_six a b c d e f body place h =
     let sized = unless (ltb (length body) 9 || not (is_mark (get_or body 0 0))) _ place h in
     let tests = neither (ltb (length body) 9) (not (is_mark (get_or body 0 0))) sized.0 in
@@ -345,6 +346,7 @@ no_place true place h = cc
 no_place false place h = cc
 
 pub place_read : (base body : List ℕ) (place : Place) → place_of base body ≡ Some place → WritesMicE base body place
+unfolding place_of
 place_read (a ∷ b ∷ c ∷ d ∷ e ∷ f ∷ []) body place h = read_six a b c d e f body place h
 place_read _ body place h = absurd (no_place _ place h)
 
@@ -352,6 +354,7 @@ columns : (a b c d e f mark x y z s t u : ℕ) (rest : List ℕ) (place : Place)
     from_equator (a ∷ b ∷ c ∷ d ∷ e ∷ f ∷ []) ≡ Some lat → from_greenwich (cond (is_set e) 100 0) (x ∷ y ∷ z ∷ []) ≡ Some lon →
     is_code place.code ≡ true → is_table place.table ≡ true → place_at (signed (is_set d) lat) (signed (not (is_set f)) lon) place.table place.code 9 ≡ Some place →
     place_of (a ∷ b ∷ c ∷ d ∷ e ∷ f ∷ []) (mark ∷ x ∷ y ∷ z ∷ s ∷ t ∷ u ∷ place.code ∷ place.table ∷ rest) ≡ Some place
+unfolding place_of
 columns a b c d e f mark x y z s t u rest place lat lon marked la lo code table placed =
     let long : ltb (length (mark ∷ x ∷ y ∷ z ∷ s ∷ t ∷ u ∷ place.code ∷ place.table ∷ rest)) 9 ≡ false = le-ltb _ _ (omega arith) in
     rw (long, marked, la, lo, code, table) placed

@@ -69,7 +69,7 @@ abbrev pub bit : List ℕ → ℕ → Bool
 bit base place = is_set (slice_index base place)
 
 -- the place of a destination's base and a body: the last three bits say north, a hundred degrees more, and west
-abbrev pub place_of : (base body : List ℕ) → Option Place
+unfoldable pub place_of : (base body : List ℕ) → Option Place
 place_of base body = if nat_lt (length body) 9 || not (is_mark (slice_index body 0)) then None else do
   lat ← from_equator base
   lon ← from_greenwich (if bit base 4 then 100 else 0) (slice_range body 1 4)

@@ -143,6 +143,7 @@ fn is_mark(byte: u8) -> bool
     byte == b'`' || byte == b'\''
 }
 
+#[tactic(auto, unfolding(crate::specs::MicE::place_of))]
 fn parse(dest: &Call, body: &[u8]) -> Option<Place>
     ensures { result ≡ mic_e_place dest.now body.now }
 {
