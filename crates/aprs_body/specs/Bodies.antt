@@ -44,49 +44,55 @@ named class name live (Some place) = record { class = bit_or class (weather_of p
 abbrev pub life_of : (sign mark : ℕ) → Option Bool
 life_of sign mark = if mark == sign then Some true else if mark == 95 then Some false else None
 
+-- nothing, where the mark is neither
 abbrev pub if_marked : Option Bool → (Bool → Body) → Body
 if_marked None reading = bare 0
 if_marked (Some live) reading = reading live
 
--- nine bytes of name, `*` or `_`, seven bytes of time, and a position
+-- nine bytes of name, `*` or `_`, seven bytes of time, and a position (Object Report Format)
 abbrev pub object_of : List ℕ → Body
 object_of text = if nat_lt (length text) 18 then bare 0 else if_marked (life_of 42 (slice_index text 10)) (λ live.
     named (bit_or object_bit (nws_of (slice_range text 1 10))) (without_trailing_blanks (slice_range text 1 10)) live (either_place (drop 18 text)))
 
--- a name of three to nine bytes up to the first `!` or `_`, and a position
+-- the end of an item's name, live or killed
 abbrev pub is_item_mark : ℕ → Bool
 is_item_mark b = b == 33 || b == 95
 
+-- how long a name is: up to its mark
 abbrev pub name_len : List ℕ → ℕ
 name_len text = position_or_len is_item_mark text
 
+-- a name of three to nine bytes up to its mark, and a position (Item Report Format)
 abbrev pub item_in : List ℕ → Body
 item_in text =
     if nat_le 3 (name_len text) && nat_le (name_len text) 9 && nat_lt (name_len text) (length text)
     then named item_bit (take (name_len text) text) (slice_index text (name_len text) == 33) (either_place (drop (name_len text + 1) text))
     else bare 0
 
+-- the same after the first byte
 abbrev pub item_of : List ℕ → Body
 item_of text = item_in (drop 1 text)
 
--- the words that begin a telemetry station's definitions
+-- the words that begin a telemetry station's definitions (On-Air Definition of Telemetry Parameters)
 abbrev pub telemetry_words : List (List ℕ)
 telemetry_words = codes "PARM." ∷ codes "UNIT." ∷ codes "EQNS." ∷ codes "BITS." ∷ []
 
+-- the class of a message by its text
 abbrev pub message_class : List ℕ → ℕ
 message_class text = if list_any (starts_with ◌==◌ text) telemetry_words then telemetry_bit else message_bit
 
--- nine bytes of receiver, `:` and a text
+-- nine bytes of receiver, `:` and a text (Message Format)
 abbrev pub message_of : List ℕ → Body
 message_of text =
     if slice_index text 10 == 58
     then record { class = bit_or (message_class (drop 11 text)) (nws_of (slice_range text 1 10)); place = None; name = None; live = false; to = Some (without_trailing_blanks (slice_range text 1 10)) }
     else bare 0
 
+-- a telemetry report (Telemetry Report Format)
 abbrev pub telemetry_of : List ℕ → Body
 telemetry_of text = if starts_with ◌==◌ text (codes "T#") then bare telemetry_bit else bare 0
 
--- The class table: the first bytes of each row, and what is read of a destination and a body that begins with one.
+-- A row of the class table: its first bytes, and what is read of a destination and a body that begins with one.
 pub record Row : Type 0 where
   pub firsts : List ℕ
   pub reads : List ℕ → List ℕ → Body
@@ -94,6 +100,7 @@ pub record Row : Type 0 where
 abbrev pub row : List ℕ → (List ℕ → List ℕ → Body) → Row
 row firsts reads = record { firsts = firsts; reads = reads }
 
+-- the class table (APRS Data Type Identifiers)
 abbrev pub rows : List Row
 rows =
     row (codes "!=") (λ dest text. positioned (either_place (drop 1 text)))
@@ -114,6 +121,7 @@ abbrev pub read_by : List Row → ℕ → (dest text : List ℕ) → Body
 read_by [] b dest text = bare 0
 read_by (r ∷ more) b dest text = if list_any (λ first. b == first) r.firsts then r.reads dest text else read_by more b dest text
 
+-- what a packet's destination and body say
 unfoldable pub body_of : (dest body : List ℕ) → Body
 body_of dest [] = bare 0
 body_of dest (b ∷ more) = read_by rows b dest (b ∷ more)

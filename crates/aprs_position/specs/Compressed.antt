@@ -24,7 +24,7 @@ scaled_of _ = None
 abbrev pub table_of : ℕ → Option ℕ
 table_of b = if nat_le 97 b && nat_le b 106 then Some (b - 97 + 48) else if is_table b && not (is_digit b) then Some b else None
 
--- the place that a text begins with, in the compressed form
+-- the place that a text begins with, in the compressed form (Compressed Position Report Data Formats)
 unfoldable pub compressed_place : List ℕ → Option Place
 compressed_place text = if nat_lt (length text) 13 then None else do
   table ← table_of (slice_index text 0)

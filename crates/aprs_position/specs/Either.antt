@@ -6,5 +6,6 @@ use Rattle.aprs_base.specs.declared.packets.Place.{Place}
 use Rattle.aprs_position.specs.Compressed.{compressed_place}
 use Rattle.aprs_position.specs.Plain.{plain_place}
 
+-- the place that a text begins with
 unfoldable pub either_place : List ℕ → Option Place
 either_place text = if is_digit (slice_index text 0) then plain_place text else compressed_place text

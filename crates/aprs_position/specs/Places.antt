@@ -23,6 +23,7 @@ abbrev pub given : {A : Type 0} (test : Bool) → (T test → Option A) → Opti
 given true value = value tt
 given false value = None
 
+-- a latitude and a longitude, north and east positive, in millionths of a degree
 abbrev pub OnGlobe : ℤ → ℤ → Type 0
 OnGlobe lat lon = (negsuc 89999999 ≤ℤ lat) × (lat ≤ℤ pos 90000000) × (negsuc 179999999 ≤ℤ lon) × (lon ≤ℤ pos 180000000)
 

@@ -8,10 +8,11 @@ use Rattle.aprs_base.specs.declared.packets.Place.{Place}
 use Rattle.aprs_position.specs.Places.{◌>>=◌, is_code, is_table, place_at}
 use Rattle.aprs_position.specs.Plain.{angle}
 
+-- a byte from the lowest to the highest
 abbrev pub between : (low high : ℕ) → ℕ → Bool
 between low high b = nat_le low b && nat_le b high
 
--- the digit that a byte of the destination stands for; a blank counts as 0
+-- the digit that a byte of the destination stands for (Mic-E Destination Field Encoding); a blank counts as 0
 abbrev pub digit_of : ℕ → Option ℕ
 digit_of b =
     if between 48 57 b then Some (b - 48) else  -- 0 to 9
@@ -23,6 +24,7 @@ digit_of b =
 abbrev pub is_custom : ℕ → Bool
 is_custom b = between 65 75 b
 
+-- the digit at one of the last three places
 abbrev pub late_digit_of : ℕ → Option ℕ
 late_digit_of b = if is_custom b then None else digit_of b
 
@@ -30,6 +32,7 @@ late_digit_of b = if is_custom b then None else digit_of b
 abbrev pub is_set : ℕ → Bool
 is_set b = between 80 90 b
 
+-- north and east are positive
 abbrev pub signed : (positive : Bool) → ℕ → ℤ
 signed positive n = if positive then pos n else neg_ℤ (pos n)
 
@@ -46,11 +49,11 @@ from_equator (a ∷ b ∷ c ∷ d ∷ e ∷ f ∷ []) = do
   if nat_lt minutes 60 then Some (angle degrees (minutes * 100 + hundredths)) else None
 from_equator _ = None
 
--- 180 to 189 stand for 100 to 109, and 190 to 199 for 0 to 9
+-- the degrees of longitude that are sent (Mic-E Information Field, Longitude): 180 to 189 stand for 100 to 109, and 190 to 199 for 0 to 9
 abbrev pub degrees_of : ℕ → ℕ
 degrees_of d = if between 180 189 d then d - 80 else if between 190 199 d then d - 190 else d
 
--- 60 and more stand for 0 and more
+-- the minutes that are sent: 60 and more stand for 0 and more
 abbrev pub minutes_of : ℕ → ℕ
 minutes_of m = if nat_lt m 60 then m else m - 60
 
@@ -76,5 +79,6 @@ place_of base body = if nat_lt (length body) 9 || not (is_mark (slice_index body
   if is_code (slice_index body 7) && is_table (slice_index body 8)
       then place_at (signed (bit base 3) lat) (signed (not (bit base 5)) lon) (slice_index body 8) (slice_index body 7) 9 else None
 
+-- the place of a packet's destination and body
 abbrev pub mic_e_place : (dest body : List ℕ) → Option Place
 mic_e_place dest body = place_of (base_of dest) body
