@@ -1,0 +1,54 @@
+-- Bodies of the public standard's kinds, computed by the definition.
+use Rattle.std.proofs.Common.{◌≡◌, ℕ, ℤ, pos, negsuc, Bool, true, false, List, Some, None, refl}
+use Rattle.std.specs.Prelude.{codes}
+use Rattle.std.specs.declared.option.Option.{Option}
+use Rattle.std.specs.Option.{option_map}
+use Rattle.aprs_base.specs.declared.packets.Body.{Body}
+use Rattle.aprs_position.specs.Either.{either_place}
+use Rattle.aprs_position.specs.Plain.{plain_place}
+use Rattle.aprs_position.specs.Compressed.{compressed_place}
+use Rattle.mic_e.specs.MicE.{place_of}
+use Rattle.aprs_body.specs.Bodies.{body_of}
+
+-- a body's class, place and names
+abbrev parts : Body → ℕ × Option (ℤ × ℤ) × Option (List ℕ) × Bool × Option (List ℕ)
+parts body = (body.class, option_map (λ p. (p.lat, p.lon)) body.place, body.name, body.live, body.to)
+
+abbrev home : Option (ℤ × ℤ)
+home = Some (pos 49058333, negsuc 72029165)
+
+object_row : parts (body_of (codes "APRS") (codes ";LEADER   *092345z4903.50N/07201.75W>")) ≡ (2, home, Some (codes "LEADER"), true, None)
+unfolding body_of either_place plain_place
+object_row = refl
+
+item_row : parts (body_of (codes "APRS") (codes ")AID #2!4903.50N/07201.75WA")) ≡ (4, home, Some (codes "AID #2"), true, None)
+unfolding body_of either_place plain_place
+item_row = refl
+
+warning_row : parts (body_of (codes "APRS") (codes ":NWS-WARN :x")) ≡ (264, None, None, false, Some (codes "NWS-WARN"))
+unfolding body_of
+warning_row = refl
+
+definitions_row : parts (body_of (codes "APRS") (codes ":N0CALL-1 :PARM.A")) ≡ (64, None, None, false, Some (codes "N0CALL-1"))
+unfolding body_of
+definitions_row = refl
+
+weather_row : parts (body_of (codes "APRS") (codes "@092345z4903.50N/07201.75W_")) ≡ (513, home, None, false, None)
+unfolding body_of either_place plain_place
+weather_row = refl
+
+bad_position_row : parts (body_of (codes "APRS") (codes "!bad")) ≡ (1, None, None, false, None)
+unfolding body_of either_place compressed_place
+bad_position_row = refl
+
+short_object_row : parts (body_of (codes "APRS") (codes ";short")) ≡ (0, None, None, false, None)
+unfolding body_of
+short_object_row = refl
+
+telemetry_row : parts (body_of (codes "APRS") (codes "T#001")) ≡ (64, None, None, false, None)
+unfolding body_of
+telemetry_row = refl
+
+lone_mark_row : parts (body_of (codes "APRS") (codes "`")) ≡ (1, None, None, false, None)
+unfolding body_of place_of
+lone_mark_row = refl

@@ -1,0 +1,10 @@
+//! What the bodies of packets say: their classes, places, names and receivers.
+#![tactic(auto)]
+
+pub mod class;
+mod forms;
+mod table;
+#[cfg(test)]
+mod tests;
+
+pub use table::classify;

@@ -1,0 +1,94 @@
+-- The two forms of a position as grammars: which texts write which place, apart from how they are read
+-- (APRS Protocol Reference 1.0.1, Lat/Long Format, Position Ambiguity, Compressed Position Report Data Formats).
+use Rattle.std.specs.Prelude.{◌≡◌, ℕ, ◌+◌, ◌*◌, ◌/◌, ◌<◌, ◌≤◌, ◌⊎◌, ℤ, pos, neg_ℤ, ◌-ℤ◌, List, [], ◌∷◌, ◌++◌, length, IsTrue, IsFalse}
+use Rattle.std.specs.List.{list_all}
+use Rattle.aprs_base.specs.Bytes.{is_blank, is_digit}
+use Rattle.aprs_base.specs.declared.packets.Place.{Place}
+use Rattle.aprs_position.specs.Places.{is_code, is_table}
+use Rattle.aprs_position.specs.Plain.{number}
+
+-- the text begins with a front in the form, and the place says how long it is
+pub record Begins (form : List ℕ → Place → Type 0) (text : List ℕ) (place : Place) : Type 0 where
+  pub front : List ℕ
+  pub rest : List ℕ
+  pub split : text ≡ front ++ rest
+  pub form_of : form front place
+  pub used : place.used ≡ length front
+
+-- `DDMM.hh` or `DDDMM.hh`: the last of the digits MMhh may be blank, which counts as 0, and the minutes are below 60
+pub record WritesAngle (count : ℕ) (text : List ℕ) (angle : ℕ) : Type 0 where
+  pub degrees : List ℕ
+  pub minutes : List ℕ
+  pub hundredths : List ℕ
+  pub shown : List ℕ
+  pub blanks : List ℕ
+  pub spelled : text ≡ degrees ++ (minutes ++ (46 ∷ hundredths))
+  pub lengths : (length degrees ≡ count) × (length minutes ≡ 2) × (length hundredths ≡ 2)
+  pub whole : IsTrue (list_all is_digit degrees)
+  pub ambiguity : minutes ++ hundredths ≡ shown ++ blanks
+  pub digits : IsTrue (list_all is_digit shown)
+  pub blank : IsTrue (list_all is_blank blanks)
+  pub below : number minutes < 60
+  pub value : angle ≡ number degrees * 1000000 + (number minutes * 100 + number hundredths) * 1000000 / 6000
+
+-- the letter of the positive side, or that of the negative one
+abbrev pub IsToward : (plus minus letter angle : ℕ) → ℤ → Type 0
+IsToward plus minus letter angle value = ((letter ≡ plus) × (value ≡ pos angle)) ⊎ ((letter ≡ minus) × (value ≡ neg_ℤ (pos angle)))
+
+-- `DDMM.hhN/DDDMM.hhW$`
+pub record IsPlain (text : List ℕ) (place : Place) : Type 0 where
+  pub latitude : List ℕ
+  pub longitude : List ℕ
+  pub from_equator : ℕ
+  pub from_greenwich : ℕ
+  pub north : ℕ
+  pub east : ℕ
+  pub spelled : text ≡ latitude ++ (north ∷ place.table ∷ (longitude ++ (east ∷ place.code ∷ [])))
+  pub latitude_angle : WritesAngle 2 latitude from_equator
+  pub longitude_angle : WritesAngle 3 longitude from_greenwich
+  pub lat : IsToward 78 83 north from_equator place.lat
+  pub lon : IsToward 69 87 east from_greenwich place.lon
+  pub table : IsTrue (is_table place.table)
+  pub code : IsTrue (is_code place.code)
+
+-- four digits to base 91, the highest first, each written 33 above itself; their number is at most 180 times 380926
+pub record WritesScaled (text : List ℕ) (units : ℕ) : Type 0 where
+  pub a : ℕ
+  pub b : ℕ
+  pub c : ℕ
+  pub d : ℕ
+  pub below : (a < 91) × (b < 91) × (c < 91) × (d < 91)
+  pub spelled : text ≡ (a + 33) ∷ (b + 33) ∷ (c + 33) ∷ (d + 33) ∷ []
+  pub value : units ≡ a * 753571 + b * 8281 + c * 91 + d
+  pub within : units ≤ 68566680
+
+-- a table but a digit is written as itself, and a digit as a letter `a` to `j`
+abbrev pub NamesTable : (byte table : ℕ) → Type 0
+NamesTable byte table = (IsTrue (is_digit table) × (byte ≡ table + 49)) ⊎ (IsFalse (is_digit table) × IsTrue (is_table table) × (byte ≡ table))
+
+-- `/YYYYXXXX$csT`, the last three of any value
+pub record IsCompressed (text : List ℕ) (place : Place) : Type 0 where
+  pub overlay : ℕ
+  pub y : List ℕ
+  pub x : List ℕ
+  pub course : List ℕ
+  pub south : ℕ
+  pub east : ℕ
+  pub spelled : text ≡ overlay ∷ (y ++ (x ++ (place.code ∷ course)))
+  pub three : length course ≡ 3
+  pub table : NamesTable overlay place.table
+  pub from_pole : WritesScaled y south
+  pub from_date_line : WritesScaled x east
+  pub lat : place.lat ≡ pos 90000000 -ℤ pos (south * 1000000 / 380926)
+  pub lon : place.lon ≡ pos (east * 1000000 / 190463) -ℤ pos 180000000
+  pub code : IsTrue (is_code place.code)
+
+abbrev pub BeginsPlain : List ℕ → Place → Type 0
+BeginsPlain = Begins IsPlain
+
+abbrev pub BeginsCompressed : List ℕ → Place → Type 0
+BeginsCompressed = Begins IsCompressed
+
+-- either form
+abbrev pub BeginsPosition : List ℕ → Place → Type 0
+BeginsPosition text place = BeginsPlain text place ⊎ BeginsCompressed text place

@@ -1,0 +1,5 @@
+pub mod Places
+pub mod Plain
+pub mod Compressed
+pub mod Either
+pub mod Grammar

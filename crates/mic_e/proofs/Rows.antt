@@ -1,0 +1,27 @@
+-- Positions of the public standard's own examples, computed by the definition.
+use Rattle.std.proofs.Common.{◌≡◌, ℕ, ℤ, pos, negsuc, Some, None, refl}
+use Rattle.std.specs.Prelude.{codes}
+use Rattle.std.specs.declared.option.Option.{Option}
+use Rattle.std.specs.Option.{option_map}
+use Rattle.aprs_base.specs.declared.packets.Place.{Place}
+use Rattle.mic_e.specs.MicE.{mic_e_place, place_of}
+
+-- a place's numbers
+abbrev numbers : Option Place → Option (ℤ × ℤ × ℕ × ℕ × ℕ)
+numbers place = option_map (λ p. (p.lat, p.lon, p.table, p.code, p.used)) place
+
+west_of_greenwich : numbers (mic_e_place (codes "S32U6T") (codes "`(_fn\"Oj/")) ≡ Some (pos 33427333, negsuc 12128999, 47, 106, 9)
+unfolding place_of
+west_of_greenwich = refl
+
+a_hundred_degrees_more : numbers (mic_e_place (codes "S32UVT-7") (codes "`(_fn\"Oj/")) ≡ Some (pos 33427333, negsuc 112128999, 47, 106, 9)
+unfolding place_of
+a_hundred_degrees_more = refl
+
+short_body : mic_e_place (codes "S32U6T") (codes "`(_fn\"Oj") ≡ None
+unfolding place_of
+short_body = refl
+
+short_destination : mic_e_place (codes "S32U6") (codes "`(_fn\"Oj/") ≡ None
+unfolding place_of
+short_destination = refl

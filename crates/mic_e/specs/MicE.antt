@@ -1,0 +1,84 @@
+-- A position whose latitude stands in the destination (APRS Protocol Reference 1.0.1, Mic-E Data Format).
+use Rattle.std.specs.Prelude.{ℕ, ◌+◌, ◌-◌, ◌*◌, ◌==◌, ◌&&◌, ◌||◌, ℤ, pos, neg_ℤ, Bool, not, nat_lt, nat_le, List, [], ◌∷◌, length, slice_index, slice_range, Some, None, if◌then◌else◌}
+use Rattle.std.specs.List.{list_all}
+use Rattle.std.specs.declared.option.Option.{Option}
+use Rattle.std.specs.Option.{option_map}
+use Rattle.aprs_base.specs.Bytes.{base_of}
+use Rattle.aprs_base.specs.declared.packets.Place.{Place}
+use Rattle.aprs_position.specs.Places.{◌>>=◌, is_code, is_table, place_at}
+use Rattle.aprs_position.specs.Plain.{angle}
+
+-- a byte from the lowest to the highest
+abbrev pub between : (low high : ℕ) → ℕ → Bool
+between low high b = nat_le low b && nat_le b high
+
+-- the digit that a byte of the destination stands for (Mic-E Destination Field Encoding); a blank counts as 0
+abbrev pub digit_of : ℕ → Option ℕ
+digit_of b =
+    if between 48 57 b then Some (b - 48) else  -- 0 to 9
+    if between 65 74 b then Some (b - 65) else  -- A to J
+    if between 80 89 b then Some (b - 80) else  -- P to Y
+    if b == 75 || b == 76 || b == 90 then Some 0 else None  -- K, L and Z: a blank
+
+-- A to K stand at the first three places alone
+abbrev pub is_custom : ℕ → Bool
+is_custom b = between 65 75 b
+
+-- the digit at one of the last three places
+abbrev pub late_digit_of : ℕ → Option ℕ
+late_digit_of b = if is_custom b then None else digit_of b
+
+-- P to Z set their place's bit
+abbrev pub is_set : ℕ → Bool
+is_set b = between 80 90 b
+
+-- north and east are positive
+abbrev pub signed : (positive : Bool) → ℕ → ℤ
+signed positive n = if positive then pos n else neg_ℤ (pos n)
+
+-- a number of two digits
+abbrev pub pair : (tens ones : Option ℕ) → Option ℕ
+pair tens ones = tens >>= λ t. option_map (λ o. t * 10 + o) ones
+
+-- six bytes, degrees, minutes below 60, and their hundredths: how far from the equator
+abbrev pub from_equator : List ℕ → Option ℕ
+from_equator (a ∷ b ∷ c ∷ d ∷ e ∷ f ∷ []) = do
+  degrees ← pair (digit_of a) (digit_of b)
+  minutes ← pair (digit_of c) (late_digit_of d)
+  hundredths ← pair (late_digit_of e) (late_digit_of f)
+  if nat_lt minutes 60 then Some (angle degrees (minutes * 100 + hundredths)) else None
+from_equator _ = None
+
+-- the degrees of longitude that are sent (Mic-E Information Field, Longitude): 180 to 189 stand for 100 to 109, and 190 to 199 for 0 to 9
+abbrev pub degrees_of : ℕ → ℕ
+degrees_of d = if between 180 189 d then d - 80 else if between 190 199 d then d - 190 else d
+
+-- the minutes that are sent: 60 and more stand for 0 and more
+abbrev pub minutes_of : ℕ → ℕ
+minutes_of m = if nat_lt m 60 then m else m - 60
+
+-- three bytes, degrees, minutes and their hundredths, each 28 above its number: how far from Greenwich
+abbrev pub from_greenwich : (more : ℕ) → List ℕ → Option ℕ
+from_greenwich more (x ∷ y ∷ z ∷ []) =
+    if list_all (between 28 127) (x ∷ y ∷ z ∷ []) then Some (angle (degrees_of (x - 28 + more)) (minutes_of (y - 28) * 100 + (z - 28))) else None
+from_greenwich more _ = None
+
+-- the first byte of such a body
+abbrev pub is_mark : ℕ → Bool
+is_mark b = b == 96 || b == 39
+
+-- a bit of the base
+abbrev pub bit : List ℕ → ℕ → Bool
+bit base place = is_set (slice_index base place)
+
+-- the place of a destination's base and a body: the last three bits say north, a hundred degrees more, and west
+unfoldable pub place_of : (base body : List ℕ) → Option Place
+place_of base body = if nat_lt (length body) 9 || not (is_mark (slice_index body 0)) then None else do
+  lat ← from_equator base
+  lon ← from_greenwich (if bit base 4 then 100 else 0) (slice_range body 1 4)
+  if is_code (slice_index body 7) && is_table (slice_index body 8)
+      then place_at (signed (bit base 3) lat) (signed (not (bit base 5)) lon) (slice_index body 8) (slice_index body 7) 9 else None
+
+-- the place of a packet's destination and body
+abbrev pub mic_e_place : (dest body : List ℕ) → Option Place
+mic_e_place dest body = place_of (base_of dest) body

@@ -1,0 +1,171 @@
+//! Positions whose latitude stands in the destination's call.
+#![tactic(auto)]
+
+#[cfg(test)]
+mod tests;
+
+ghost use Rattle.std.specs.Prelude.{◌≡◌, ℕ, ◌+◌, ◌-◌, ◌*◌, ◌<◌, ◌≤◌, ◌^◌, IfSome, OnSome, length, not, if◌then◌else◌};
+ghost use Rattle.std.specs.List.{list_all};
+ghost use Rattle.aprs_base.specs.declared.packets.Place.{Place};
+ghost use Rattle.mic_e.specs.Grammar.{IsMicE};
+ghost use Rattle.mic_e.specs.MicE.{between, degrees_of, digit_of, is_custom, is_mark, is_set, late_digit_of, from_equator, from_greenwich, mic_e_place, minutes_of, pair, signed};
+
+use aprs_base::{Call, Place};
+use aprs_position::{angle, is_code, is_table, place_at};
+
+/// The digit that a byte of the destination stands for, and 0 for a blank.
+fn digit(byte: u8) -> Option<u32>
+    ensures value { result ≡ digit_of byte }
+    ensures below { IfSome result (λ n. n ≤ 9) }
+{
+    match byte {
+        b'0'..=b'9' => Some(u32::from(byte - b'0')),
+        b'A'..=b'J' => Some(u32::from(byte - b'A')),
+        b'P'..=b'Y' => Some(u32::from(byte - b'P')),
+        b'K' | b'L' | b'Z' => Some(0),
+        _ => None,
+    }
+}
+
+/// The same at the last three places, where `A` to `K` can't stand.
+fn late_digit(byte: u8) -> Option<u32>
+    ensures value { result ≡ late_digit_of byte }
+    ensures below { IfSome result (λ n. n ≤ 9) }
+{
+    match byte {
+        b'A'..=b'K' => None,
+        _ => digit(byte),
+    }
+}
+
+/// Whether a byte sets the bit of its place.
+fn is_set(byte: u8) -> bool
+    ensures { result ≡ is_set byte }
+{
+    matches!(byte, b'P'..=b'Z')
+}
+
+/// An angle to one side or to the other.
+fn signed(angle: u32, positive: bool) -> i32
+    requires { angle < 2 ^ 31 }
+    ensures { result ≡ signed positive angle }
+{
+    if positive {
+        angle as i32
+    } else {
+        -(angle as i32)
+    }
+}
+
+/// A number of two digits.
+fn pair(tens: Option<u32>, ones: Option<u32>) -> Option<u32>
+    requires tens { IfSome tens (λ n. n ≤ 9) }
+    requires ones { IfSome ones (λ n. n ≤ 9) }
+    ensures value { result ≡ pair tens ones }
+    ensures below { IfSome result (λ n. n ≤ 99) }
+{
+    Some(tens? * 10 + ones?)
+}
+
+/// How far from the equator the six bytes of a destination say.
+fn read_latitude(base: &[u8]) -> Option<u32>
+    ensures value { result ≡ from_equator base.now }
+    ensures below { IfSome result (λ n. n ≤ 1000000000) }
+    ensures six { OnSome result (length base.now ≡ 6) }
+{
+    let [a, b, c, d, e, f] = base else {
+        return None;
+    };
+    let degrees = pair(digit(*a), digit(*b))?;
+    let minutes = pair(digit(*c), late_digit(*d))?;
+    let hundredths = pair(late_digit(*e), late_digit(*f))?;
+    if minutes >= 60 {
+        return None;
+    }
+    Some(angle(degrees, minutes * 100 + hundredths))
+}
+
+/// The degrees of a longitude: 180 to 189 stand for 100 to 109, and 190 to 199 for 0 to 9.
+fn wrap_degrees(degrees: u32) -> u32
+    requires { degrees ≤ 199 }
+    ensures value { result ≡ degrees_of degrees }
+    ensures below { result ≤ 179 }
+{
+    match degrees {
+        180..=189 => degrees - 80,
+        190..=199 => degrees - 190,
+        _ => degrees,
+    }
+}
+
+/// The minutes of a longitude: 60 and more stand for 0 and more.
+fn wrap_minutes(minutes: u32) -> u32
+    requires { minutes ≤ 99 }
+    ensures value { result ≡ minutes_of minutes }
+    ensures below { result ≤ 59 }
+{
+    if minutes < 60 { minutes } else { minutes - 60 }
+}
+
+fn all_in_range(text: &[u8]) -> bool
+    ensures { result ≡ list_all (between 28 127) text.now }
+{
+    text.iter().all(|byte| matches!(*byte, 28..=127))
+}
+
+/// What a byte of the longitude says: it stands 28 above it.
+fn lowered(byte: u8) -> u32
+    ensures value { result ≡ byte - 28 }
+{
+    u32::from(byte.saturating_sub(28))
+}
+
+/// How far from Greenwich three bytes of the body say, where `more` degrees are added.
+fn read_longitude(text: &[u8], more: u32) -> Option<u32>
+    requires { more ≤ 100 }
+    ensures value { result ≡ from_greenwich more text.now }
+    ensures below { IfSome result (λ n. n ≤ 1000000000) }
+{
+    let [x, y, z] = text else {
+        return None;
+    };
+    if !all_in_range(text) {
+        return None;
+    }
+    let degrees = wrap_degrees(lowered(*x) + more);
+    let hundredths = wrap_minutes(lowered(*y)) * 100 + lowered(*z);
+    Some(angle(degrees, hundredths))
+}
+
+fn is_mark(byte: u8) -> bool
+    ensures { result ≡ is_mark byte }
+{
+    byte == b'`' || byte == b'\''
+}
+
+#[tactic(auto, unfolding(crate::specs::MicE::place_of))]
+fn parse(dest: &Call, body: &[u8]) -> Option<Place>
+    ensures { result ≡ mic_e_place dest.now body.now }
+{
+    if body.len() < 9 || !is_mark(body[0]) {
+        return None;
+    }
+    let base = dest.base();
+    let lat = read_latitude(base)?;
+    let lon = read_longitude(&body[1..4], if is_set(base[4]) { 100 } else { 0 })?;
+    if !is_code(body[7]) || !is_table(body[8]) {
+        return None;
+    }
+    let lat = signed(lat, is_set(base[3]));
+    let lon = signed(lon, !is_set(base[5]));
+    place_at(lat, lon, body[8], body[7], 9)
+}
+
+/// The place of a destination and a body. `None` exactly where they aren't in the form.
+pub fn read(dest: &Call, body: &[u8]) -> Option<Place>
+    ensures exact { result ≡ mic_e_place dest.now body.now }
+    ensures read { IfSome result (IsMicE dest.now body.now) }
+    ensures only { (place : Place) → IsMicE dest.now body.now place → result ≡ Some place }
+{
+    parse(dest, body)
+}
