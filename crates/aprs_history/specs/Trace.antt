@@ -50,8 +50,11 @@ live_links (Opened serves link from ∷ earlier) = live_links earlier ++ opened_
 live_links (Ended link reason ∷ earlier) = filter (is_other link) (live_links earlier)
 live_links (entry ∷ earlier) = live_links earlier
 
+abbrev pub is_member : ℕ → List ℕ → Bool
+is_member number numbers = list_any (λ n. n == number) numbers
+
 abbrev pub is_live : Trace → ℕ → Bool
-is_live trace link = list_any (λ live. live == link) (live_links trace)
+is_live trace link = is_member link (live_links trace)
 
 abbrev pub stopped_link : EndReason → ℕ → List ℕ
 stopped_link ByPeer link = []

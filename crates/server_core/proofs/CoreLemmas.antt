@@ -14,7 +14,7 @@ use Rattle.aprs_history.specs.declared.verdicts.Verdict.{Verdict}
 use Rattle.aprs_history.specs.declared.verdicts.Verdict.TheVariants.{PassedOver, Refused, LoggedIn, Accepted}
 use Rattle.aprs_history.specs.Setting.{Setting, kind_at}
 use Rattle.aprs_history.specs.Verdicts.{verdict_of}
-use Rattle.aprs_history.specs.Trace.{Trace, Entry, Ticked, Opened, Brought, Said, Roomed, Ended, ByPeer, ByStop, is_live, live_links, stopped_links, served_links, last_moment}
+use Rattle.aprs_history.specs.Trace.{Trace, Entry, Ticked, Opened, Brought, Said, Roomed, Ended, ByPeer, ByStop, is_live, is_member, live_links, stopped_links, served_links, last_moment}
 use Rattle.aprs_history.specs.Links.{session_of, brought_by, gone_links}
 use Rattle.aprs_history.specs.Texts.{login_reply}
 use Rattle.aprs_history.specs.History.{begin_round, end_all}
@@ -24,7 +24,7 @@ use Rattle.server_core.specs.Meaning.{CoreMeaning, ConfSeen, setting_of}
 use Rattle.server_core.specs.Kept.{IsKept}
 use Rattle.server_core.specs.Steps.{Walks, saying}
 use Rattle.server_core.proofs.LinkLemmas.{changed_none, rises_to, rises_push}
-use Rattle.server_core.proofs.WalkLemmas.{with_links, with_moment, is_member, follows_begun, going_after, follows_passed, follows_refused, follows_login, follows_accepted, follows_roomed, follows_ticked, follows_brought, follows_opened, follows_unserved, follows_ended, follows_stopped}
+use Rattle.server_core.proofs.WalkLemmas.{with_links, with_moment, follows_begun, going_after, follows_passed, follows_refused, follows_login, follows_accepted, follows_roomed, follows_ticked, follows_brought, follows_opened, follows_unserved, follows_ended, follows_stopped}
 
 -- the core with other links
 abbrev pub relinked : List LinkSeen → CoreMeaning → CoreMeaning

@@ -1,12 +1,13 @@
 -- A step at the link of one number, among links whose numbers rise.
-use Rattle.std.proofs.Common.{◌≡◌, ℕ, zero, suc, ◌+◌, ◌≤◌, ◌<◌, ◌^◌, Bool, true, false, List, [], ◌∷◌, length, get_or, map, refl, sym, ap, ◌∙◌, subst, arith, eq-eqb, Option, Some, None, slice_set, ⊎_elim, cond, nat_lt, ◌||◌, ◌++◌, take, drop, add-one, filter, le_refl, take_all, append-nil}
+use Rattle.std.proofs.Common.{◌≡◌, ℕ, zero, suc, ◌+◌, ◌≤◌, ◌<◌, ◌^◌, Bool, true, false, List, [], ◌∷◌, length, get_or, map, refl, sym, ap, ◌∙◌, subst, arith, eq-eqb, Option, Some, None, slice_set, ⊎_elim, cond, nat_lt, ◌||◌, ◌++◌, take, drop, add-one, filter, le_refl, take_all, append-nil, ◌==◌}
 use Rattle.std.specs.List.{position, position_or_len, list_any}
 use Rattle.std.proofs.lemmas.Bool.{ltb-true, ltb-false, cases_Bool, false_from_ne_true, eqb-true, true≢false}
 use Rattle.std.proofs.lemmas.List.Sums.{passes_at_first, fails_before_first}
 use Rattle.std.proofs.lemmas.List.Folds.{list_any_none}
 use Rattle.std.proofs.lemmas.List.{drop_all}
+use Rattle.aprs_history.specs.Trace.{is_member}
 use Rattle.aprs_history.specs.Stands.{LinkSeen}
-use Rattle.server_core.specs.LinkSteps.{Rises, at_link, has_that, picked_at, with_packet, wants_packet, with_text, has_number, number_of, numbers}
+use Rattle.server_core.specs.LinkSteps.{AreServed, Rises, at_link, has_that, picked_at, with_packet, wants_packet, with_text, has_number, number_of, numbers}
 
 -- numbers that differ
 pub not_that : (number : ℕ) (link : LinkSeen) → (link.link ≡ number → ⊥) → has_that number link ≡ false
@@ -186,3 +187,20 @@ pub written_back : {X : Type 0} (n : ℕ) (new old : List X) → length new ≡ 
 written_back n new old same len =
     let none : drop (length new) old ≡ [] = drop_all (length new) old (omega arith) in
     ap (λ more. take n (new ++ more)) none ∙ ap (take n) (append-nil new) ∙ take_all n new (omega arith)
+
+-- the numbers of links are served, also where only some of them are taken
+pub served_filter : (p : LinkSeen → Bool) (links : List LinkSeen) → AreServed (numbers (filter p links)) links
+served_filter p [] n member = member
+served_filter p (x ∷ links) n member =
+    ⊎_elim
+    (λ here. ap (λ b. b || has_number n links) here)
+    (λ other. ap (λ b. b || has_number n links) other ∙ served_filter p links n (⊎_elim
+        (λ kept. sym (ap (λ b. b || is_member n (numbers (filter p links))) other) ∙ sym (ap (λ b. is_member n (numbers (cond b (x ∷ filter p links) (filter p links)))) kept) ∙ member)
+        (λ left. sym (ap (λ b. is_member n (numbers (cond b (x ∷ filter p links) (filter p links)))) left) ∙ member)
+        (cases_Bool (p x))))
+    (cases_Bool (x.link == n))
+
+-- whether a number is a link's shows in the numbers alone
+pub served_numbers : (n : ℕ) (links : List LinkSeen) → has_number n links ≡ is_member n (numbers links)
+served_numbers n [] = refl
+served_numbers n (x ∷ links) = ap (λ b. (x.link == n) || b) (served_numbers n links)

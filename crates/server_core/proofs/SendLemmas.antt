@@ -5,7 +5,7 @@ use Rattle.aprs_base.specs.declared.events.Sent.TheVariants as sent
 use Rattle.aprs_base.specs.declared.events.Happening.TheVariants as did
 use Rattle.aprs_base.specs.declared.packets.ListenSpec.{ListenSpec}
 use Rattle.aprs_history.specs.Setting.{Setting}
-use Rattle.aprs_history.specs.Trace.{Trace, served_links}
+use Rattle.aprs_history.specs.Trace.{Trace, served_links, is_member}
 use Rattle.aprs_history.specs.Links.{taken_by}
 use Rattle.aprs_history.specs.Texts.{lines_of, text_bytes, untaken}
 use Rattle.aprs_history.specs.History.{History, trace_of, open_events, is_stopped, greatest_link}
@@ -14,7 +14,7 @@ use Rattle.aprs_history.specs.Stands.{LinkSeen, CoreSeen, link_seen, Follows, St
 use Rattle.server_core.specs.LinkSteps.{at_link, has_number, with_taken, when_gone, pending_at, pending_of, numbers}
 use Rattle.server_core.specs.Meaning.{CoreMeaning, setting_of, Stands}
 use Rattle.server_core.proofs.FollowLemmas.{queued-bytes}
-use Rattle.server_core.proofs.WalkLemmas.{is_member, follows_took, follows_lost}
+use Rattle.server_core.proofs.WalkLemmas.{follows_took, follows_lost}
 use Rattle.server_core.proofs.CoreLemmas.{relinked, picked_seen, picked_missing}
 
 number_member : (s : Setting) (t : Trace) (k : ℕ) (ks : List ℕ) → has_number k (map (link_seen s t) ks) ≡ is_member k ks

@@ -13,7 +13,7 @@ use Rattle.aprs_history.specs.declared.verdicts.Refusal.{Refusal}
 use Rattle.aprs_history.specs.declared.verdicts.Verdict.{Verdict}
 use Rattle.aprs_history.specs.declared.verdicts.Verdict.TheVariants.{PassedOver, Refused, LoggedIn, Accepted}
 use Rattle.aprs_history.specs.Setting.{Setting}
-use Rattle.aprs_history.specs.Trace.{Trace, Entry, Ticked, Opened, Brought, Said, Roomed, Took, Lost, Ended, EndReason, FoundGone, ByPeer, ByStop, live_links, stopped_links, served_links, is_live, is_other, moment_of, last_moment}
+use Rattle.aprs_history.specs.Trace.{Trace, Entry, Ticked, Opened, Brought, Said, Roomed, Took, Lost, Ended, EndReason, FoundGone, ByPeer, ByStop, live_links, stopped_links, served_links, is_live, is_member, is_other, moment_of, last_moment}
 use Rattle.aprs_history.specs.Links.{brought_by, taken_by, session_of, opening_of, is_gone, gone_links}
 use Rattle.aprs_history.specs.Texts.{Queued, queued, lines_of, text_bytes, ended_line, wants, added_by, login_reply, banner, kind_wants}
 use Rattle.aprs_history.specs.Stands.{LinkSeen, CoreSeen, link_seen, TookNoMore, Follows}
@@ -22,9 +22,6 @@ use Rattle.server_core.specs.LinkSteps.{at_link, has_that, has_number, with_room
 use Rattle.server_core.proofs.FollowLemmas.{map_through, seen-number, roomed_seen, lost_seen, took_seen, brought_seen, refused_seen, passed_seen, login_seen, accepted_seen, opened_seen, new_seen, text_size}
 
 -- ---- lists of numbers
-
-abbrev pub is_member : ℕ → List ℕ → Bool
-is_member x xs = list_any (λ y. y == x) xs
 
 member_here : (before after : List ℕ) (x : ℕ) → is_member x (before ++ x ∷ after) ≡ true
 member_here [] after x = rw (eq-eqb x x refl) refl

@@ -1,9 +1,10 @@
 -- What each happening changes of a link.
-use Rattle.std.specs.Prelude.{ℕ, ◌+◌, ◌<◌, ◌==◌, ◌≤◌, Bool, true, false, nat_lt, List, [], ◌∷◌, length, map, not, ◌&&◌, is_some, Option, Some, None, if◌then◌else◌}
+use Rattle.std.specs.Prelude.{◌≡◌, ℕ, ◌+◌, ◌<◌, ◌==◌, ◌≤◌, Bool, true, false, nat_lt, List, [], ◌∷◌, length, map, not, ◌&&◌, is_some, Option, Some, None, if◌then◌else◌}
 use Rattle.std.specs.List.{list_any}
 use Rattle.aprs_base.specs.Held.{Held, held_after}
 use Rattle.aprs_history.specs.declared.verdicts.Session.{Session}
 use Rattle.aprs_history.specs.Stands.{LinkSeen}
+use Rattle.aprs_history.specs.Trace.{is_member}
 use Rattle.aprs_history.specs.Links.{Opening}
 use Rattle.aprs_base.specs.declared.cutting.Cut.{Cut}
 use Rattle.aprs_history.specs.declared.verdicts.Verdict.{Verdict}
@@ -117,3 +118,7 @@ after_verdict server number (Accepted parts line) links = map (with_packet numbe
 -- the links after one of them said a line
 abbrev pub after_line : List ℕ → ℕ → Cut → List LinkSeen → List LinkSeen
 after_line server number cut links = after_verdict server number (verdict_of server (session_at number links) cut) links
+
+-- each of these numbers is a link's
+abbrev pub AreServed : List ℕ → List LinkSeen → Type 0
+AreServed ns links = (n : ℕ) → is_member n ns ≡ true → has_number n links ≡ true

@@ -12,7 +12,7 @@ ghost use Rattle.aprs_history.specs.Stands.{Follows};
 ghost use Rattle.aprs_history.specs.History.{History, begin_round, end_all, greater_link, is_stop, say_all, trace_of, with_bytes_of, with_event};
 ghost use Rattle.aprs_history.specs.Rounds.{AreFresh, events_trace, greatest_after, is_whole, only_listens, stopped_after, with_events};
 ghost use Rattle.aprs_history.specs.Texts.{untaken};
-ghost use Rattle.server_core.specs.LinkSteps.{has_number, is_ready, number_of, numbers, pending_at};
+ghost use Rattle.server_core.specs.LinkSteps.{AreServed, Rises, has_number, is_ready, number_of, numbers, pending_at};
 ghost use Rattle.aprs_base.specs.declared.events.Happening.{Happening};
 ghost use Rattle.aprs_base.specs.declared.events.Sent.{Sent};
 ghost use Rattle.server_core.specs.Meaning.{AreActs, Stands, setting_of};
@@ -214,6 +214,8 @@ impl Core {
         ensures offers { IfOk result (λ acts. acts.offers ≡ map number_of (filter is_ready self.now.seen.links)) }
         ensures closes { IfOk result (λ acts. acts.closes ≡ (if self.now.seen.stopped then numbers self.now.seen.links else [])) }
         ensures done { IfOk result (λ acts. acts.done ≡ self.now.seen.stopped) }
+        ensures rising { IfOk result (λ acts. Rises 0 acts.offers self.now.seen.greatest) }
+        ensures served { IfOk result (λ acts. AreServed acts.offers self.now.seen.links) }
         ensures none { IfOk result (λ acts. (acts.dial ≡ None) × (acts.casts ≡ [])) }
     {
         let offers = ready(alloc, self.links.as_slice())?;
@@ -245,6 +247,8 @@ impl Core {
         ensures greatest { OnOk result (self.new.seen.greatest ≡ greatest_after events.now self.old.seen.greatest) }
         ensures stopped { OnOk result (self.new.seen.stopped ≡ stopped_after events.now false) }
         ensures done { IfOk result (λ acts. acts.done ≡ self.new.seen.stopped) }
+        ensures rising { IfOk result (λ acts. Rises 0 acts.offers self.new.seen.greatest) }
+        ensures served { IfOk result (λ acts. AreServed acts.offers self.new.seen.links) }
         // The core stands for the history with the round, and the acts are those that are due after it.
         ensures stands { (h : History) → Stands self.old h → OnOk result (Stands self.new (with_events events.now h)) }
         ensures due { (h : History) → Stands self.old h
