@@ -34,7 +34,7 @@ ends_not n e next events whole =
     not_true true h = absurd (false≢true h)
     not_true false h = refl
 
-more_events : (n : ℕ) (e : Event) (h : History) → ends_round n e ≡ false → open_events h ≡ n → open_events (did.Event e ∷ h) ≡ n + 1
+pub more_events : (n : ℕ) (e : Event) (h : History) → ends_round n e ≡ false → open_events h ≡ n → open_events (did.Event e ∷ h) ≡ n + 1
 more_events n e h goes_on open_is =
     ap (λ m. if ends_round m e then 0 else m + 1) open_is ∙ ap (λ b. if b then 0 else n + 1) goes_on
 

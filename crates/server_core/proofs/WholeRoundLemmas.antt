@@ -20,7 +20,7 @@ pub next_item : {X : Type 0} (xs : List X) (i : ℕ) (x : X) → i < length xs �
 next_item xs i x lt is = rw add-one (drop-cons xs i x lt ∙ ap (λ y. y ∷ drop (suc i) xs) (sym is))
 
 -- an event that doesn't end a round is no stop
-no_stop : (n : ℕ) (e : Event) → ends_round n e ≡ false → is_stop e ≡ false
+pub no_stop : (n : ℕ) (e : Event) → ends_round n e ≡ false → is_stop e ≡ false
 no_stop n (event.Tick moment) goes = refl
 no_stop n (event.Opened listener link from) goes = refl
 no_stop n (event.Bytes link bytes) goes = refl

@@ -1,0 +1,112 @@
+-- A run goes on by a send or a close.
+use Rattle.std.proofs.Common.{◌≡◌, ℕ, zero, suc, ◌+◌, ◌-◌, ◌<◌, ◌≤◌, ◌==◌, Bool, true, false, ◌||◌, List, [], ◌∷◌, ◌++◌, length, take, drop, map, refl, sym, ap, ◌∙◌, subst, arith, Option, ⊎_elim, eq-eqb}
+use Rattle.std.specs.Option.{option_map}
+use Rattle.std.proofs.lemmas.Bool.{cases_Bool, eqb-true, false_from_ne_true, true≢false}
+use Rattle.aprs_base.specs.Outside.{Told, with_done, IsOutcome}
+use Rattle.aprs_base.specs.declared.events.Sent.{Sent}
+use Rattle.aprs_base.specs.declared.events.Sent.TheVariants as sent
+use Rattle.aprs_base.specs.declared.events.Happening.{Happening}
+use Rattle.aprs_base.specs.declared.events.Happening.TheVariants as did
+use Rattle.aprs_history.specs.Setting.{Setting}
+use Rattle.aprs_history.specs.Trace.{Trace, is_member}
+use Rattle.aprs_history.specs.Links.{taken_by}
+use Rattle.aprs_history.specs.Texts.{untaken, lines_of, text_bytes}
+use Rattle.aprs_history.specs.History.{History, is_stopped, trace_of}
+use Rattle.aprs_history.specs.Acts.{Act, Offers, Closes, MayCome, due, but_first, offer_to}
+use Rattle.aprs_history.specs.Runs.{AppendsRun, listens_in}
+use Rattle.server_core.specs.LinkSteps.{Rises}
+use Rattle.server_core.specs.Meaning.{ConfSeen, CoreMeaning, Stands, setting_of}
+use Rattle.server_core.proofs.WalkLemmas.{member_below}
+use Rattle.aprsc_daemon.specs.Phases.{Owing, Offering}
+use Rattle.aprsc_daemon.proofs.RunLemmas.{run_goes_on}
+
+send_comes : (acts : List Act) (stopped : Bool) (link : ℕ) (bytes owed : List ℕ) (outcome : Sent) (rest : List Act) → acts ≡ Offers link owed ∷ rest → bytes ≡ owed → IsOutcome bytes outcome
+    → MayCome acts stopped (did.Sent link bytes outcome)
+send_comes acts stopped link bytes owed outcome rest is same part = subst (λ xs. MayCome xs stopped (did.Sent link bytes outcome)) (sym is) (refl, same, part)
+
+close_comes : (acts : List Act) (stopped : Bool) (link : ℕ) (rest : List Act) → acts ≡ Closes link ∷ rest → MayCome acts stopped (did.Closed link)
+close_comes acts stopped link rest is = subst (λ xs. MayCome xs stopped (did.Closed link)) (sym is) refl
+
+-- a send to another link leaves what is left to a link
+left_by_other : (s : Setting) (h : History) (link k : ℕ) (bytes : List ℕ) (outcome : Sent) → (k == link) ≡ false → untaken s (trace_of s (did.Sent link bytes outcome ∷ h)) k ≡ untaken s (trace_of s h) k
+unfolding trace_of
+left_by_other s h link k bytes (sent.Took n) other = rw other refl
+left_by_other s h link k bytes sent.Gone other = refl
+
+member_differs : (link k : ℕ) (offers : List ℕ) → is_member link offers ≡ false → is_member k offers ≡ true → (k == link) ≡ false
+member_differs link k offers none member =
+    false_from_ne_true _ (λ is. let same : k ≡ link = eqb-true k link is in true≢false (sym member ∙ ap (λ n. is_member n offers) same ∙ none))
+
+owing_next : (conf : ConfSeen) (link : ℕ) (offers closes : List ℕ) (bytes : List ℕ) (outcome : Sent) (more : History) → is_member link offers ≡ false
+    → Owing conf (link ∷ offers) closes more → Owing conf offers closes (did.Sent link bytes outcome ∷ more)
+unfolding due
+owing_next conf link offers closes bytes outcome more other owing = record {
+  round = owing.round;
+  owed = ap but_first owing.owed;
+  same = λ k member.
+    left_by_other (setting_of conf) more link k bytes outcome (member_differs link k offers other member)
+    ∙ owing.same k (⊎_elim (λ here. ap (λ b. b || is_member k offers) here) (λ differ. ap (λ b. b || is_member k offers) differ ∙ member) (cases_Bool (link == k)));
+  all = owing.all;
+}
+
+member_first : (link : ℕ) (offers : List ℕ) → is_member link (link ∷ offers) ≡ true
+member_first link offers = ap (λ b. b || is_member link offers) (eq-eqb link link refl)
+
+-- one offer is made
+pub run_sends : (s : Setting) (start now next : Option Told) (core new : CoreMeaning) (link : ℕ) (offers closes : List ℕ) (bytes : List ℕ) (outcome : Sent) → setting_of core.conf ≡ s
+    → new.conf ≡ core.conf → is_member link offers ≡ false → IsOutcome bytes outcome
+    → ((h : History) → Stands core h → bytes ≡ take 65536 (untaken (setting_of core.conf) (trace_of (setting_of core.conf) h) link))
+    → ((h : History) → Stands core h → Stands new (did.Sent link bytes outcome ∷ h))
+    → next ≡ option_map (with_done (did.Sent link bytes outcome)) now
+    → AppendsRun s start now (Offering core (link ∷ offers) closes) → AppendsRun s start next (Offering new offers closes)
+run_sends s start now next core new link offers closes bytes outcome same conf other part given stands is run =
+    run_goes_on s start now next (did.Sent link bytes outcome) (Offering core (link ∷ offers) closes) (Offering new offers closes) (λ more. refl) is (λ more phase.
+      let owing = phase.owing in
+      let c = setting_of core.conf in
+      (
+        subst (λ t. MayCome (due t more) (is_stopped more) (did.Sent link bytes outcome)) same
+        (send_comes (due c more) (is_stopped more) link bytes (take 65536 (untaken c owing.round link)) outcome (map (offer_to c owing.round) offers ++ map Closes closes) owing.owed
+          (given more phase.stands ∙ ap (take 65536) (owing.same link (member_first link offers))) part),
+        record {
+          stands = stands more phase.stands;
+          owing = subst (λ conf. Owing conf offers closes (did.Sent link bytes outcome ∷ more)) (sym conf) (owing_next core.conf link offers closes bytes outcome more other owing);
+        },
+      )) run
+
+-- ---- closes
+
+stands_closed : (core : CoreMeaning) (link : ℕ) (h : History) → Stands core h → Stands core (did.Closed link ∷ h)
+unfolding trace_of
+stands_closed core link h stands = record { finished = stands.finished; follows = stands.follows; greatest = stands.greatest; stopped = stands.stopped }
+
+owing_closed : (conf : ConfSeen) (link : ℕ) (closes : List ℕ) (more : History) → Owing conf [] (link ∷ closes) more → Owing conf [] closes (did.Closed link ∷ more)
+unfolding due
+owing_closed conf link closes more owing = record { round = owing.round; owed = ap but_first owing.owed; same = λ k member. absurd (true≢false (sym member)); all = owing.all }
+
+pub run_closes : (s : Setting) (start now next : Option Told) (core : CoreMeaning) (link : ℕ) (closes : List ℕ) → setting_of core.conf ≡ s
+    → next ≡ option_map (with_done (did.Closed link)) now → AppendsRun s start now (Offering core [] (link ∷ closes)) → AppendsRun s start next (Offering core [] closes)
+run_closes s start now next core link closes same is run =
+    run_goes_on s start now next (did.Closed link) (Offering core [] (link ∷ closes)) (Offering core [] closes) (λ more. refl) is (λ more phase.
+      (
+        subst (λ t. MayCome (due t more) (is_stopped more) (did.Closed link)) same (close_comes (due (setting_of core.conf) more) (is_stopped more) link (map Closes closes) phase.owing.owed),
+        record { stands = stands_closed core link more phase.stands; owing = owing_closed core.conf link closes more phase.owing },
+      )) run
+
+-- ---- numbers that rise differ
+
+pub first_differs : (low high : ℕ) (ns : List ℕ) (i n : ℕ) (rest : List ℕ) → Rises low ns high → drop i ns ≡ n ∷ rest → is_member n rest ≡ false
+first_differs low high [] zero n rest rises is = absurd (nothing n rest is)
+  where
+  nothing : (n : ℕ) (rest : List ℕ) → [] ≡ n ∷ rest → ⊥
+  nothing n rest e = cc
+first_differs low high [] (suc i) n rest rises is = absurd (nothing n rest is)
+  where
+  nothing : (n : ℕ) (rest : List ℕ) → [] ≡ n ∷ rest → ⊥
+  nothing n rest e = cc
+first_differs low high (x ∷ ns) zero n rest rises is =
+    let first : x ≡ n = cc in
+    let others : ns ≡ rest = cc in
+    false_from_ne_true _ (λ member.
+      let above = member_below x high ns n rises.1 (ap (is_member n) others ∙ member) in
+      let lt = above.0 in absurd (omega arith))
+first_differs low high (x ∷ ns) (suc i) n rest rises is = first_differs x high ns i n rest rises.1 is

@@ -1,0 +1,139 @@
+-- Events that come one after another, up to the end of a round.
+use Rattle.std.proofs.Common.{◌≡◌, ℕ, zero, suc, ◌+◌, ◌<◌, ◌≤◌, Bool, true, false, not, ◌&&◌, List, [], ◌∷◌, ◌++◌, length, refl, sym, ap, ◌∙◌, subst, arith, Option, Some, None, max, IfSome, if◌then◌else◌, length-append, Result, Ok, Err, OnErr}
+use Rattle.std.specs.Bool.{MatchBool}
+use Rattle.std.proofs.lemmas.Bool.{and_parts, false≢true}
+use Rattle.std.specs.Option.{option_map}
+use Rattle.aprs_base.specs.Outside.{Told, with_done, CountsLink, new_link}
+use Rattle.aprs_base.specs.declared.events.Event.{Event}
+use Rattle.aprs_base.specs.declared.events.Happening.TheVariants as did
+use Rattle.aprs_history.specs.Setting.{Setting}
+use Rattle.aprs_history.specs.History.{History, ends_round, is_stop, is_stopped, open_events, greater_link}
+use Rattle.aprs_history.specs.Rounds.{is_whole, with_events, AreFresh, greatest_after}
+use Rattle.aprs_history.specs.Acts.{Act, MayCome, due, acts_after}
+use Rattle.aprs_history.specs.Runs.{AppendsRun, listens_in}
+use Rattle.server_core.specs.Meaning.{CoreMeaning, setting_of}
+use Rattle.server_core.proofs.RoundLemmas.{more_events}
+use Rattle.server_core.proofs.WholeRoundLemmas.{no_stop}
+use Rattle.aprsc_daemon.specs.Phases.{is_partial, Counted, Gathering, Resting}
+use Rattle.aprsc_daemon.proofs.RunLemmas.{run_goes_on}
+
+not_false : (b : Bool) → not b ≡ true → b ≡ false
+not_false true h = absurd (false≢true h)
+not_false false h = refl
+
+pub with_push : (events : List Event) (e : Event) (h : History) → with_events (events ++ e ∷ []) h ≡ did.Event e ∷ with_events events h
+with_push [] e h = refl
+with_push (x ∷ events) e h = with_push events e (did.Event x ∷ h)
+
+parts_of : (n : ℕ) (e : Event) (events : List Event) → is_partial n (e ∷ events) ≡ true → (ends_round n e ≡ false) × (is_partial (n + 1) events ≡ true)
+parts_of n e events partial =
+    let parts = and_parts (not (ends_round n e)) (is_partial (n + 1) events) partial in (not_false (ends_round n e) parts.0, parts.1)
+
+due_partial : (s : Setting) (n : ℕ) (events : List Event) (h : History) → is_partial n events ≡ true → open_events h ≡ n → due s h ≡ [] → due s (with_events events h) ≡ []
+unfolding due
+due_partial s n [] h partial open_is none = none
+due_partial s n (e ∷ events) h partial open_is none =
+    let parts = parts_of n e events partial in
+    due_partial s (n + 1) events (did.Event e ∷ h) parts.1 (more_events n e h parts.0 open_is)
+    (ap (λ m. if ends_round m e then acts_after s (Rattle.aprs_history.specs.History.trace_of s (did.Event e ∷ h)) else []) open_is
+    ∙ ap (λ b. if b then acts_after s (Rattle.aprs_history.specs.History.trace_of s (did.Event e ∷ h)) else []) parts.0)
+
+stopped_partial : (n : ℕ) (events : List Event) (h : History) → is_partial n events ≡ true → is_stopped h ≡ false → is_stopped (with_events events h) ≡ false
+stopped_partial n [] h partial going = going
+stopped_partial n (e ∷ events) h partial going =
+    let parts = parts_of n e events partial in
+    stopped_partial (n + 1) events (did.Event e ∷ h) parts.1 (ap (λ b. Rattle.std.proofs.Common.◌||◌ b (is_stopped h)) (no_stop n e parts.0) ∙ going)
+
+event_comes : (acts : List Act) (stopped : Bool) (e : Event) → acts ≡ [] → stopped ≡ false → MayCome acts stopped (did.Event e)
+event_comes acts stopped e none going = subst (λ xs. MayCome xs stopped (did.Event e)) (sym none) going
+
+-- one event more of the same round
+pub run_gathers : (s : Setting) (start now next : Option Told) (core : CoreMeaning) (events : List Event) (e : Event) → setting_of core.conf ≡ s → is_partial 0 events ≡ true
+    → next ≡ option_map (with_done (did.Event e)) now → AppendsRun s start now (Gathering core events) → AppendsRun s start next (Gathering core (events ++ e ∷ []))
+run_gathers s start now next core events e same partial is run =
+    run_goes_on s start now next (did.Event e) (Gathering core events) (Gathering core (events ++ e ∷ [])) (λ more. refl) is (λ more phase.
+      let none : due s more ≡ [] =
+          ap (due s) phase.since
+          ∙ due_partial s 0 events phase.before partial phase.resting.stands.finished (subst (λ t. due t phase.before ≡ []) same phase.resting.none) in
+      let going : is_stopped more ≡ false = ap is_stopped phase.since ∙ stopped_partial 0 events phase.before partial phase.going in
+      (event_comes (due s more) (is_stopped more) e none going,
+      record {
+        before = phase.before;
+        since = ap (λ h. did.Event e ∷ h) phase.since ∙ sym (with_push events e phase.before);
+        resting = phase.resting;
+        going = phase.going;
+        all = phase.all;
+      })) run
+
+-- where a part of a round is there, no act is due
+pub gathered_none : (s : Setting) (core : CoreMeaning) (events : List Event) (more : History) → setting_of core.conf ≡ s → is_partial 0 events ≡ true → Gathering core events more → due s more ≡ []
+gathered_none s core events more same partial phase =
+    ap (due s) phase.since ∙ due_partial s 0 events phase.before partial phase.resting.stands.finished (subst (λ t. due t phase.before ≡ []) same phase.resting.none)
+
+whole_from : (n : ℕ) (events : List Event) (e : Event) → is_partial n events ≡ true → ends_round (n + length events) e ≡ true → is_whole n (events ++ e ∷ []) ≡ true
+whole_from n [] e partial ends = let zero_is : n + 0 ≡ n = omega arith in subst (λ m. ends_round m e ≡ true) zero_is ends
+whole_from n (x ∷ []) e partial ends =
+    let parts = parts_of n x [] partial in
+    rw parts.0 (whole_from (n + 1) [] e refl (let same : n + 1 + 0 ≡ n + 1 = omega arith in subst (λ m. ends_round m e ≡ true) (sym same) ends))
+whole_from n (x ∷ y ∷ events) e partial ends =
+    let parts = parts_of n x (y ∷ events) partial in
+    let same : n + 1 + length (y ∷ events) ≡ n + length (x ∷ y ∷ events) = omega arith in
+    rw parts.0 (whole_from (n + 1) (y ∷ events) e parts.1 (subst (λ m. ends_round m e ≡ true) (sym same) ends))
+
+partial_from : (n : ℕ) (events : List Event) (e : Event) → is_partial n events ≡ true → ends_round (n + length events) e ≡ false → is_partial n (events ++ e ∷ []) ≡ true
+partial_from n [] e partial goes = let zero_is : n + 0 ≡ n = omega arith in rw (subst (λ m. ends_round m e ≡ false) zero_is goes) refl
+partial_from n (x ∷ events) e partial goes =
+    let parts = parts_of n x events partial in
+    let same : n + 1 + length events ≡ n + length (x ∷ events) = omega arith in
+    rw parts.0 (partial_from (n + 1) events e parts.1 (subst (λ m. ends_round m e ≡ false) (sym same) goes))
+
+pub whole_next : (events : List Event) (e : Event) → is_partial 0 events ≡ true → ends_round (length events) e ≡ true → is_whole 0 (events ++ e ∷ []) ≡ true
+whole_next events e partial ends = let same : 0 + length events ≡ length events = omega arith in whole_from 0 events e partial (subst (λ m. ends_round m e ≡ true) (sym same) ends)
+
+pub partial_next : (events : List Event) (e : Event) → is_partial 0 events ≡ true → ends_round (length events) e ≡ false → is_partial 0 (events ++ e ∷ []) ≡ true
+partial_next events e partial goes = let same : 0 + length events ≡ length events = omega arith in partial_from 0 events e partial (subst (λ m. ends_round m e ≡ false) (sym same) goes)
+
+-- ---- the numbers of links
+
+fresh_push : (g : ℕ) (events : List Event) (e : Event) → AreFresh g events → IfSome (new_link e) (λ link. greatest_after events g < link) → AreFresh g (events ++ e ∷ [])
+fresh_push g [] e fresh next = (next, tt)
+fresh_push g (x ∷ events) e fresh next = (fresh.0, fresh_push (greater_link (new_link x) g) events e fresh.1 next)
+
+greatest_push : (g : ℕ) (events : List Event) (e : Event) → greatest_after (events ++ e ∷ []) g ≡ greater_link (new_link e) (greatest_after events g)
+greatest_push g [] e = refl
+greatest_push g (x ∷ events) e = greatest_push (greater_link (new_link x) g) events e
+
+link_above : (new : Option ℕ) (before now greatest : ℕ) → greatest ≤ before → CountsLink new before now → IfSome new (λ link. greatest < link)
+link_above None before now greatest le counts = tt
+link_above (Some link) before now greatest le counts = let is = counts.0 in omega arith
+
+link_greatest : (new : Option ℕ) (before now greatest : ℕ) → greatest ≡ before → CountsLink new before now → greater_link new greatest ≡ now
+link_greatest None before now greatest is counts = is ∙ sym counts
+link_greatest (Some link) before now greatest is counts = let new_is = counts.0 in let now_is = counts.1 in omega arith
+
+pub counted_next : (first : ℕ) (events : List Event) (e : Event) (before now : ℕ) → Counted first events before → CountsLink (new_link e) before now → Counted first (events ++ e ∷ []) now
+counted_next first events e before now counted counts = record {
+  fresh = fresh_push first events e counted.fresh (link_above (new_link e) before now (greatest_after events first) (let is = counted.greatest in omega arith) counts);
+  greatest = greatest_push first events e ∙ link_greatest (new_link e) before now (greatest_after events first) counted.greatest counts;
+}
+
+-- what is fresh above some number is fresh above a smaller one
+greater_fresh : (new : Option ℕ) (g h : ℕ) → g ≤ h → IfSome new (λ link. h < link) → (IfSome new (λ link. g < link)) × (greater_link new g ≤ greater_link new h)
+greater_fresh None g h le above = (tt, le)
+greater_fresh (Some link) g h le above = (let lt : h < link = above in omega arith, let lt : h < link = above in omega arith)
+
+pub fresh_above : (events : List Event) (g h : ℕ) → g ≤ h → AreFresh h events → (AreFresh g events) × (greatest_after events g ≤ greatest_after events h)
+fresh_above [] g h le fresh = (tt, le)
+fresh_above (e ∷ events) g h le fresh =
+    let first = greater_fresh (new_link e) g h le fresh.0 in
+    let later = fresh_above events (greater_link (new_link e) g) (greater_link (new_link e) h) first.1 fresh.1 in
+    ((first.0, later.0), later.1)
+
+pub whole_or_partial : (last : Bool) (events : List Event) (e : Event) (new : List Event) → is_partial 0 events ≡ true → last ≡ ends_round (length events) e → new ≡ events ++ e ∷ []
+    → MatchBool last (is_whole 0 new ≡ true) (is_partial 0 new ≡ true)
+whole_or_partial true events e new partial is new_is = ap (is_whole 0) new_is ∙ whole_next events e partial (sym is)
+whole_or_partial false events e new partial is new_is = ap (is_partial 0) new_is ∙ partial_next events e partial (sym is)
+
+pub err_any : {T E P : Type 0} (result : Result T E) → P → OnErr result P
+err_any (Ok x) p = tt
+err_any (Err e) p = p

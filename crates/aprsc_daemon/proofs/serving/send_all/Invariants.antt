@@ -1,0 +1,20 @@
+use Rattle.std.proofs.Common.{◌≡◌, drop, List, ℕ, Option, length}
+use Rattle.aprs_base.specs.Outside.{Told}
+use Rattle.aprs_history.specs.Setting.{Setting}
+use Rattle.aprs_history.specs.Runs.{AppendsRun}
+use Rattle.server_core.specs.LinkSteps.{AreServed, numbers}
+use Rattle.server_core.specs.Meaning.{CoreMeaning, setting_of}
+use Rattle.server_core.specs.Steps.{SameRest}
+use Rattle.aprsc_daemon.specs.Phases.{Offering}
+use Rattle.aprsc_daemon.proofs.serving.send_all.Given as goal
+
+abbrev pub invariant-loop-link : goal.invariant-loop-link
+invariant-loop-link g l =
+    SameRest l.initial.core l.core
+    × (numbers l.core.seen.links ≡ numbers l.initial.core.seen.links)
+    × ((g.W.Wire.shown l.wire).stops ≡ (g.W.Wire.shown l.initial.wire).stops)
+    × ((g.W.Wire.shown l.wire).links ≡ (g.W.Wire.shown l.initial.wire).links)
+    × (length l.buffer ≡ 65536)
+    × ((s : Setting) (start : Option Told) (closes : List ℕ) → setting_of l.initial.core.conf ≡ s
+      → AppendsRun s start (g.W.Wire.shown l.initial.wire).told (Offering l.initial.core l.offers closes)
+      → AppendsRun s start (g.W.Wire.shown l.wire).told (Offering l.core (drop l.link-index l.offers) closes))

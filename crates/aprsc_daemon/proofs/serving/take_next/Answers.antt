@@ -1,0 +1,29 @@
+use Rattle.std.proofs.Common.{◌≡◌, ◌≤◌, ◌+◌, ◌∷◌, ◌++◌, [], Bool, true, false, length, refl, sym, ap, ◌∙◌, subst, arith}
+use Rattle.std.specs.Bool.{⊤}
+use Rattle.aprs_history.specs.History.{ends_round}
+use Rattle.aprs_history.specs.Runs.{AppendsRun}
+use Rattle.aprsc_daemon.specs.Phases.{Gathering, Counted}
+use Rattle.aprsc_daemon.proofs.EventLemmas.{run_gathers, counted_next, whole_or_partial, err_any}
+use Rattle.aprsc_daemon.proofs.RunLemmas.{run_weaker}
+use Rattle.aprsc_daemon.proofs.serving.take_next.Goals as goal
+
+pub returns-in_err-push-clause-err : goal.returns-in_err-push-clause-err
+returns-in_err-push-clause-err g c = λ s start core same run.
+    err_any c.from_residual-in_err-push.result (
+    run_weaker s start (g.W.Wire.shown c.next.new.self).told (Gathering core (c.args.events.now.items ++ c.in_ok-event.event ∷ [])) (λ more. ⊤) (λ more phase. tt)
+    (run_gathers s start _ (g.W.Wire.shown c.next.new.self).told core c.args.events.now.items c.in_ok-event.event same c.requires c.in_ok-event.ensures.ok run))
+
+pub returns-clause-whole : goal.returns-clause-whole
+returns-clause-whole g c =
+    whole_or_partial c.is_last-whole.result c.args.events.now.items c.in_ok-event.event c.push.new.self.items c.requires
+    (c.is_last-whole.ensures ∙ ap (λ n. ends_round n c.in_ok-event.event) (ap length c.as_slice.ensures.value)) c.in_ok-push.ensures.items
+
+pub returns-clause-counted : goal.returns-clause-counted
+returns-clause-counted g c = λ first counted.
+    subst (λ events. Counted first events (g.W.Wire.shown c.next.new.self).links) (sym c.in_ok-push.ensures.items)
+    (counted_next first c.args.events.now.items c.in_ok-event.event (g.W.Wire.shown c.args.wire.now).links (g.W.Wire.shown c.next.new.self).links counted c.in_ok-event.ensures.counts)
+
+pub returns-clause-run : goal.returns-clause-run
+returns-clause-run g c = λ s start core same run.
+    subst (λ events. AppendsRun s start (g.W.Wire.shown c.next.new.self).told (Gathering core events)) (sym c.in_ok-push.ensures.items)
+    (run_gathers s start _ (g.W.Wire.shown c.next.new.self).told core c.args.events.now.items c.in_ok-event.event same c.requires c.in_ok-event.ensures.ok run)

@@ -1,0 +1,61 @@
+-- How far the serving of a wire has come: what holds of the happenings so far.
+use Rattle.std.specs.Prelude.{◌≡◌, ℕ, ◌+◌, ◌<◌, ◌≤◌, ◌&&◌, Bool, true, false, not, List, [], ◌∷◌, ◌++◌, length, drop, map, Option, Some, None}
+use Rattle.aprs_base.specs.Outside.{CountsLink, new_link}
+use Rattle.aprs_base.specs.declared.events.Event.{Event}
+use Rattle.aprs_history.specs.Setting.{Setting}
+use Rattle.aprs_history.specs.Trace.{Trace, is_member}
+use Rattle.aprs_history.specs.Texts.{untaken}
+use Rattle.aprs_history.specs.History.{History, ends_round, is_stopped, trace_of}
+use Rattle.aprs_history.specs.Rounds.{AreFresh, greatest_after, listens_after, only_listens, with_events}
+use Rattle.aprs_history.specs.Acts.{Act, Closes, due, listens_from, offer_to}
+use Rattle.aprs_history.specs.Runs.{are_listens, listens_in}
+use Rattle.server_core.specs.Meaning.{ConfSeen, CoreMeaning, Stands, setting_of}
+
+-- so many listeners were opened, and nothing else happened
+pub record Listening (setting : Setting) (n : ℕ) (more : History) : Type 0 where
+  pub due : due setting more ≡ listens_from n (drop n setting.listens)
+  pub rest : listens_after n (drop n setting.listens) more ≡ only_listens setting
+  pub count : listens_in more ≡ n
+  pub only : are_listens more ≡ true
+
+-- every listener was opened, the core stands for the history, and no act is due
+pub record Resting (core : CoreMeaning) (more : History) : Type 0 where
+  pub stands : Stands core more
+  pub none : due (setting_of core.conf) more ≡ []
+  pub all : listens_in more ≡ length core.conf.listens
+
+-- every listener was opened, and no act is due
+pub record Idle (core : CoreMeaning) (more : History) : Type 0 where
+  pub none : due (setting_of core.conf) more ≡ []
+  pub all : listens_in more ≡ length core.conf.listens
+
+-- these events have come since
+pub record Gathering (core : CoreMeaning) (events : List Event) (more : History) : Type 0 where
+  pub before : History
+  pub since : more ≡ with_events events before
+  pub resting : Resting core before
+  pub going : is_stopped before ≡ false
+  pub all : listens_in more ≡ length core.conf.listens
+
+-- offers to these links are due, and then closes of those
+pub record Owing (conf : ConfSeen) (offers closes : List ℕ) (more : History) : Type 0 where
+  -- the trace at the round's end, for which the offers are due
+  pub round : Trace
+  pub owed : due (setting_of conf) more ≡ map (offer_to (setting_of conf) round) offers ++ map Closes closes
+  -- what is left to the links has not changed since
+  pub same : (link : ℕ) → is_member link offers ≡ true → untaken (setting_of conf) (trace_of (setting_of conf) more) link ≡ untaken (setting_of conf) round link
+  pub all : listens_in more ≡ length conf.listens
+
+pub record Offering (core : CoreMeaning) (offers closes : List ℕ) (more : History) : Type 0 where
+  pub stands : Stands core more
+  pub owing : Owing core.conf offers closes more
+
+-- a part of a round: none of the events ends it
+abbrev pub is_partial : ℕ → List Event → Bool
+is_partial before [] = true
+is_partial before (e ∷ events) = not (ends_round before e) && is_partial (before + 1) events
+
+-- the links that the events bring are numbered after the first so many, up to the last
+pub record Counted (first : ℕ) (events : List Event) (last : ℕ) : Type 0 where
+  pub fresh : AreFresh first events
+  pub greatest : greatest_after events first ≡ last

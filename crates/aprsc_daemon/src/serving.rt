@@ -1,0 +1,161 @@
+//! The serving of a wire: listeners first, then round after round.
+ghost use Rattle.std.specs.Prelude.{◌≡◌, ◌≤◌, ◌<◌, ◌+◌, ℕ, List, [], ◌∷◌, ◌++◌, IfOk, OnOk, OnErr, IfErr, IsErrOf, MatchBool, Option, length, true, false, take, ⊤};
+ghost use Rattle.aprs_base.specs.Outside.{Told, WireShown, Rose, CountsLink, new_link};
+ghost use Rattle.aprs_history.specs.Setting.{Setting};
+ghost use Rattle.aprs_history.specs.History.{History, ends_round, is_stopped};
+ghost use Rattle.aprs_history.specs.Rounds.{is_whole};
+ghost use Rattle.aprs_history.specs.Runs.{AppendsRun};
+ghost use Rattle.aprs_history.specs.Trace.{is_member};
+ghost use Rattle.server_core.specs.LinkSteps.{AreServed, Rises, has_number, numbers};
+ghost use Rattle.server_core.specs.Meaning.{CoreMeaning, setting_of};
+ghost use Rattle.aprsc_daemon.specs.Phases.{Counted, Gathering, Idle, Listening, Offering, Resting, is_partial};
+ghost use Rattle.server_core.specs.Steps.{SameRest};
+
+use aprs_base::{Event, ListenSpec, Memory, Sent, Wire, WireError};
+use server_core::{Acts, Core};
+use std::alloc::Global;
+use std::marker::Sync;
+use std::thread::Threads;
+
+/// Why not every listener was opened.
+#[derive(Clone, Copy, PartialEq, Eq, Debug)]
+pub(crate) enum ListenError {
+    /// The call for the listener of this number failed.
+    Failed(u16),
+    Memory,
+}
+
+/// Opens each listener, in rising number.
+pub(crate) fn listen_all<W: Wire>(wire: &mut W, listens: &[ListenSpec]) -> Result<(), ListenError>
+    requires { length listens.now ≤ 16 }
+    ensures run { (s : Setting) → s.listens ≡ listens.now
+        → OnOk result (AppendsRun s (W.shown wire.old).told (W.shown wire.new).told (Listening s (length listens.now))) }
+    ensures failed { IfErr result (λ e. (n : ℕ) → e ≡ ListenError.Failed n → Rose (W.shown wire.old).stops (W.shown wire.new).stops
+        × ((s : Setting) → s.listens ≡ listens.now → AppendsRun s (W.shown wire.old).told (W.shown wire.new).told (Listening s n))) }
+    ensures err { (s : Setting) → s.listens ≡ listens.now
+        → OnErr result (AppendsRun s (W.shown wire.old).told (W.shown wire.new).told (λ more. ⊤)) }
+    ensures stops { (W.shown wire.old).stops ≤ (W.shown wire.new).stops }
+{
+    let mut n = 0;
+    for spec in listens {
+        match wire.listen(n, spec) {
+            Ok(()) => n += 1,
+            Err(WireError::Failed) => return Err(ListenError::Failed(n)),
+            Err(WireError::Memory) => return Err(ListenError::Memory),
+        }
+    }
+    Ok(())
+}
+
+/// Whether an event ends its round, after so many.
+fn is_last(before: usize, event: &Event) -> bool
+    ensures { result ≡ ends_round before event.now }
+{
+    matches!(event, Event::Tick(_) | Event::Stop) || before == 511
+}
+
+/// Takes the next event, and says whether the round is whole with it.
+fn take_next<W: Wire>(wire: &mut W, events: &mut Vec<Event>) -> Result<bool, WireError>
+    requires { is_partial 0 events.old.items ≡ true }
+    ensures whole { IfOk result (λ whole. MatchBool whole (is_whole 0 events.new.items ≡ true) (is_partial 0 events.new.items ≡ true)) }
+    ensures more { OnOk result (length events.new.items ≡ length events.old.items + 1) }
+    ensures counted { (first : ℕ) → Counted first events.old.items (W.shown wire.old).links
+        → OnOk result (Counted first events.new.items (W.shown wire.new).links) }
+    ensures run { (s : Setting) (start : Option Told) (core : CoreMeaning) → setting_of core.conf ≡ s
+        → AppendsRun s start (W.shown wire.old).told (Gathering core events.old.items)
+        → OnOk result (AppendsRun s start (W.shown wire.new).told (Gathering core events.new.items)) }
+    ensures failed { IsErrOf result WireError.Failed → Rose (W.shown wire.old).stops (W.shown wire.new).stops
+        × (events.new.items ≡ events.old.items) × ((W.shown wire.new).told ≡ (W.shown wire.old).told) }
+    ensures err { (s : Setting) (start : Option Told) (core : CoreMeaning) → setting_of core.conf ≡ s
+        → AppendsRun s start (W.shown wire.old).told (Gathering core events.old.items)
+        → OnErr result (AppendsRun s start (W.shown wire.new).told (λ more. ⊤)) }
+    ensures stops { (W.shown wire.old).stops ≤ (W.shown wire.new).stops }
+{
+    let event = wire.next()?;
+    let whole = is_last(events.as_slice().len(), &event);
+    events.push(event)?;
+    Ok(whole)
+}
+
+/// Takes the events of one whole round.
+fn gather<W: Wire>(wire: &mut W, events: &mut Vec<Event>) -> Result<(), WireError>
+    requires { events.old.items ≡ [] }
+    ensures whole { OnOk result (is_whole 0 events.new.items ≡ true) }
+    ensures counted { OnOk result (Counted (W.shown wire.old).links events.new.items (W.shown wire.new).links) }
+    ensures run { (s : Setting) (start : Option Told) (core : CoreMeaning) → setting_of core.conf ≡ s
+        → AppendsRun s start (W.shown wire.old).told (Gathering core [])
+        → OnOk result (AppendsRun s start (W.shown wire.new).told (Gathering core events.new.items)) }
+    ensures failed { IsErrOf result WireError.Failed → Rose (W.shown wire.old).stops (W.shown wire.new).stops }
+    ensures idle { (s : Setting) (start : Option Told) (core : CoreMeaning) → setting_of core.conf ≡ s
+        → AppendsRun s start (W.shown wire.old).told (Gathering core [])
+        → IsErrOf result WireError.Failed → AppendsRun s start (W.shown wire.new).told (Idle core) }
+    ensures err { (s : Setting) (start : Option Told) (core : CoreMeaning) → setting_of core.conf ≡ s
+        → AppendsRun s start (W.shown wire.old).told (Gathering core [])
+        → OnErr result (AppendsRun s start (W.shown wire.new).told (λ more. ⊤)) }
+    ensures stops { (W.shown wire.old).stops ≤ (W.shown wire.new).stops }
+{
+    let mut whole = false;
+    while !whole {
+        whole = take_next(wire, events)?;
+    }
+    Ok(())
+}
+
+/// Offers a link its next bytes, and tells the core what became of them.
+fn send_one<W: Wire>(core: &mut Core, wire: &mut W, link: u32, buffer: &mut [u8]) -> Result<(), Memory>
+    requires served { has_number link core.old.seen.links ≡ true }
+    requires room { length buffer.old ≡ 65536 }
+    ensures run { (s : Setting) (start : Option Told) (offers closes : List ℕ) → setting_of core.old.conf ≡ s → is_member link offers ≡ false
+        → AppendsRun s start (W.shown wire.old).told (Offering core.old (link ∷ offers) closes)
+        → OnOk result (AppendsRun s start (W.shown wire.new).told (Offering core.new offers closes)) }
+    ensures err { OnErr result ((W.shown wire.new).told ≡ (W.shown wire.old).told) }
+    ensures rest { SameRest core.old core.new }
+    ensures numbers { numbers core.new.seen.links ≡ numbers core.old.seen.links }
+    ensures stops { (W.shown wire.new).stops ≡ (W.shown wire.old).stops }
+    ensures links { (W.shown wire.new).links ≡ (W.shown wire.old).links }
+{
+    let offered = core.offer(link, buffer);
+    match wire.send(link, &buffer[..offered])? {
+        Sent::Took(count) => core.took(link, offered, count),
+        Sent::Gone => core.gone(link),
+    }
+    Ok(())
+}
+
+/// Makes each offer, in rising number.
+fn send_all<W: Wire>(core: &mut Core, wire: &mut W, offers: &[u32], buffer: &mut [u8]) -> Result<(), Memory>
+    requires served { AreServed offers.now core.old.seen.links }
+    requires rising { (high : ℕ) × Rises 0 offers.now high }
+    requires room { length buffer.old ≡ 65536 }
+    ensures run { (s : Setting) (start : Option Told) (closes : List ℕ) → setting_of core.old.conf ≡ s
+        → AppendsRun s start (W.shown wire.old).told (Offering core.old offers.now closes)
+        → OnOk result (AppendsRun s start (W.shown wire.new).told (Offering core.new [] closes)) }
+    ensures err { (s : Setting) (start : Option Told) (closes : List ℕ) → setting_of core.old.conf ≡ s
+        → AppendsRun s start (W.shown wire.old).told (Offering core.old offers.now closes)
+        → OnErr result (AppendsRun s start (W.shown wire.new).told (λ more. ⊤)) }
+    ensures rest { SameRest core.old core.new }
+    ensures stops { (W.shown wire.new).stops ≡ (W.shown wire.old).stops }
+    ensures links { (W.shown wire.new).links ≡ (W.shown wire.old).links }
+{
+    for link in offers {
+        send_one(core, wire, *link, buffer)?;
+    }
+    Ok(())
+}
+
+/// Closes each of these links.
+fn close_all<W: Wire>(wire: &mut W, closes: &[u32]) -> Result<(), Memory>
+    ensures run { (s : Setting) (start : Option Told) (core : CoreMeaning) → setting_of core.conf ≡ s
+        → AppendsRun s start (W.shown wire.old).told (Offering core [] closes.now)
+        → OnOk result (AppendsRun s start (W.shown wire.new).told (Offering core [] [])) }
+    ensures err { (s : Setting) (start : Option Told) (core : CoreMeaning) → setting_of core.conf ≡ s
+        → AppendsRun s start (W.shown wire.old).told (Offering core [] closes.now)
+        → OnErr result (AppendsRun s start (W.shown wire.new).told (λ more. ⊤)) }
+    ensures stops { (W.shown wire.new).stops ≡ (W.shown wire.old).stops }
+    ensures links { (W.shown wire.new).links ≡ (W.shown wire.old).links }
+{
+    for link in closes {
+        wire.close(*link)?;
+    }
+    Ok(())
+}
