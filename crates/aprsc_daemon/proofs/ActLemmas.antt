@@ -1,5 +1,5 @@
 -- A run goes on by a send or a close.
-use Rattle.std.proofs.Common.{◌≡◌, ℕ, zero, suc, ◌+◌, ◌-◌, ◌<◌, ◌≤◌, ◌==◌, Bool, true, false, ◌||◌, List, [], ◌∷◌, ◌++◌, length, take, drop, map, refl, sym, ap, ◌∙◌, subst, arith, Option, ⊎_elim, eq-eqb}
+use Rattle.std.proofs.Common.{◌≡◌, ℕ, zero, suc, ◌+◌, ◌-◌, ◌<◌, ◌≤◌, ◌==◌, Bool, true, false, ◌||◌, List, [], ◌∷◌, ◌++◌, length, take, drop, map, refl, sym, ap, ◌∙◌, subst, arith, Option, ⊎_elim, eq-eqb, min, length-take, get_or}
 use Rattle.std.specs.Option.{option_map}
 use Rattle.std.proofs.lemmas.Bool.{cases_Bool, eqb-true, false_from_ne_true, true≢false}
 use Rattle.aprs_base.specs.Outside.{Told, with_done, IsOutcome}
@@ -110,3 +110,32 @@ first_differs low high (x ∷ ns) zero n rest rises is =
       let above = member_below x high ns n rises.1 (ap (is_member n) others ∙ member) in
       let lt = above.0 in absurd (omega arith))
 first_differs low high (x ∷ ns) (suc i) n rest rises is = first_differs x high ns i n rest rises.1 is
+
+-- what was offered is what was asked for
+pub offered_bytes : (bytes left : List ℕ) (room : ℕ) → room ≡ 65536 → bytes ≡ take (min room 65536) left → bytes ≡ take 65536 left
+offered_bytes bytes left room is given = given ∙ ap (λ n. take (min n 65536) left) is
+
+pub offered_length : (offered room left : ℕ) (out : List ℕ) → offered ≡ min (min room 65536) left → length out ≡ room → length (take offered out) ≡ offered
+offered_length offered room left out is full = length-take offered out ∙ min_is offered room left (length out) is full
+  where
+  min_is : (offered room left n : ℕ) → offered ≡ min (min room 65536) left → n ≡ room → min offered n ≡ offered
+  min_is offered room left n is full = omega arith
+
+-- one offer is made, from what the core said
+pub run_offered : (s : Setting) (start now next : Option Told) (core new : CoreMeaning) (link : ℕ) (offers closes : List ℕ) (bytes : List ℕ) (outcome said : Sent) → setting_of core.conf ≡ s
+    → new.conf ≡ core.conf → is_member link offers ≡ false → IsOutcome bytes outcome → outcome ≡ said
+    → ((h : History) → Stands core h → bytes ≡ take 65536 (untaken (setting_of core.conf) (trace_of (setting_of core.conf) h) link))
+    → ((h : History) → Stands core h → Stands new (did.Sent link bytes said ∷ h))
+    → next ≡ option_map (with_done (did.Sent link bytes outcome)) now
+    → AppendsRun s start now (Offering core (link ∷ offers) closes) → AppendsRun s start next (Offering new offers closes)
+run_offered s start now next core new link offers closes bytes outcome said same conf other part is given stands =
+    run_sends s start now next core new link offers closes bytes outcome same conf other part given (λ h st. subst (λ o. Stands new (did.Sent link bytes o ∷ h)) (sym is) (stands h st))
+
+pub member_at : (ns : List ℕ) (i d : ℕ) → i < length ns → is_member (get_or ns i d) ns ≡ true
+member_at [] i d lt = absurd (omega arith)
+member_at (n ∷ ns) zero d lt = member_first n ns
+member_at (n ∷ ns) (suc i) d lt = or_true (n == get_or ns i d) _ (member_at ns i d (omega arith))
+  where
+  or_true : (a b : Bool) → b ≡ true → (a || b) ≡ true
+  or_true true b h = refl
+  or_true false b h = h

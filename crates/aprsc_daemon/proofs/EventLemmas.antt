@@ -1,5 +1,7 @@
 -- Events that come one after another, up to the end of a round.
-use Rattle.std.proofs.Common.{◌≡◌, ℕ, zero, suc, ◌+◌, ◌<◌, ◌≤◌, Bool, true, false, not, ◌&&◌, List, [], ◌∷◌, ◌++◌, length, refl, sym, ap, ◌∙◌, subst, arith, Option, Some, None, max, IfSome, if◌then◌else◌, length-append, Result, Ok, Err, OnErr}
+use Rattle.std.proofs.Common.{◌≡◌, ℕ, zero, suc, ◌+◌, ◌<◌, ◌≤◌, Bool, true, false, not, ◌&&◌, List, [], ◌∷◌, ◌++◌, length, refl, sym, ap, ◌∙◌, subst, arith, Option, Some, None, max, IfSome, if◌then◌else◌, length-append, Result, Ok, Err, OnErr, ◌||◌, ◌-◌, eq-eqb, ⊎_elim}
+use Rattle.std.proofs.Math.Bool.{or-true}
+use Rattle.std.proofs.Math.Nat.{eq-or-lt_of_le}
 use Rattle.std.specs.Bool.{MatchBool}
 use Rattle.std.proofs.lemmas.Bool.{and_parts, false≢true}
 use Rattle.std.specs.Option.{option_map}
@@ -7,14 +9,14 @@ use Rattle.aprs_base.specs.Outside.{Told, with_done, CountsLink, new_link}
 use Rattle.aprs_base.specs.declared.events.Event.{Event}
 use Rattle.aprs_base.specs.declared.events.Happening.TheVariants as did
 use Rattle.aprs_history.specs.Setting.{Setting}
-use Rattle.aprs_history.specs.History.{History, ends_round, is_stop, is_stopped, open_events, greater_link}
+use Rattle.aprs_history.specs.History.{History, ends_round, is_round_event, is_stop, is_stopped, open_events, greater_link}
 use Rattle.aprs_history.specs.Rounds.{is_whole, with_events, AreFresh, greatest_after}
 use Rattle.aprs_history.specs.Acts.{Act, MayCome, due, acts_after}
 use Rattle.aprs_history.specs.Runs.{AppendsRun, listens_in}
 use Rattle.server_core.specs.Meaning.{CoreMeaning, setting_of}
 use Rattle.server_core.proofs.RoundLemmas.{more_events}
 use Rattle.server_core.proofs.WholeRoundLemmas.{no_stop}
-use Rattle.aprsc_daemon.specs.Phases.{is_partial, Counted, Gathering, Resting}
+use Rattle.aprsc_daemon.specs.Phases.{is_partial, Counted, Gathering, Idle, Resting}
 use Rattle.aprsc_daemon.proofs.RunLemmas.{run_goes_on}
 
 not_false : (b : Bool) → not b ≡ true → b ≡ false
@@ -137,3 +139,41 @@ whole_or_partial false events e new partial is new_is = ap (is_partial 0) new_is
 pub err_any : {T E P : Type 0} (result : Result T E) → P → OnErr result P
 err_any (Ok x) p = tt
 err_any (Err e) p = p
+
+last_ends : (n : ℕ) (e : Event) → n ≡ 511 → ends_round n e ≡ true
+last_ends n e is = ap (λ b. is_round_event e || b) (eq-eqb n 511 is) ∙ or-true (is_round_event e)
+
+not_last : (n : ℕ) (e : Event) → n ≤ 511 → ends_round n e ≡ false → n + 1 ≤ 511
+not_last n e le goes = ⊎_elim (λ is. absurd (false≢true (sym goes ∙ last_ends n e is))) (λ lt. omega arith) (eq-or-lt_of_le le)
+
+part_short : (n : ℕ) (events : List Event) → n ≤ 511 → is_partial n events ≡ true → n + length events ≤ 511
+part_short n [] le partial = omega arith
+part_short n (e ∷ events) le partial =
+    let parts = parts_of n e events partial in
+    let next = part_short (n + 1) events (not_last n e le parts.0) parts.1 in
+    omega arith
+
+-- a part of a round is shorter than a round may be
+pub partial_short : (events : List Event) → is_partial 0 events ≡ true → length events ≤ 511
+partial_short events partial = let short = part_short 0 events (omega arith) partial in omega arith
+
+smaller : (was now : Bool) (n more : ℕ) → was ≡ false → n ≤ 511 → more ≡ n + 1 → (if now then 0 else 513 - more) < (if was then 0 else 513 - n)
+smaller true now n more is le next = absurd (false≢true (sym is))
+smaller false true n more is le next = omega arith
+smaller false false n more is le next = omega arith
+
+-- with each event of a round, fewer may come
+pub gathers_less : (was now : Bool) (events new : List Event) → was ≡ false → MatchBool was (is_whole 0 events ≡ true) (is_partial 0 events ≡ true) → length new ≡ length events + 1
+    → (if now then 0 else 513 - length new) < (if was then 0 else 513 - length events)
+gathers_less was now events new is kept more =
+    smaller was now (length events) (length new) is (partial_short events (subst (λ b. MatchBool b (is_whole 0 events ≡ true) (is_partial 0 events ≡ true)) is kept)) more
+
+-- where the wire failed within a round, no act is due
+pub gathering_idle : (core : CoreMeaning) (events : List Event) (more : History) → is_partial 0 events ≡ true → Gathering core events more → Idle core more
+gathering_idle core events more partial phase = record { none = gathered_none (setting_of core.conf) core events more refl partial phase; all = phase.all }
+
+pub err_inside : {T E : Type 0} (result : Result T E) (y x : E) → result ≡ Err y → result ≡ Err x → y ≡ x
+err_inside result y x is also = err_same y x (sym is ∙ also)
+  where
+  err_same : {T E : Type 0} (y x : E) → Err {T = T} y ≡ Err {T = T} x → y ≡ x
+  err_same y x e = cc

@@ -89,7 +89,7 @@ listened s start now next n spec listens is lt at comes run =
     run_listens s start now next n spec left took comes run
 
 -- an element at a place within a list, whatever stands past its end
-same_at : {X : Type 0} (xs : List X) (n : ℕ) (d e : X) → n < length xs → get_or xs n d ≡ get_or xs n e
+pub same_at : {X : Type 0} (xs : List X) (n : ℕ) (d e : X) → n < length xs → get_or xs n d ≡ get_or xs n e
 same_at [] n d e lt = absurd (omega arith)
 same_at (x ∷ xs) zero d e lt = refl
 same_at (x ∷ xs) (suc n) d e lt = same_at xs n d e (omega arith)

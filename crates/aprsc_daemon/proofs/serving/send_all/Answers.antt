@@ -1,0 +1,38 @@
+use Rattle.std.proofs.Common.{◌≡◌, ◌+◌, ◌∷◌, [], drop, refl, sym, ap, ◌∙◌, subst, get_or}
+use Rattle.aprs_history.specs.Trace.{is_member}
+use Rattle.aprs_history.specs.Runs.{AppendsRun}
+use Rattle.server_core.specs.Meaning.{setting_of}
+use Rattle.server_core.proofs.LinkLemmas.{served_numbers}
+use Rattle.server_core.proofs.WholeRoundLemmas.{next_item}
+use Rattle.aprsc_daemon.specs.Phases.{Offering}
+use Rattle.aprsc_daemon.proofs.ActLemmas.{first_differs, member_at}
+use Rattle.aprsc_daemon.proofs.RunLemmas.{same_at}
+use Rattle.aprsc_daemon.proofs.serving.send_all.Goals as goal
+
+pub send_one-requires-clause-served : goal.send_one-requires-clause-served
+send_one-requires-clause-served g c =
+    let offers = c.args.offers.now in
+    let i = c.loop-link.link-index in
+    let member = member_at offers i 0 c.loop-link-test.true in
+    served_numbers _ c.loop-link.core.seen.links
+    ∙ ap (is_member (get_or offers i 0)) c.loop-link.invariant.1
+    ∙ sym (served_numbers _ c.args.core.now.seen.links)
+    ∙ c.requires.served _ member
+
+pub loop-link-preserved : goal.loop-link-preserved
+loop-link-preserved g c =
+    let was = c.loop-link.invariant.0 in
+    let now = c.send_one.ensures.rest in
+    let offers = c.args.offers.now in
+    let i = c.loop-link.link-index in
+    let left = next_item offers i (get_or offers i 0) c.loop-link-test.true (same_at offers i 0 _ c.loop-link-test.true) in
+    (
+      record { conf = now.conf ∙ was.conf; greatest = now.greatest ∙ was.greatest; stopped = now.stopped ∙ was.stopped },
+      c.send_one.ensures.numbers ∙ c.loop-link.invariant.1,
+      c.send_one.ensures.stops ∙ c.loop-link.invariant.2,
+      c.send_one.ensures.links ∙ c.loop-link.invariant.3,
+      c.send_one.auto.buffer ∙ c.loop-link.invariant.4,
+      λ s start closes same run.
+        c.in_ok-send_one.ensures.run s start (drop (i + 1) offers) closes (ap setting_of was.conf ∙ same) (first_differs 0 c.requires.rising.0 offers i (get_or offers i 0) (drop (i + 1) offers) c.requires.rising.1 left)
+        (subst (λ links. AppendsRun s start (g.W.Wire.shown c.loop-link.wire).told (Offering c.loop-link.core links closes)) left (c.loop-link.invariant.5 s start closes same run)),
+    )
