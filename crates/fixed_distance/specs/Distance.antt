@@ -1,4 +1,5 @@
--- The distance of two places, by a table of the sine and whole numbers alone. Places are in millionths of a degree.
+-- The distance of two places on a globe, this project's own measure: the haversine formula by a table of the sine, in whole
+-- numbers alone. Places are in millionths of a degree (aprs-is.net, Server-side Filter Commands, Range Filter).
 use Rattle.std.specs.Prelude.{ℕ, ◌+◌, ◌-◌, ◌*◌, ◌/◌, ◌%◌, ◌<◌, ◌≤◌, Bool, nat_le, List, [], ◌∷◌, slice_index, ℤ, ◌-ℤ◌, unsigned_abs, min}
 
 -- a million times the sine of each whole number of degrees from 0 to 90
