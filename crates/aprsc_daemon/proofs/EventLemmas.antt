@@ -169,11 +169,9 @@ gathers_less was now events new is kept more =
     smaller was now (length events) (length new) is (partial_short events (subst (λ b. MatchBool b (is_whole 0 events ≡ true) (is_partial 0 events ≡ true)) is kept)) more
 
 -- where the wire failed within a round, no act is due
-pub gathering_idle : (core : CoreMeaning) (events : List Event) (more : History) → is_partial 0 events ≡ true → Gathering core events more → Idle core more
-gathering_idle core events more partial phase = record { none = gathered_none (setting_of core.conf) core events more refl partial phase; all = phase.all }
+pub gathering_idle : (core : CoreMeaning) (events : List Event) (s : Setting) (more : History) → setting_of core.conf ≡ s → is_partial 0 events ≡ true → Gathering core events more → Idle s more
+gathering_idle core events s more same partial phase =
+    record { none = gathered_none s core events more same partial phase; all = phase.all ∙ ap (λ s. length s.listens) same }
 
 pub err_inside : {T E : Type 0} (result : Result T E) (y x : E) → result ≡ Err y → result ≡ Err x → y ≡ x
-err_inside result y x is also = err_same y x (sym is ∙ also)
-  where
-  err_same : {T E : Type 0} (y x : E) → Err {T = T} y ≡ Err {T = T} x → y ≡ x
-  err_same y x e = cc
+err_inside result y x is also = cc

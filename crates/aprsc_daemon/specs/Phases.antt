@@ -25,9 +25,14 @@ pub record Resting (core : CoreMeaning) (more : History) : Type 0 where
   pub all : listens_in more ≡ length core.conf.listens
 
 -- every listener was opened, and no act is due
-pub record Idle (core : CoreMeaning) (more : History) : Type 0 where
-  pub none : due (setting_of core.conf) more ≡ []
-  pub all : listens_in more ≡ length core.conf.listens
+pub record Idle (setting : Setting) (more : History) : Type 0 where
+  pub none : due setting more ≡ []
+  pub all : listens_in more ≡ length setting.listens
+
+-- a stop was read, and every act that it makes due is done
+pub record Finished (setting : Setting) (more : History) : Type 0 where
+  pub stopped : is_stopped more ≡ true
+  pub idle : Idle setting more
 
 -- these events have come since
 pub record Gathering (core : CoreMeaning) (events : List Event) (more : History) : Type 0 where

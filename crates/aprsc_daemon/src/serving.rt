@@ -3,7 +3,7 @@ ghost use Rattle.std.specs.Prelude.{◌≡◌, ◌≤◌, ◌<◌, ◌+◌, ℕ,
 ghost use Rattle.aprs_base.specs.Outside.{Told, WireShown, Rose, CountsLink, new_link};
 ghost use Rattle.aprs_history.specs.Setting.{Setting};
 ghost use Rattle.aprs_history.specs.History.{History, ends_round, is_stopped};
-ghost use Rattle.aprs_history.specs.Rounds.{is_whole};
+ghost use Rattle.aprs_history.specs.Rounds.{AreFresh, greatest_after, is_whole};
 ghost use Rattle.aprs_history.specs.Runs.{AppendsRun};
 ghost use Rattle.aprs_history.specs.Trace.{is_member};
 ghost use Rattle.server_core.specs.LinkSteps.{AreServed, Rises, has_number, numbers};
@@ -88,7 +88,7 @@ fn gather<W: Wire>(wire: &mut W, events: &mut Vec<Event>) -> Result<(), WireErro
     ensures failed { IsErrOf result WireError.Failed → Rose (W.shown wire.old).stops (W.shown wire.new).stops }
     ensures idle { (s : Setting) (start : Option Told) (core : CoreMeaning) → setting_of core.conf ≡ s
         → AppendsRun s start (W.shown wire.old).told (Gathering core [])
-        → IsErrOf result WireError.Failed → AppendsRun s start (W.shown wire.new).told (Idle core) }
+        → IsErrOf result WireError.Failed → AppendsRun s start (W.shown wire.new).told (Idle s) }
     ensures err { (s : Setting) (start : Option Told) (core : CoreMeaning) → setting_of core.conf ≡ s
         → AppendsRun s start (W.shown wire.old).told (Gathering core [])
         → OnErr result (AppendsRun s start (W.shown wire.new).told (λ more. ⊤)) }
@@ -158,4 +158,35 @@ fn close_all<W: Wire>(wire: &mut W, closes: &[u32]) -> Result<(), Memory>
         wire.close(*link)?;
     }
     Ok(())
+}
+
+/// Does what is due after a round, and says whether the server stopped with it.
+fn act<R: Threads + Sync, W: Wire>(
+    rt: &R,
+    alloc: Global,
+    core: &mut Core,
+    wire: &mut W,
+    events: &[Event],
+    buffer: &mut [u8],
+) -> Result<bool, Memory>
+    requires whole { is_whole 0 events.now ≡ true }
+    requires fresh { AreFresh core.old.seen.greatest events.now }
+    requires going { core.old.seen.stopped ≡ false }
+    requires room { length buffer.old ≡ 65536 }
+    ensures run { (s : Setting) (start : Option Told) → setting_of core.old.conf ≡ s
+        → AppendsRun s start (W.shown wire.old).told (Gathering core.old events.now)
+        → OnOk result (AppendsRun s start (W.shown wire.new).told (Resting core.new)) }
+    ensures err { (s : Setting) (start : Option Told) → setting_of core.old.conf ≡ s
+        → AppendsRun s start (W.shown wire.old).told (Gathering core.old events.now)
+        → OnErr result (AppendsRun s start (W.shown wire.new).told (λ more. ⊤)) }
+    ensures conf { OnOk result (core.new.conf ≡ core.old.conf) }
+    ensures greatest { OnOk result (core.new.seen.greatest ≡ greatest_after events.now core.old.seen.greatest) }
+    ensures done { IfOk result (λ done. done ≡ core.new.seen.stopped) }
+    ensures stops { (W.shown wire.new).stops ≡ (W.shown wire.old).stops }
+    ensures links { (W.shown wire.new).links ≡ (W.shown wire.old).links }
+{
+    let acts = core.round(rt, alloc, events)?;
+    send_all(core, wire, acts.offers.as_slice(), buffer)?;
+    close_all(wire, acts.closes.as_slice())?;
+    Ok(acts.done)
 }

@@ -14,8 +14,8 @@ returns-in_err-whole-clause-idle g c = λ s start core same run failed.
     let partial = subst (λ b. MatchBool b (is_whole 0 events ≡ true) (is_partial 0 events ≡ true)) c.loop-whole-test.true c.loop-whole.invariant.0 in
     let error = err_from_is_err_and c.from_residual.result c.from_residual.ensures.1 in
     let stays = c.in_err-whole.ensures.failed (ap Err (sym error.2 ∙ err_inside c.from_residual.result error.0 wire_error.Failed error.1 failed)) in
-    run_told s start (g.W.Wire.shown c.loop-whole.wire).told (g.W.Wire.shown c.take_next.new.wire).told (Idle core) stays.2
-    (run_weaker s start (g.W.Wire.shown c.loop-whole.wire).told (Gathering core events) (Idle core) (λ more. gathering_idle core events more partial)
+    run_told s start (g.W.Wire.shown c.loop-whole.wire).told (g.W.Wire.shown c.take_next.new.wire).told (Idle s) stays.2
+    (run_weaker s start (g.W.Wire.shown c.loop-whole.wire).told (Gathering core events) (Idle s) (λ more. gathering_idle core events s more same partial)
     (c.loop-whole.invariant.3 s start core same run))
 
 pub loop-whole-smaller : goal.loop-whole-smaller

@@ -1,0 +1,39 @@
+-- From one round to the next.
+use Rattle.std.proofs.Common.{◌≡◌, ℕ, ◌≤◌, Bool, true, false, List, [], ◌∷◌, ◌++◌, length, map, refl, sym, ap, ◌∙◌, subst, Option}
+use Rattle.aprs_base.specs.Outside.{Told}
+use Rattle.aprs_base.specs.declared.events.Event.{Event}
+use Rattle.aprs_history.specs.Setting.{Setting}
+use Rattle.aprs_history.specs.History.{History, is_stopped, trace_of}
+use Rattle.aprs_history.specs.Rounds.{with_events}
+use Rattle.aprs_history.specs.Acts.{due}
+use Rattle.aprs_history.specs.Runs.{AppendsRun, listens_in}
+use Rattle.server_core.specs.ActsSeen.{ActsSeen}
+use Rattle.server_core.specs.Meaning.{AreActs, CoreMeaning, Stands, setting_of}
+use Rattle.aprsc_daemon.specs.Phases.{Finished, Gathering, Idle, Offering, Resting}
+use Rattle.aprsc_daemon.proofs.RunLemmas.{run_weaker}
+
+pub begins_offers : (s : Setting) (start now : Option Told) (core new : CoreMeaning) (events : List Event) (acts : ActsSeen) → new.conf ≡ core.conf
+    → ((h : History) → Stands core h → Stands new (with_events events h)) → ((h : History) → Stands core h → AreActs (setting_of new.conf) (with_events events h) acts)
+    → AppendsRun s start now (Gathering core events) → AppendsRun s start now (Offering new acts.offers acts.closes)
+begins_offers s start now core new events acts conf stands acts_are =
+    run_weaker s start now (Gathering core events) (Offering new acts.offers acts.closes) (λ more phase.
+      record {
+        stands = subst (Stands new) (sym phase.since) (stands phase.before phase.resting.stands);
+        owing = record {
+          round = trace_of (setting_of new.conf) (with_events events phase.before);
+          owed = ap (due (setting_of new.conf)) phase.since ∙ (acts_are phase.before phase.resting.stands).due;
+          same = λ link member. ap (λ h. Rattle.aprs_history.specs.Texts.untaken (setting_of new.conf) (trace_of (setting_of new.conf) h) link) phase.since;
+          all = phase.all ∙ ap (λ c. length c.listens) (sym conf);
+        };
+      })
+
+pub rests : (s : Setting) (start now : Option Told) (core : CoreMeaning) → AppendsRun s start now (Offering core [] []) → AppendsRun s start now (Resting core)
+rests s start now core = run_weaker s start now (Offering core [] []) (Resting core) (λ more phase. record { stands = phase.stands; none = phase.owing.owed; all = phase.owing.all })
+
+pub begins_round : (s : Setting) (start now : Option Told) (core : CoreMeaning) → core.seen.stopped ≡ false → AppendsRun s start now (Resting core) → AppendsRun s start now (Gathering core [])
+begins_round s start now core going = run_weaker s start now (Resting core) (Gathering core []) (λ more phase.
+    record { before = more; since = refl; resting = phase; going = sym phase.stands.stopped ∙ going; all = phase.all })
+
+pub finishes : (s : Setting) (start now : Option Told) (core : CoreMeaning) → setting_of core.conf ≡ s → core.seen.stopped ≡ true → AppendsRun s start now (Resting core) → AppendsRun s start now (Finished s)
+finishes s start now core same stopped = run_weaker s start now (Resting core) (Finished s) (λ more phase.
+    record { stopped = sym phase.stands.stopped ∙ stopped; idle = record { none = subst (λ t. due t more ≡ []) same phase.none; all = phase.all ∙ ap (λ s. length s.listens) same } })

@@ -1,0 +1,58 @@
+-- Steps that may fail, tests that hold together, and texts without blanks and slashes.
+use Rattle.std.proofs.Common.{◌≡◌, ℕ, ◌≤◌, Bool, true, false, cond, ◌&&◌, ◌||◌, List, [], ◌∷◌, ◌++◌, Option, Some, None, length, refl, arith}
+use Rattle.std.specs.Prelude.{option_map, not}
+use Rattle.std.specs.List.{list_all}
+use Rattle.std.proofs.lemmas.List.Folds.{list_all-append}
+use Rattle.aprs_base.specs.Bytes.{is_blank, is_digit}
+use Rattle.std.proofs.lemmas.Bool.Decides.{nat_tests}
+use Rattle.filter_lang.specs.Parts.{◌>>=◌, is_slash}
+
+pub bind_some : {A B : Type 0} (o : Option A) (f : A → Option B) (y : B) → (o >>= f) ≡ Some y → (x : A) × ((o ≡ Some x) × (f x ≡ Some y))
+bind_some (Some x) f y h = (x, (refl, h))
+bind_some None f y h = cc
+
+pub map_some : {A B : Type 0} (f : A → B) (o : Option A) (y : B) → option_map f o ≡ Some y → (x : A) × ((o ≡ Some x) × (f x ≡ y))
+map_some f (Some x) y h = (x, (refl, cc))
+map_some f None y h = cc
+
+-- a test before a value, and one that refuses it
+pub cond_some : {A : Type 0} (b : Bool) (o : Option A) (y : A) → cond b o None ≡ Some y → (b ≡ true) × (o ≡ Some y)
+cond_some true o y h = (refl, h)
+cond_some false o y h = cc
+
+pub cond_not_some : {A : Type 0} (b : Bool) (o : Option A) (y : A) → cond b None o ≡ Some y → (b ≡ false) × (o ≡ Some y)
+cond_not_some true o y h = cc
+cond_not_some false o y h = (refl, h)
+
+pub both : (a b : Bool) → (a && b) ≡ true → (a ≡ true) × (b ≡ true)
+both true b h = (refl, h)
+both false b h = cc
+
+pub neither : (a b : Bool) → (a || b) ≡ false → (a ≡ false) × (b ≡ false)
+neither true b h = cc
+neither false b h = (refl, h)
+
+pub unnot : (a : Bool) → not a ≡ true → a ≡ false
+unnot true h = cc
+unnot false h = refl
+
+-- neither blank nor slash
+abbrev pub is_clean : ℕ → Bool
+is_clean b = not (is_blank b) && not (is_slash b)
+
+pub clean_from : (test : ℕ → Bool) → ((b : ℕ) → test b ≡ true → is_clean b ≡ true) → (xs : List ℕ) → list_all test xs ≡ true → list_all is_clean xs ≡ true
+clean_from test each [] h = refl
+clean_from test each (x ∷ xs) h =
+    let parts = both (test x) (list_all test xs) h in
+    rw (each x parts.0, clean_from test each xs parts.1) refl
+
+pub clean_append : (xs ys : List ℕ) → list_all is_clean xs ≡ true → list_all is_clean ys ≡ true → list_all is_clean (xs ++ ys) ≡ true
+clean_append xs ys p q = rw (list_all-append is_clean xs ys, p, q) refl
+
+pub digit_clean : (b : ℕ) → is_digit b ≡ true → is_clean b ≡ true
+digit_clean b h = grind (arith, nat_tests)
+
+-- a canonical text is no longer than the text that it is for, and it has no blank and no slash
+pub record Neat (text canonical : List ℕ) : Type 0 where
+  pub shorter : length canonical ≤ length text
+  pub clean : list_all is_clean canonical ≡ true
