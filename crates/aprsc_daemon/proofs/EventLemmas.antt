@@ -175,3 +175,10 @@ gathering_idle core events s more same partial phase =
 
 pub err_inside : {T E : Type 0} (result : Result T E) (y x : E) → result ≡ Err y → result ≡ Err x → y ≡ x
 err_inside result y x is also = cc
+
+pub numbered_after : (new old before now after : ℕ) (slice events : List Event) → slice ≡ events → old ≤ before → Counted before events now → new ≡ greatest_after slice old → after ≡ now → new ≤ after
+numbered_after new old before now after slice events same le counted is stays =
+    let below = (fresh_above events old before le counted.fresh).1 in
+    let greatest = counted.greatest in
+    let is_here : new ≡ greatest_after events old = is ∙ ap (λ xs. greatest_after xs old) same in
+    omega arith

@@ -1,3 +1,4 @@
 pub mod ActLemmas
 pub mod EventLemmas
 pub mod RunLemmas
+pub mod ServeLemmas

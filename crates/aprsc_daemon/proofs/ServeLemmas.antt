@@ -4,25 +4,28 @@ use Rattle.aprs_base.specs.Outside.{Told}
 use Rattle.aprs_base.specs.declared.events.Event.{Event}
 use Rattle.aprs_history.specs.Setting.{Setting}
 use Rattle.aprs_history.specs.History.{History, is_stopped, trace_of}
+use Rattle.aprs_history.specs.Texts.{untaken}
 use Rattle.aprs_history.specs.Rounds.{with_events}
-use Rattle.aprs_history.specs.Acts.{due}
+use Rattle.aprs_history.specs.Acts.{Closes, due, offer_to}
 use Rattle.aprs_history.specs.Runs.{AppendsRun, listens_in}
 use Rattle.server_core.specs.ActsSeen.{ActsSeen}
 use Rattle.server_core.specs.Meaning.{AreActs, CoreMeaning, Stands, setting_of}
 use Rattle.aprsc_daemon.specs.Phases.{Finished, Gathering, Idle, Offering, Resting}
 use Rattle.aprsc_daemon.proofs.RunLemmas.{run_weaker}
 
-pub begins_offers : (s : Setting) (start now : Option Told) (core new : CoreMeaning) (events : List Event) (acts : ActsSeen) → new.conf ≡ core.conf
+pub begins_offers : (s : Setting) (start now : Option Told) (core new : CoreMeaning) (events : List Event) (acts : ActsSeen) (offers closes : List ℕ) → offers ≡ acts.offers → closes ≡ acts.closes → new.conf ≡ core.conf
     → ((h : History) → Stands core h → Stands new (with_events events h)) → ((h : History) → Stands core h → AreActs (setting_of new.conf) (with_events events h) acts)
-    → AppendsRun s start now (Gathering core events) → AppendsRun s start now (Offering new acts.offers acts.closes)
-begins_offers s start now core new events acts conf stands acts_are =
-    run_weaker s start now (Gathering core events) (Offering new acts.offers acts.closes) (λ more phase.
+    → AppendsRun s start now (Gathering core events) → AppendsRun s start now (Offering new offers closes)
+begins_offers s start now core new events acts offers closes offers_are closes_are conf stands acts_are =
+    run_weaker s start now (Gathering core events) (Offering new offers closes) (λ more phase.
       record {
         stands = subst (Stands new) (sym phase.since) (stands phase.before phase.resting.stands);
         owing = record {
           round = trace_of (setting_of new.conf) (with_events events phase.before);
-          owed = ap (due (setting_of new.conf)) phase.since ∙ (acts_are phase.before phase.resting.stands).due;
-          same = λ link member. ap (λ h. Rattle.aprs_history.specs.Texts.untaken (setting_of new.conf) (trace_of (setting_of new.conf) h) link) phase.since;
+          owed = ap (due (setting_of new.conf)) phase.since ∙ (acts_are phase.before phase.resting.stands).due
+            ∙ ap (λ links. map (offer_to (setting_of new.conf) (trace_of (setting_of new.conf) (with_events events phase.before))) links ++ map Closes acts.closes) (sym offers_are)
+            ∙ ap (λ links. map (offer_to (setting_of new.conf) (trace_of (setting_of new.conf) (with_events events phase.before))) offers ++ map Closes links) (sym closes_are);
+          same = λ link member. ap (λ h. untaken (setting_of new.conf) (trace_of (setting_of new.conf) h) link) phase.since;
           all = phase.all ∙ ap (λ c. length c.listens) (sym conf);
         };
       })

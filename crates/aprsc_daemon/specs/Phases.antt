@@ -1,5 +1,5 @@
 -- How far the serving of a wire has come: what holds of the happenings so far.
-use Rattle.std.specs.Prelude.{◌≡◌, ℕ, ◌+◌, ◌<◌, ◌≤◌, ◌&&◌, Bool, true, false, not, List, [], ◌∷◌, ◌++◌, length, drop, map, Option, Some, None}
+use Rattle.std.specs.Prelude.{◌≡◌, ℕ, ◌+◌, ◌<◌, ◌≤◌, ◌&&◌, Bool, true, false, not, List, [], ◌∷◌, ◌++◌, length, drop, map, Option, Some, None, ⊤}
 use Rattle.aprs_base.specs.Outside.{CountsLink, new_link}
 use Rattle.aprs_base.specs.declared.events.Event.{Event}
 use Rattle.aprs_history.specs.Setting.{Setting}
@@ -9,6 +9,8 @@ use Rattle.aprs_history.specs.History.{History, ends_round, is_stopped, trace_of
 use Rattle.aprs_history.specs.Rounds.{AreFresh, greatest_after, listens_after, only_listens, with_events}
 use Rattle.aprs_history.specs.Acts.{Act, Closes, due, listens_from, offer_to}
 use Rattle.aprs_history.specs.Runs.{are_listens, listens_in}
+use Rattle.aprsc_daemon.specs.declared.serving.End.{End}
+use Rattle.aprsc_daemon.specs.declared.serving.End.TheVariants as ended
 use Rattle.server_core.specs.Meaning.{ConfSeen, CoreMeaning, Stands, setting_of}
 
 -- so many listeners were opened, and nothing else happened
@@ -64,3 +66,9 @@ is_partial before (e ∷ events) = not (ends_round before e) && is_partial (befo
 pub record Counted (first : ℕ) (events : List Event) (last : ℕ) : Type 0 where
   pub fresh : AreFresh first events
   pub greatest : greatest_after events first ≡ last
+
+-- what is so where the serving of a wire ended
+abbrev pub Ends : Setting → End → History → Type 0
+Ends setting ended.Stopped more = Finished setting more
+Ends setting ended.Failed more = Idle setting more
+Ends setting ended.Memory more = ⊤

@@ -8,14 +8,18 @@ ghost use Rattle.aprs_history.specs.Runs.{AppendsRun};
 ghost use Rattle.aprs_history.specs.Trace.{is_member};
 ghost use Rattle.server_core.specs.LinkSteps.{AreServed, Rises, has_number, numbers};
 ghost use Rattle.server_core.specs.Meaning.{CoreMeaning, setting_of};
-ghost use Rattle.aprsc_daemon.specs.Phases.{Counted, Gathering, Idle, Listening, Offering, Resting, is_partial};
+ghost use Rattle.aprsc_daemon.specs.Phases.{Counted, Ends, Gathering, Idle, Listening, Offering, Resting, is_partial};
 ghost use Rattle.server_core.specs.Steps.{SameRest};
 
 use aprs_base::{Event, ListenSpec, Memory, Sent, Wire, WireError};
 use server_core::{Acts, Core};
 use std::alloc::Global;
 use std::marker::Sync;
+use std::sync::{Wait, WaitMethods};
 use std::thread::Threads;
+
+/// The most bytes of one offer.
+const MOST_OFFERED: usize = 65_536;
 
 /// Why not every listener was opened.
 #[derive(Clone, Copy, PartialEq, Eq, Debug)]
@@ -189,4 +193,77 @@ fn act<R: Threads + Sync, W: Wire>(
     send_all(core, wire, acts.offers.as_slice(), buffer)?;
     close_all(wire, acts.closes.as_slice())?;
     Ok(acts.done)
+}
+
+/// Serves one round, and says whether the server stopped with it.
+fn serve_round<R: Threads + Sync, W: Wire>(
+    rt: &R,
+    alloc: Global,
+    core: &mut Core,
+    wire: &mut W,
+    events: &mut Vec<Event>,
+    buffer: &mut [u8],
+) -> Result<bool, WireError>
+    requires going { core.old.seen.stopped ≡ false }
+    requires numbered { core.old.seen.greatest ≤ (W.shown wire.old).links }
+    requires room { length buffer.old ≡ 65536 }
+    ensures run { (s : Setting) (start : Option Told) → setting_of core.old.conf ≡ s
+        → AppendsRun s start (W.shown wire.old).told (Resting core.old)
+        → OnOk result (AppendsRun s start (W.shown wire.new).told (Resting core.new)) }
+    ensures idle { (s : Setting) (start : Option Told) → setting_of core.old.conf ≡ s
+        → AppendsRun s start (W.shown wire.old).told (Resting core.old)
+        → IsErrOf result WireError.Failed → AppendsRun s start (W.shown wire.new).told (Idle s) }
+    ensures err { (s : Setting) (start : Option Told) → setting_of core.old.conf ≡ s
+        → AppendsRun s start (W.shown wire.old).told (Resting core.old)
+        → OnErr result (AppendsRun s start (W.shown wire.new).told (λ more. ⊤)) }
+    ensures failed { IsErrOf result WireError.Failed → Rose (W.shown wire.old).stops (W.shown wire.new).stops }
+    ensures conf { OnOk result (core.new.conf ≡ core.old.conf) }
+    ensures numbered { OnOk result (core.new.seen.greatest ≤ (W.shown wire.new).links) }
+    ensures done { IfOk result (λ done. done ≡ core.new.seen.stopped) }
+    ensures stops { (W.shown wire.old).stops ≤ (W.shown wire.new).stops }
+{
+    events.clear();
+    gather(wire, events)?;
+    match act(rt, alloc, core, wire, events.as_slice(), buffer) {
+        Ok(done) => Ok(done),
+        Err(Memory) => Err(WireError::Memory),
+    }
+}
+
+/// How the serving of a wire ends.
+#[derive(Clone, Copy, PartialEq, Eq, Debug)]
+pub(crate) enum End {
+    /// A stop was read, and every act that it made due was done.
+    Stopped,
+    /// The wire failed.
+    Failed,
+    Memory,
+}
+
+/// Serves a wire, round after round, until a stop or a fault.
+pub(crate) fn serve<R: Threads + Sync + Wait, W: Wire>(
+    rt: &R,
+    alloc: Global,
+    core: &mut Core,
+    wire: &mut W,
+) -> End
+    requires going { core.old.seen.stopped ≡ false }
+    requires numbered { core.old.seen.greatest ≤ (W.shown wire.old).links }
+    ensures run { (s : Setting) (start : Option Told) → setting_of core.old.conf ≡ s
+        → AppendsRun s start (W.shown wire.old).told (Resting core.old)
+        → AppendsRun s start (W.shown wire.new).told (Ends s result) }
+    ensures failed { result ≡ End.Failed → Rose (W.shown wire.old).stops (W.shown wire.new).stops }
+    ensures stops { (W.shown wire.old).stops ≤ (W.shown wire.new).stops }
+{
+    let mut events = Vec::new(alloc);
+    let mut buffer = [0u8; MOST_OFFERED];
+    for _ in rt.forever() {
+        match serve_round(rt, alloc, core, wire, &mut events, &mut buffer) {
+            Ok(false) => {}
+            Ok(true) => return End::Stopped,
+            Err(WireError::Failed) => return End::Failed,
+            Err(WireError::Memory) => return End::Memory,
+        }
+    }
+    unreachable!()
 }

@@ -2,21 +2,32 @@ use Rattle.std.proofs.Common.{◌≡◌, [], true, refl, sym, ap, ◌∙◌, sub
 use Rattle.std.specs.Bool.{⊤}
 use Rattle.aprs_history.specs.Runs.{AppendsRun}
 use Rattle.server_core.specs.Meaning.{setting_of}
-use Rattle.aprsc_daemon.specs.Phases.{Gathering, Offering}
 use Rattle.aprsc_daemon.proofs.EventLemmas.{err_any}
-use Rattle.aprsc_daemon.proofs.RunLemmas.{run_weaker}
 use Rattle.aprsc_daemon.proofs.ServeLemmas.{begins_offers, rests}
 use Rattle.aprsc_daemon.proofs.serving.act.Goals as goal
 
 pub returns-in_err-send_all-clause-err : goal.returns-in_err-send_all-clause-err
 returns-in_err-send_all-clause-err g c = λ s start same run.
-    let offering = begins_offers s start (g.W.Wire.shown c.args.wire.now).told c.args.core.now c.round.new.self c.args.events.now c.in_ok-acts.acts c.in_ok-acts.ensures.conf c.in_ok-acts.ensures.stands c.in_ok-acts.ensures.due run in
-    err_any c.from_residual-in_err-send_all.result
-    (c.in_err-send_all.ensures.err s start c.in_ok-acts.acts.closes (ap setting_of c.in_ok-acts.ensures.conf ∙ same)
-    (subst (λ offers. AppendsRun s start (g.W.Wire.shown c.args.wire.now).told (Offering c.round.new.self offers c.in_ok-acts.acts.closes)) ? offering))
+    let acts = c.in_ok-acts.acts in
+    err_any {P = AppendsRun s start (g.W.Wire.shown c.send_all.new.wire).told (λ more. ⊤)} c.from_residual-in_err-send_all.result
+    (c.in_err-send_all.ensures.err s start acts.closes (ap setting_of c.in_ok-acts.ensures.conf ∙ same)
+    (begins_offers s start (g.W.Wire.shown c.args.wire.now).told c.args.core.now c.round.new.self c.args.events.now acts c.as_slice.result.now acts.closes
+      (c.as_slice.ensures.value ∙ ap (λ a. a.offers) c.acts.view_is) refl c.in_ok-acts.ensures.conf c.in_ok-acts.ensures.stands c.in_ok-acts.ensures.due run))
 
 pub returns-in_err-close_all-clause-err : goal.returns-in_err-close_all-clause-err
-returns-in_err-close_all-clause-err g c = λ s start same run. ?
+returns-in_err-close_all-clause-err g c = λ s start same run.
+    let acts = c.in_ok-acts.acts in
+    err_any {P = AppendsRun s start (g.W.Wire.shown c.close_all.new.wire).told (λ more. ⊤)} c.from_residual-in_err-close_all.result
+    (c.in_err-close_all.ensures.err s start c.send_all.new.core (ap setting_of (c.in_ok-send_all.ensures.rest.conf ∙ c.in_ok-acts.ensures.conf) ∙ same)
+    (c.in_ok-send_all.ensures.run s start c.as_slice-2.result.now (ap setting_of c.in_ok-acts.ensures.conf ∙ same)
+    (begins_offers s start (g.W.Wire.shown c.args.wire.now).told c.args.core.now c.round.new.self c.args.events.now acts c.as_slice.result.now c.as_slice-2.result.now
+      (c.as_slice.ensures.value ∙ ap (λ a. a.offers) c.acts.view_is) (c.as_slice-2.ensures.value ∙ ap (λ a. a.closes) c.acts.view_is) c.in_ok-acts.ensures.conf c.in_ok-acts.ensures.stands c.in_ok-acts.ensures.due run)))
 
 pub returns-clause-run : goal.returns-clause-run
-returns-clause-run g c = λ s start same run. ?
+returns-clause-run g c = λ s start same run.
+    let acts = c.in_ok-acts.acts in
+    rests s start (g.W.Wire.shown c.close_all.new.wire).told c.send_all.new.core
+    (c.in_ok-close_all.ensures.run s start c.send_all.new.core (ap setting_of (c.in_ok-send_all.ensures.rest.conf ∙ c.in_ok-acts.ensures.conf) ∙ same)
+    (c.in_ok-send_all.ensures.run s start c.as_slice-2.result.now (ap setting_of c.in_ok-acts.ensures.conf ∙ same)
+    (begins_offers s start (g.W.Wire.shown c.args.wire.now).told c.args.core.now c.round.new.self c.args.events.now acts c.as_slice.result.now c.as_slice-2.result.now
+      (c.as_slice.ensures.value ∙ ap (λ a. a.offers) c.acts.view_is) (c.as_slice-2.ensures.value ∙ ap (λ a. a.closes) c.acts.view_is) c.in_ok-acts.ensures.conf c.in_ok-acts.ensures.stands c.in_ok-acts.ensures.due run)))
