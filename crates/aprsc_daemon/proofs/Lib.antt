@@ -1,0 +1,3 @@
+pub mod PartLemmas
+mod Rows
+pub mod WriteLemmas

@@ -1,0 +1,1 @@
+//! The files and the standard output of the system.
