@@ -2,7 +2,7 @@
 use Rattle.std.proofs.Common.{◌≡◌, ℕ, ◌+◌, ◌-◌, ◌≤◌, arith, List, ◌++◌, take, drop, length, refl, sym, ap, append_assoc, ◌∙◌}
 use Rattle.std.specs.Prelude.{Option, Some, None}
 use Rattle.std.specs.Option.{option_map}
-use Rattle.std.proofs.lemmas.List.{take_rest, length-drop}
+use Rattle.std.proofs.lemmas.List.{take_rest, length-drop, take-append-drop}
 use Rattle.std.proofs.Math.Seq.{take-add}
 
 -- what is written after what was written
@@ -30,3 +30,11 @@ pub still_within : (bytes : List ℕ) (done count : ℕ) → done ≤ length byt
 still_within bytes done count within short =
     let rest : length (take (length bytes - done) (drop done bytes)) ≡ length bytes - done = rw (take_rest bytes done) (length-drop done bytes) in
     omega arith
+
+-- a text that begins with another goes on by the rest
+pub goes_on : (before after : List ℕ) (count limit : ℕ) → take (length before) after ≡ before → length after ≡ length before + count → count ≤ limit
+    → (bytes : List ℕ) × Unit {0} × (length bytes ≤ limit) × (after ≡ before ++ bytes)
+goes_on before after count limit starts grew short =
+    let rest : length (drop (length before) after) ≡ length after - length before = length-drop (length before) after in
+    let left : length (drop (length before) after) ≤ limit = omega arith in
+    (drop (length before) after, tt, left, sym (take-append-drop (length before) after) ∙ ap (λ p. p ++ drop (length before) after) starts)
