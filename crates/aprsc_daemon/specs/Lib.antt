@@ -1,1 +1,4 @@
 pub mod Phases
+pub mod Saying
+pub mod ThreeLines
+pub mod Words

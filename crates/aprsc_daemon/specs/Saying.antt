@@ -1,0 +1,36 @@
+-- What the program writes on its standard output.
+use Rattle.std.specs.Prelude.{◌≡◌, ℕ, ◌≤◌, List, ◌++◌, take, codes, Result, OnOk, OnErr, IsErrOf}
+use Rattle.std.specs.Option.{option_map}
+use Rattle.std.specs.Fmt.{decimal}
+use Rattle.aprs_base.specs.Outside.{Rose}
+use Rattle.aprs_base.specs.Stores.{SinkShown}
+use Rattle.aprs_base.specs.declared.sinks.SinkError.{SinkError}
+use Rattle.aprs_base.specs.declared.sinks.SinkError.TheVariants as sink_error
+
+-- the sink's text grew by these bytes, as far as it tells it
+abbrev pub Grew : SinkShown → SinkShown → List ℕ → Type 0
+Grew old new bytes = new.told ≡ option_map (λ text. text ++ bytes) old.told
+
+-- all bytes were written, or else some first ones; a failure stands only where the count of faults rose
+pub record AfterSaying {T : Type 0} (old new : SinkShown) (bytes : List ℕ) (result : Result T SinkError) : Type 0 where
+  pub ok : OnOk result (Grew old new bytes)
+  pub err : OnErr result ((k : ℕ) × Grew old new (take k bytes))
+  pub failed : IsErrOf result sink_error.Failed → Rose old.faults new.faults
+  pub faults : old.faults ≤ new.faults
+
+-- ---- the texts
+
+abbrev pub usage_text : List ℕ
+usage_text = codes "usage: aprsc -c FILE [-w N] [-y] | aprsc drill SEED LINES LINKS [-w N] | aprsc net FILE\n"
+
+abbrev pub not_built_text : List ℕ → ℕ → List ℕ
+not_built_text file line = file ++ (codes ": line " ++ (decimal line ++ codes ": not-built\n"))
+
+abbrev pub too_large_text : List ℕ → List ℕ
+too_large_text file = file ++ codes ": too large\n"
+
+abbrev pub unread_text : List ℕ → List ℕ
+unread_text file = file ++ codes ": cannot be read\n"
+
+abbrev pub listen_failed_text : ℕ → List ℕ
+listen_failed_text number = codes "listen " ++ (decimal number ++ codes " failed\n")

@@ -1,0 +1,120 @@
+//! The files and the standard output of the system.
+ghost use Rattle.std.specs.Prelude.{◌≡◌, ◌≢◌, ◌<◌, ◌≤◌, ◌+◌, None, IfOk, length};
+ghost use Rattle.std.specs.Io.{StartsWith};
+ghost use Rattle.aprs_base.specs.Outside.{Rose};
+
+use aprs_base::{FileError, Files, Sink, SinkError};
+use std::io::{ErrorKind, Print, Read};
+use std::{fs, io};
+
+/// The files of the system, and how many reads of them failed.
+#[derive(Drop)]
+pub struct RealFiles<R: fs::Files + Drop> {
+    rt: R,
+    faults: u64,
+}
+
+impl<R: fs::Files + Drop> RealFiles<R> {
+    pub fn new(rt: R) -> RealFiles<R>
+        ensures { result ≡ record { rt = rt; faults = 0 } }
+    {
+        RealFiles { rt, faults: 0 }
+    }
+
+    /// The answer for an error of the system.
+    fn refuse(&mut self, error: &io::Error) -> FileError
+        ensures faults { self.old.faults ≤ self.new.faults }
+        ensures failed { result ≡ FileError.Failed → Rose self.old.faults self.new.faults }
+        ensures not_big { result ≢ FileError.Big }
+    {
+        if error.kind() == ErrorKind::OutOfMemory {
+            return FileError::Memory;
+        }
+        self.faults = self.faults.saturating_add(1);
+        FileError::Failed
+    }
+}
+
+/// Appends what a file holds, but at most `most` bytes.
+fn append<F: Read + Drop>(file: F, most: u64, out: &mut Vec<u8>) -> io::Result<usize>
+    ensures appends { StartsWith out.new.items out.old.items }
+    ensures count { IfOk result (λ n. length out.new.items ≡ length out.old.items + n) }
+{
+    file.take(most).read_to_end(out)
+}
+
+impl<R: fs::Files + Drop> Files for RealFiles<R> {
+    ghost shown = { λ f. record { told = None; faults = f.faults } };
+
+    fn read(&mut self, name: &str, limit: usize, out: &mut Vec<u8>) -> Result<(), FileError> {
+        let before = out.len();
+        let file = match fs::open(&self.rt, name) {
+            Ok(file) => file,
+            Err(error) => return Err(self.refuse(&error)),
+        };
+        let most = (limit as u64).saturating_add(1);
+        match append(file, most, out) {
+            Ok(count) if count <= limit => Ok(()),
+            Ok(_) => {
+                out.truncate(before);
+                Err(FileError::Big)
+            }
+            Err(error) => {
+                out.truncate(before);
+                Err(self.refuse(&error))
+            }
+        }
+    }
+}
+
+/// The standard output, and how often it failed or took nothing.
+#[derive(Drop)]
+pub struct RealSink<R: Print + Drop> {
+    rt: R,
+    faults: u64,
+}
+
+impl<R: Print + Drop> RealSink<R> {
+    pub fn new(rt: R) -> RealSink<R>
+        ensures { result ≡ record { rt = rt; faults = 0 } }
+    {
+        RealSink { rt, faults: 0 }
+    }
+
+    fn note_fault(&mut self)
+        ensures rose { Rose self.old.faults self.new.faults }
+        ensures faults { self.old.faults ≤ self.new.faults }
+    {
+        self.faults = self.faults.saturating_add(1);
+    }
+
+    /// Notes that nothing was taken of a piece that isn't empty.
+    fn note_count(&mut self, count: usize, bytes: &[u8])
+        ensures nothing { count ≡ 0 → 0 < length bytes.now → Rose self.old.faults self.new.faults }
+        ensures faults { self.old.faults ≤ self.new.faults }
+    {
+        if count == 0 && !bytes.is_empty() {
+            self.note_fault();
+        }
+    }
+}
+
+impl<R: Print + Drop> Sink for RealSink<R> {
+    ghost shown = { λ s. record { told = None; faults = s.faults } };
+
+    fn write(&mut self, bytes: &[u8]) -> Result<usize, SinkError> {
+        match self.rt.write_some(bytes) {
+            Ok(count) => {
+                self.note_count(count, bytes);
+                Ok(count)
+            }
+            Err(error) => {
+                if error.kind() == ErrorKind::OutOfMemory {
+                    return Err(SinkError::Memory);
+                }
+                self.note_fault();
+                Err(SinkError::Failed)
+            }
+        }
+    }
+}
