@@ -1,5 +1,5 @@
 -- Events that come one after another, up to the end of a round.
-use Rattle.std.proofs.Common.{◌≡◌, ℕ, zero, suc, ◌+◌, ◌<◌, ◌≤◌, Bool, true, false, not, ◌&&◌, List, [], ◌∷◌, ◌++◌, length, refl, sym, ap, ◌∙◌, subst, arith, Option, Some, None, max, IfSome, if◌then◌else◌, length-append, Result, Ok, Err, OnErr, ◌||◌, ◌-◌, eq-eqb, ⊎_elim}
+use Rattle.std.proofs.Common.{◌≡◌, ℕ, zero, suc, ◌+◌, ◌<◌, ◌≤◌, Bool, true, false, not, ◌&&◌, List, [], ◌∷◌, ◌++◌, length, refl, sym, ap, ◌∙◌, subst, arith, Option, Some, None, max, IfSome, if◌then◌else◌, length-append, Result, Ok, Err, IfErr, OnErr, ◌||◌, ◌-◌, eq-eqb, ⊎_elim}
 use Rattle.std.proofs.Math.Bool.{or-true}
 use Rattle.std.proofs.Math.Nat.{eq-or-lt_of_le}
 use Rattle.std.specs.Bool.{MatchBool}
@@ -182,3 +182,6 @@ numbered_after new old before now after slice events same le counted is stays =
     let greatest = counted.greatest in
     let is_here : new ≡ greatest_after events old = is ∙ ap (λ xs. greatest_after xs old) same in
     omega arith
+
+pub err_of : {T E : Type 0} → (P : E → Type 0) (result : Result T E) (y z : E) → result ≡ Err y → y ≡ z → P z → IfErr result P
+err_of P result y z is same p = subst (λ r. IfErr r P) (sym is) (subst P (sym same) p)

@@ -1,6 +1,8 @@
 pub mod ActLemmas
+pub mod CauseLemmas
 pub mod EventLemmas
 pub mod PartLemmas
+mod Rows
 pub mod RunLemmas
 pub mod ServeLemmas
 pub mod WriteLemmas

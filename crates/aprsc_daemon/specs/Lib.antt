@@ -1,3 +1,4 @@
+pub mod Causes
 pub mod Phases
 pub mod Saying
 pub mod ThreeLines

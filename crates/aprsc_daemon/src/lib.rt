@@ -3,6 +3,7 @@
 
 #[cfg(test)]
 mod reading_tests;
+mod program;
 mod real;
 mod saying;
 #[cfg(test)]

@@ -36,6 +36,7 @@ pub(crate) fn listen_all<W: Wire>(wire: &mut W, listens: &[ListenSpec]) -> Resul
         → OnOk result (AppendsRun s (W.shown wire.old).told (W.shown wire.new).told (Listening s (length listens.now))) }
     ensures failed { IfErr result (λ e. (n : ℕ) → e ≡ ListenError.Failed n → Rose (W.shown wire.old).stops (W.shown wire.new).stops
         × ((s : Setting) → s.listens ≡ listens.now → AppendsRun s (W.shown wire.old).told (W.shown wire.new).told (Listening s n))) }
+    ensures within { IfErr result (λ e. (n : ℕ) → e ≡ ListenError.Failed n → n < length listens.now) }
     ensures err { (s : Setting) → s.listens ≡ listens.now
         → OnErr result (AppendsRun s (W.shown wire.old).told (W.shown wire.new).told (λ more. ⊤)) }
     ensures stops { (W.shown wire.old).stops ≤ (W.shown wire.new).stops }

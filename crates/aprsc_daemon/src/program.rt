@@ -1,0 +1,228 @@
+//! The program: what its words name is read and served.
+ghost use Rattle.std.specs.Prelude.{◌≡◌, ◌≤◌, ◌<◌, ℕ, List, Option, Ok, Some, IfOk, IfErr, IsTrue, OnErr, ⊤, length, map, string_bytes};
+ghost use Rattle.aprs_base.specs.Bytes.{is_station};
+ghost use Rattle.aprs_base.specs.Outside.{Rose, Told, WireShown};
+ghost use Rattle.aprs_base.specs.Stores.{FilesShown, Holds, SinkShown};
+ghost use Rattle.aprs_base.specs.declared.files.MemFile.{MemFile};
+ghost use Rattle.aprs_history.specs.Runs.{AppendsRun};
+ghost use Rattle.server_core.specs.Meaning.{ConfSeen, setting_of};
+ghost use Rattle.aprsc_daemon.specs.Causes.{Cause, Ended, HasCause, HasNamed, OpensOnly, Said, code_of_status, status_of};
+ghost use Rattle.aprsc_daemon.specs.Phases.{Ends, Listening};
+ghost use Rattle.aprsc_daemon.specs.ThreeLines.{conf_of};
+ghost use Rattle.aprsc_daemon.specs.Words.{file_word};
+
+use crate::saying::{listen_failed, not_built, too_large, unread, usage, write_all};
+use crate::serving::{End, ListenError, listen_all, serve};
+use crate::three_lines::{ConfFault, read_conf};
+use crate::words::file_word;
+use aprs_base::{FileError, Files, Memory, Sink, SinkError, Wire};
+use server_core::{Conf, Core};
+use std::alloc::Global;
+use std::marker::Sync;
+use std::sync::Wait;
+use std::thread::Threads;
+
+/// The most bytes of a configuration.
+const MOST_READ: usize = 65_536;
+
+/// How the program ends.
+#[derive(Clone, Copy, PartialEq, Eq, Debug)]
+pub(crate) enum Status {
+    Stopped,
+    BadWords,
+    BadFile,
+    UnreadFile,
+    NoListener,
+    LostWire,
+    NoMemory,
+    LostSink,
+}
+
+impl Status {
+    fn code(self) -> u8
+        ensures { result ≡ code_of_status self }
+    {
+        match self {
+            Status::Stopped => 0,
+            Status::BadWords => 1,
+            Status::BadFile => 2,
+            Status::UnreadFile => 3,
+            Status::NoListener => 4,
+            Status::LostWire => 5,
+            Status::NoMemory => 6,
+            Status::LostSink => 7,
+        }
+    }
+}
+
+/// Serves a wire whose listeners are open.
+fn serve_conf<R: Threads + Sync + Wait, W: Wire>(rt: &R, alloc: Global, conf: Conf, wire: &mut W) -> End
+    requires listens { length conf.listens ≤ 16 }
+    requires station { IsTrue (is_station conf.server) }
+    ensures run { (start : Option Told) → AppendsRun (setting_of conf) start (W.shown wire.old).told (Listening (setting_of conf) (length conf.listens))
+        → AppendsRun (setting_of conf) start (W.shown wire.new).told (Ends (setting_of conf) result) }
+    ensures failed { result ≡ End.Failed → Rose (W.shown wire.old).stops (W.shown wire.new).stops }
+    ensures stops { (W.shown wire.old).stops ≤ (W.shown wire.new).stops }
+{
+    match Core::new(alloc, conf, 1) {
+        Ok(mut core) => serve(rt, alloc, &mut core, wire),
+        Err(Memory) => End::Memory,
+    }
+}
+
+/// Opens the listeners of a configuration, and serves the wire.
+fn open_and_serve<R: Threads + Sync + Wait, W: Wire>(
+    rt: &R,
+    alloc: Global,
+    conf: Conf,
+    wire: &mut W,
+) -> Result<End, ListenError>
+    requires listens { length conf.listens ≤ 16 }
+    requires station { IsTrue (is_station conf.server) }
+    ensures run { IfOk result (λ end. AppendsRun (setting_of conf) (W.shown wire.old).told (W.shown wire.new).told (Ends (setting_of conf) end)) }
+    ensures failed { IfOk result (λ end. end ≡ End.Failed → Rose (W.shown wire.old).stops (W.shown wire.new).stops) }
+    ensures listen { IfErr result (λ e. (n : ℕ) → e ≡ ListenError.Failed n → Rose (W.shown wire.old).stops (W.shown wire.new).stops
+        × AppendsRun (setting_of conf) (W.shown wire.old).told (W.shown wire.new).told (OpensOnly n (setting_of conf))) }
+    ensures err { OnErr result (AppendsRun (setting_of conf) (W.shown wire.old).told (W.shown wire.new).told (λ more. ⊤)) }
+{
+    listen_all(wire, conf.listens.as_slice())?;
+    Ok(serve_conf(rt, alloc, conf, wire))
+}
+
+fn ended(end: End) -> Status
+    ensures { result ≡ status_of end }
+{
+    match end {
+        End::Stopped => Status::Stopped,
+        End::Failed => Status::LostWire,
+        End::Memory => Status::NoMemory,
+    }
+}
+
+/// Writes a text, and gives the wanted status, or that of a sink that failed.
+fn say<S: Sink>(out: &mut S, text: &[u8], wanted: Status) -> Status
+    ensures { Said (S.shown out.old) (S.shown out.new) text.now wanted result }
+{
+    match write_all(out, text) {
+        Ok(()) => wanted,
+        Err(SinkError::Failed) => Status::LostSink,
+        Err(SinkError::Memory) => Status::NoMemory,
+    }
+}
+
+/// The same for a text that may be missing for want of memory.
+fn say_made<S: Sink>(out: &mut S, text: Result<Vec<u8>, Memory>, wanted: Status) -> Status
+    ensures { (t : List ℕ) → IfOk text (λ made. made.items ≡ t) → Said (S.shown out.old) (S.shown out.new) t wanted result }
+{
+    match text {
+        Ok(text) => say(out, text.as_slice(), wanted),
+        Err(Memory) => Status::NoMemory,
+    }
+}
+
+/// Runs a configuration.
+fn run_conf<R: Threads + Sync + Wait, W: Wire, S: Sink>(
+    rt: &R,
+    alloc: Global,
+    conf: Conf,
+    wire: &mut W,
+    out: &mut S,
+) -> Status
+    requires listens { length conf.listens ≤ 16 }
+    requires station { IsTrue (is_station conf.server) }
+    ensures { (words : List (List ℕ)) (files files_after : FilesShown) → HasNamed words files.told conf
+        → Cause result (record { words = words; files = files; files_after = files_after; wire = W.shown wire.old; wire_after = W.shown wire.new;
+            sink = S.shown out.old; sink_after = S.shown out.new }) }
+{
+    match open_and_serve(rt, alloc, conf, wire) {
+        Ok(end) => ended(end),
+        Err(ListenError::Failed(n)) => say_made(out, listen_failed(alloc, n), Status::NoListener),
+        Err(ListenError::Memory) => Status::NoMemory,
+    }
+}
+
+/// Runs the configuration that a text is.
+fn run_text<R: Threads + Sync + Wait, W: Wire, S: Sink>(
+    rt: &R,
+    alloc: Global,
+    file: &str,
+    text: &[u8],
+    wire: &mut W,
+    out: &mut S,
+) -> Status
+    requires short { length text.now ≤ 65536 }
+    ensures { (words : List (List ℕ)) (files files_after : FilesShown) → file_word words ≡ Some file.now → Holds files.told file.now text.now
+        → Cause result (record { words = words; files = files; files_after = files_after; wire = W.shown wire.old; wire_after = W.shown wire.new;
+            sink = S.shown out.old; sink_after = S.shown out.new }) }
+{
+    match read_conf(alloc, text) {
+        Ok(conf) => run_conf(rt, alloc, conf, wire, out),
+        Err(ConfFault::Line(line)) => {
+            say_made(out, not_built(alloc, file, line), Status::BadFile)
+        }
+        Err(ConfFault::Memory) => Status::NoMemory,
+    }
+}
+
+/// Runs the configuration that a file holds.
+fn run_file<R: Threads + Sync + Wait, F: Files, W: Wire, S: Sink>(
+    rt: &R,
+    alloc: Global,
+    file: &str,
+    files: &mut F,
+    wire: &mut W,
+    out: &mut S,
+) -> Status
+    ensures { (words : List (List ℕ)) → file_word words ≡ Some file.now
+        → Cause result (record { words = words; files = F.shown files.old; files_after = F.shown files.new; wire = W.shown wire.old; wire_after = W.shown wire.new;
+            sink = S.shown out.old; sink_after = S.shown out.new }) }
+{
+    let mut text = Vec::new(alloc);
+    match files.read(file, MOST_READ, &mut text) {
+        Ok(()) => run_text(rt, alloc, file, text.as_slice(), wire, out),
+        Err(FileError::Big) => say_made(out, too_large(alloc, file), Status::BadFile),
+        Err(FileError::Failed) => say_made(out, unread(alloc, file), Status::UnreadFile),
+        Err(FileError::Memory) => Status::NoMemory,
+    }
+}
+
+fn run<R: Threads + Sync + Wait, F: Files, W: Wire, S: Sink>(
+    rt: &R,
+    alloc: Global,
+    words: &[String],
+    files: &mut F,
+    wire: &mut W,
+    out: &mut S,
+) -> Status
+    ensures { Cause result (record { words = map string_bytes words.now; files = F.shown files.old; files_after = F.shown files.new;
+        wire = W.shown wire.old; wire_after = W.shown wire.new; sink = S.shown out.old; sink_after = S.shown out.new }) }
+{
+    match file_word(words) {
+        Some(file) => run_file(rt, alloc, file, files, wire, out),
+        None => say(out, usage(), Status::BadWords),
+    }
+}
+
+/// Runs the server: the words are `-c FILE`, and the file holds the configuration. What happens on the wire is a run for
+/// this configuration, and the bytes that each link takes are a prefix of its defined text.
+///
+/// The status is 0 after a stop, 1 for bad words, 2 for a bad configuration, 3 where its file can't be read, 4 where a
+/// listener failed, 5 where the wire failed, 6 for want of memory, and 7 where the sink failed.
+pub fn aprsc<R: Threads + Sync + Wait, F: Files, W: Wire, S: Sink>(
+    rt: &R,
+    alloc: Global,
+    words: &[String],
+    files: &mut F,
+    wire: &mut W,
+    out: &mut S,
+) -> u8
+    // Where the files tell what they hold, the happenings that the call appended are a run for the named configuration.
+    ensures run { (conf : ConfSeen) (told : List MemFile) → (F.shown files.old).told ≡ Some told
+        → HasNamed (map string_bytes words.now) (F.shown files.old).told conf
+        → AppendsRun (setting_of conf) (W.shown wire.old).told (W.shown wire.new).told (Ended result (setting_of conf)) }
+    // Each status has its cause.
+    ensures cause { HasCause result (record { words = map string_bytes words.now; files = F.shown files.old; files_after = F.shown files.new;
+        wire = W.shown wire.old; wire_after = W.shown wire.new; sink = S.shown out.old; sink_after = S.shown out.new }) }
+{
+    run(rt, alloc, words, files, wire, out).code()
+}
