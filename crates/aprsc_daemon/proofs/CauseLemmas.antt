@@ -1,15 +1,17 @@
 -- From what a part of the program did to the cause of its status.
-use Rattle.std.proofs.Common.{◌≡◌, ◌⊎◌, ℕ, ◌≤◌, ◌<◌, List, [], length, take, true, refl, sym, ap, ◌∙◌, subst, Option, Some, None, Result, Ok, Err, IfOk, ⊎_elim}
+use Rattle.std.proofs.Common.{◌≡◌, ◌⊎◌, ℕ, ◌≤◌, ◌<◌, List, [], length, refl, sym, ap, ◌∙◌, subst, Option, Some, None, Result, Ok, Err, ⊎_elim, arith}
 use Rattle.std.specs.Bool.{⊤}
-use Rattle.aprs_base.specs.Outside.{Rose, Told}
-use Rattle.aprs_base.specs.Stores.{SinkShown}
+use Rattle.aprs_base.specs.Outside.{Rose}
+use Rattle.aprs_base.specs.Stores.{Holds, bytes_named}
+use Rattle.aprs_base.specs.declared.files.MemFile.{MemFile}
 use Rattle.aprs_history.specs.Setting.{Setting}
 use Rattle.aprs_history.specs.History.{History}
-use Rattle.aprs_history.specs.Runs.{AppendsRun, are_listens, listens_in}
+use Rattle.aprs_history.specs.Runs.{AppendsRun, listens_in}
 use Rattle.server_core.specs.Meaning.{ConfSeen, setting_of}
 use Rattle.aprsc_daemon.specs.Phases.{Ends, Finished, Idle}
-use Rattle.aprsc_daemon.specs.Saying.{Grew, listen_failed_text}
-use Rattle.aprsc_daemon.specs.Causes.{Cause, Ended, GrewPart, HasCause, HasNamed, IsMessage, IsServed, IsUnused, OpensOnly, Outside, Said, Says, SaysPart, status_of, code_of_status}
+use Rattle.aprsc_daemon.specs.Saying.{listen_failed_text, not_built_text, too_large_text, unread_text, usage_text}
+use Rattle.aprsc_daemon.specs.ThreeLines.{conf_of}
+use Rattle.aprsc_daemon.specs.Causes.{Cause, Ended, HasNamed, HasNoMemory, IsMessage, IsServed, IsUnused, OpensOnly, Outside, Said, Says, SaysPart, status_of, code_of_status}
 use Rattle.aprsc_daemon.specs.Words.{file_word}
 use Rattle.aprsc_daemon.specs.declared.serving.End.{End}
 use Rattle.aprsc_daemon.specs.declared.serving.End.TheVariants as ended
@@ -42,8 +44,109 @@ said_cause o text wanted result said message left cause =
       partly)
     said
 
-pub ended_cause : (o : Outside) (conf : ConfSeen) (end : End) → HasNamed o.words o.files.told conf → o.sink_after.told ≡ o.sink.told → (end ≡ ended.Failed → Rose o.wire.stops o.wire_after.stops)
-    → SaysPart o → AppendsRun (setting_of conf) o.wire.told o.wire_after.told (Ends (setting_of conf) end) → Cause (status_of end) o
-ended_cause o conf ended.Stopped read silent failed part run = record { run = record { conf = conf; read = read; run = run }; silent = silent }
-ended_cause o conf ended.Failed read silent failed part run = record { run = record { conf = conf; read = read; run = run }; failed = failed refl; silent = silent }
-ended_cause o conf ended.Memory read silent failed part run = record { run = inr (record { conf = conf; read = read; run = run }); says = part }
+silent_part : (o : Outside) (file : List ℕ) → file_word o.words ≡ Some file → o.sink_after.told ≡ o.sink.told → SaysPart o
+silent_part o file named silent = (too_large_text file, subst (λ word. IsMessage word (too_large_text file)) (sym named) (inl refl), inl silent)
+
+pub memory_cause : (o : Outside) (file : List ℕ) → file_word o.words ≡ Some file → o.sink_after.told ≡ o.sink.told → IsUnused o ⊎ IsServed o (λ s more. ⊤) → HasNoMemory o
+memory_cause o file named silent left = record { run = left; says = silent_part o file named silent }
+
+pub ended_cause : (o : Outside) (conf : ConfSeen) (end : End) (result : Status) → result ≡ status_of end → HasNamed o.words o.files.told conf → o.sink_after.told ≡ o.sink.told
+    → (end ≡ ended.Failed → Rose o.wire.stops o.wire_after.stops)
+    → AppendsRun (setting_of conf) o.wire.told o.wire_after.told (Ends (setting_of conf) end) → Cause result o
+ended_cause o conf end result is read silent failed run = subst (λ st. Cause st o) (sym is) (causes end failed run)
+  where
+  causes : (end : End) → (end ≡ ended.Failed → Rose o.wire.stops o.wire_after.stops) → AppendsRun (setting_of conf) o.wire.told o.wire_after.told (Ends (setting_of conf) end) → Cause (status_of end) o
+  causes ended.Stopped failed run = record { run = record { conf = conf; read = read; run = run }; silent = silent }
+  causes ended.Failed failed run = record { run = record { conf = conf; read = read; run = run }; failed = failed refl; silent = silent }
+  causes ended.Memory failed run = memory_cause o read.file read.named silent (inr (record { conf = conf; read = read; run = run }))
+
+pub listener_cause : (o : Outside) (conf : ConfSeen) (n : ℕ) (result : Status) → HasNamed o.words o.files.told conf → Rose o.wire.stops o.wire_after.stops
+    → AppendsRun (setting_of conf) o.wire.told o.wire_after.told (OpensOnly n (setting_of conf)) → Said o.sink o.sink_after (listen_failed_text n) status.NoListener result → Cause result o
+listener_cause o conf n result read failed run said =
+    said_cause o (listen_failed_text n) status.NoListener result said
+    (subst (λ word. IsMessage word (listen_failed_text n)) (sym read.named) (inr (inr (inr (n, refl)))))
+    (inr (served_weaker o (OpensOnly n) Opening (λ s more opens. subst (λ m. m < length s.listens) (sym opens.0) opens.2) served))
+    (λ says. record { number = n; run = served; failed = failed; says = says })
+  where
+  served : IsServed o (OpensOnly n)
+  served = record { conf = conf; read = read; run = run }
+
+pub line_cause : (o : Outside) (file bytes : List ℕ) (line : ℕ) (result : Status) → file_word o.words ≡ Some file → Holds o.files.told file bytes → length bytes ≤ 65536
+    → conf_of bytes ≡ Err line → IsUnused o → Said o.sink o.sink_after (not_built_text file line) status.BadFile result → Cause result o
+line_cause o file bytes line result named holds short off unused said =
+    said_cause o (not_built_text file line) status.BadFile result said
+    (subst (λ word. IsMessage word (not_built_text file line)) (sym named) (inr (inl (line, refl))))
+    (inl unused)
+    (λ says. record { file = file; bytes = bytes; named = named; holds = holds; off = inr (short, line, off, says); unused = unused })
+
+pub big_cause : (o : Outside) (file bytes : List ℕ) (result : Status) → file_word o.words ≡ Some file → Holds o.files.told file bytes → 65536 < length bytes
+    → IsUnused o → Said o.sink o.sink_after (too_large_text file) status.BadFile result → Cause result o
+big_cause o file bytes result named holds big unused said =
+    said_cause o (too_large_text file) status.BadFile result said
+    (subst (λ word. IsMessage word (too_large_text file)) (sym named) (inl refl))
+    (inl unused)
+    (λ says. record { file = file; bytes = bytes; named = named; holds = holds; off = inl (big, says); unused = unused })
+
+pub unread_cause : (o : Outside) (file : List ℕ) (result : Status) → file_word o.words ≡ Some file → Rose o.files.faults o.files_after.faults
+    → IsUnused o → Said o.sink o.sink_after (unread_text file) status.UnreadFile result → Cause result o
+unread_cause o file result named failed unused said =
+    said_cause o (unread_text file) status.UnreadFile result said
+    (subst (λ word. IsMessage word (unread_text file)) (sym named) (inr (inr (inl refl))))
+    (inl unused)
+    (λ says. record { file = file; named = named; failed = failed; says = says; unused = unused })
+
+pub words_cause : (o : Outside) (result : Status) → file_word o.words ≡ None → IsUnused o → Said o.sink o.sink_after usage_text status.BadWords result → Cause result o
+words_cause o result bad unused said =
+    said_cause o usage_text status.BadWords result said (subst (λ word. IsMessage word usage_text) (sym bad) refl) (inl unused) (λ says. record { bad = bad; unused = unused; says = says })
+
+-- ---- the headline
+
+same_result : Result ConfSeen ℕ → Result ConfSeen ℕ → Type 0
+same_result a b = a ≡ b
+
+same_conf : (words : List (List ℕ)) (files : List MemFile) (a b : ConfSeen) → HasNamed words (Some files) a → HasNamed words (Some files) b → a ≡ b
+same_conf words files a b x y =
+    let file = some_same x.file y.file (sym x.named ∙ y.named) in
+    let bytes = some_same x.bytes y.bytes (sym x.holds ∙ ap (λ f. bytes_named f files) file ∙ y.holds) in
+    ok_same a b (sym x.reads ∙ ap conf_of bytes ∙ y.reads)
+  where
+  some_same : {X : Type 0} (m n : X) → Some m ≡ Some n → m ≡ n
+  some_same m n e = cc
+  ok_same : (m n : ConfSeen) → same_result (Ok m) (Ok n) → m ≡ n
+  ok_same m n e = cc
+
+unused_run : (o : Outside) (s : Setting) (P : History → Type 0) → P [] → IsUnused o → AppendsRun s o.wire.told o.wire_after.told P
+unused_run o s P begins unused = run_told s o.wire.told o.wire.told o.wire_after.told P unused (run_begins s o.wire.told P begins)
+
+served_run : (o : Outside) (files : List MemFile) (conf : ConfSeen) (P : Setting → History → Type 0) → o.files.told ≡ Some files → HasNamed o.words o.files.told conf → IsServed o P
+    → AppendsRun (setting_of conf) o.wire.told o.wire_after.told (P (setting_of conf))
+served_run o files conf P tells read served =
+    let same = same_conf o.words files served.conf conf (subst (λ told. HasNamed o.words told served.conf) tells served.read) (subst (λ told. HasNamed o.words told conf) tells read) in
+    subst (λ c. AppendsRun (setting_of c) o.wire.told o.wire_after.told (P (setting_of c))) same served.run
+
+-- a run of which the end says nothing
+goes_on : (o : Outside) (files : List MemFile) (conf : ConfSeen) (code : ℕ) (P : Setting → History → Type 0) → o.files.told ≡ Some files → HasNamed o.words o.files.told conf
+    → ((s : Setting) (more : History) → Ended code s more) → IsUnused o ⊎ IsServed o P → AppendsRun (setting_of conf) o.wire.told o.wire_after.told (Ended code (setting_of conf))
+goes_on o files conf code P tells read any =
+    ⊎_elim
+    (unused_run o (setting_of conf) (Ended code (setting_of conf)) (any (setting_of conf) []))
+    (λ served. served_run o files conf (Ended code) tells read (served_weaker o P (Ended code) (λ s more at. any s more) served))
+
+pub headline : (o : Outside) (files : List MemFile) (conf : ConfSeen) (ending : Status) → o.files.told ≡ Some files → HasNamed o.words o.files.told conf → Cause ending o
+    → AppendsRun (setting_of conf) o.wire.told o.wire_after.told (Ended (code_of_status ending) (setting_of conf))
+headline o files conf status.Stopped tells read cause =
+    served_run o files conf (Ended 0) tells read (served_weaker o Finished (Ended 0) (λ s more at. record { stopped = λ e. at; lost = λ e. absurd (omega arith) }) cause.run)
+headline o files conf status.BadWords tells read cause =
+    goes_on o files conf 1 (λ s more. ⊤) tells read (λ s more. record { stopped = λ e. absurd (omega arith); lost = λ e. absurd (omega arith) }) (inl cause.unused)
+headline o files conf status.BadFile tells read cause =
+    goes_on o files conf 2 (λ s more. ⊤) tells read (λ s more. record { stopped = λ e. absurd (omega arith); lost = λ e. absurd (omega arith) }) (inl cause.unused)
+headline o files conf status.UnreadFile tells read cause =
+    goes_on o files conf 3 (λ s more. ⊤) tells read (λ s more. record { stopped = λ e. absurd (omega arith); lost = λ e. absurd (omega arith) }) (inl cause.unused)
+headline o files conf status.NoListener tells read cause =
+    goes_on o files conf 4 (OpensOnly cause.number) tells read (λ s more. record { stopped = λ e. absurd (omega arith); lost = λ e. absurd (omega arith) }) (inr cause.run)
+headline o files conf status.LostWire tells read cause =
+    served_run o files conf (Ended 5) tells read (served_weaker o Idle (Ended 5) (λ s more at. record { stopped = λ e. absurd (omega arith); lost = λ e. at }) cause.run)
+headline o files conf status.NoMemory tells read cause =
+    goes_on o files conf 6 (λ s more. ⊤) tells read (λ s more. record { stopped = λ e. absurd (omega arith); lost = λ e. absurd (omega arith) }) cause.run
+headline o files conf status.LostSink tells read cause =
+    goes_on o files conf 7 Opening tells read (λ s more. record { stopped = λ e. absurd (omega arith); lost = λ e. absurd (omega arith) }) cause.run

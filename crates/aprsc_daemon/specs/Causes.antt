@@ -155,17 +155,9 @@ status_of ended.Stopped = status.Stopped
 status_of ended.Failed = status.LostWire
 status_of ended.Memory = status.NoMemory
 
--- each status comes from its cause
-pub record HasCause (code : ℕ) (o : Outside) : Type 0 where
-  pub known : code ≤ 7
-  pub stopped : code ≡ 0 → HasStopped o
-  pub bad_words : code ≡ 1 → HasBadWords o
-  pub bad_file : code ≡ 2 → HasBadFile o
-  pub unread_file : code ≡ 3 → HasUnreadFile o
-  pub no_listener : code ≡ 4 → HasNoListener o
-  pub lost_wire : code ≡ 5 → HasLostWire o
-  pub no_memory : code ≡ 6 → HasNoMemory o
-  pub lost_sink : code ≡ 7 → HasLostSink o
+-- the code is that of a status whose cause is there
+abbrev pub HasCause : ℕ → Outside → Type 0
+HasCause code o = (ending : Status) × (code ≡ code_of_status ending) × Cause ending o
 
 -- ---- the headline
 
