@@ -124,6 +124,7 @@ impl Call {
     pub fn bytes(&self) -> &[u8]
         ensures bytes { result.now ≡ self.now }
         ensures grammar { IsCall self.now }
+        ensures short { length self.now ≤ 9 }
     {
         self.text.as_slice()
     }

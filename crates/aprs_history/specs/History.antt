@@ -87,11 +87,14 @@ begin_round trace = end_all FoundGone (gone_links trace) trace
 abbrev pub bring : Setting → ℕ → List ℕ → Trace → Trace
 bring setting link bytes trace = say_all setting link (cuts_by (brought_by trace link) bytes) (Brought link bytes ∷ trace)
 
+abbrev pub with_bytes_of : Setting → ℕ → List ℕ → Trace → Trace
+with_bytes_of setting link bytes trace = if is_live trace link then bring setting link bytes trace else trace
+
 -- what an event adds; one that names a link that doesn't live adds nothing
 abbrev pub with_event : Setting → Event → Trace → Trace
 with_event setting (event.Tick moment) trace = Ticked moment ∷ trace
 with_event setting (event.Opened listener link from) trace = Opened (kind_at setting listener) link from ∷ trace
-with_event setting (event.Bytes link bytes) trace = if is_live trace link then bring setting link bytes trace else trace
+with_event setting (event.Bytes link bytes) trace = with_bytes_of setting link bytes trace
 with_event setting (event.Ended link) trace = if is_live trace link then Ended link ByPeer ∷ trace else trace
 with_event setting (event.Room link) trace = if is_live trace link then Roomed link ∷ trace else trace
 with_event setting event.Stop trace = end_all ByStop (live_links trace) trace

@@ -1,6 +1,7 @@
 pub mod Acts
 pub mod History
 pub mod Links
+pub mod Rounds
 pub mod Setting
 pub mod Stands
 pub mod Texts

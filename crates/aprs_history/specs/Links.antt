@@ -2,7 +2,9 @@
 use Rattle.std.specs.Prelude.{ℕ, ◌==◌, ◌+◌, Bool, true, false, nat_lt, List, [], ◌∷◌, ◌++◌, Option, Some, None, filter, if◌then◌else◌}
 use Rattle.aprs_base.specs.declared.packets.PortKind.{PortKind}
 use Rattle.aprs_base.specs.declared.texts.Addr.{Addr}
-use Rattle.aprs_history.specs.Verdicts.{Verdict, Session, PassedOver, Refused, LoggedIn, Accepted}
+use Rattle.aprs_history.specs.declared.verdicts.Session.{Session}
+use Rattle.aprs_history.specs.declared.verdicts.Verdict.{Verdict}
+use Rattle.aprs_history.specs.declared.verdicts.Verdict.TheVariants.{PassedOver, Refused, LoggedIn, Accepted}
 use Rattle.aprs_history.specs.Trace.{Trace, Entry, Ticked, Opened, Brought, Said, Roomed, Took, Lost, Ended, moment_of, live_links}
 
 -- a link's opening: what it serves, where it came from, and when
@@ -17,56 +19,56 @@ opening_by (Some kind) from moment = Some (record { kind = kind; from = from; mo
 
 abbrev pub opening_of : Trace → ℕ → Option Opening
 opening_of [] link = None
-opening_of (Opened serves opened from ∷ earlier) link = if opened == link then opening_by serves from (moment_of earlier) else opening_of earlier link
+opening_of (Opened serves opened from ∷ earlier) link = if link == opened then opening_by serves from (moment_of earlier) else opening_of earlier link
 opening_of (entry ∷ earlier) link = opening_of earlier link
 
 -- when its last bytes came, or else it was opened
 abbrev pub last_heard : Trace → ℕ → ℕ
 last_heard [] link = 0
-last_heard (Opened serves opened from ∷ earlier) link = if opened == link then moment_of earlier else last_heard earlier link
-last_heard (Brought from bytes ∷ earlier) link = if from == link then moment_of earlier else last_heard earlier link
+last_heard (Opened serves opened from ∷ earlier) link = if link == opened then moment_of earlier else last_heard earlier link
+last_heard (Brought from bytes ∷ earlier) link = if link == from then moment_of earlier else last_heard earlier link
 last_heard (entry ∷ earlier) link = last_heard earlier link
 
 -- all that it brought
 abbrev pub brought_by : Trace → ℕ → List ℕ
 brought_by [] link = []
-brought_by (Opened serves opened from ∷ earlier) link = if opened == link then [] else brought_by earlier link
-brought_by (Brought from bytes ∷ earlier) link = if from == link then brought_by earlier link ++ bytes else brought_by earlier link
+brought_by (Opened serves opened from ∷ earlier) link = if link == opened then [] else brought_by earlier link
+brought_by (Brought from bytes ∷ earlier) link = if link == from then brought_by earlier link ++ bytes else brought_by earlier link
 brought_by (entry ∷ earlier) link = brought_by earlier link
 
 abbrev pub session_after : Verdict → Option Session → Option Session
 session_after (LoggedIn session) before = Some session
 session_after PassedOver before = before
 session_after (Refused refusal) before = before
-session_after (Accepted parts) before = before
+session_after (Accepted parts line) before = before
 
 -- the last accepted login
 abbrev pub session_of : Trace → ℕ → Option Session
 session_of [] link = None
-session_of (Opened serves opened from ∷ earlier) link = if opened == link then None else session_of earlier link
-session_of (Said by cut verdict ∷ earlier) link = if by == link then session_after verdict (session_of earlier link) else session_of earlier link
+session_of (Opened serves opened from ∷ earlier) link = if link == opened then None else session_of earlier link
+session_of (Said by cut verdict ∷ earlier) link = if link == by then session_after verdict (session_of earlier link) else session_of earlier link
 session_of (entry ∷ earlier) link = session_of earlier link
 
 -- how many bytes of its text it took
 abbrev pub taken_by : Trace → ℕ → ℕ
 taken_by [] link = 0
-taken_by (Opened serves opened from ∷ earlier) link = if opened == link then 0 else taken_by earlier link
-taken_by (Took by offered taken ∷ earlier) link = if by == link then taken_by earlier link + taken else taken_by earlier link
+taken_by (Opened serves opened from ∷ earlier) link = if link == opened then 0 else taken_by earlier link
+taken_by (Took by offered taken ∷ earlier) link = if link == by then taken_by earlier link + taken else taken_by earlier link
 taken_by (entry ∷ earlier) link = taken_by earlier link
 
 -- it took less than it was offered, and has had no room since
 abbrev pub is_blocked : Trace → ℕ → Bool
 is_blocked [] link = false
-is_blocked (Opened serves opened from ∷ earlier) link = if opened == link then false else is_blocked earlier link
-is_blocked (Took by offered taken ∷ earlier) link = if by == link then nat_lt taken offered else is_blocked earlier link
-is_blocked (Roomed roomed ∷ earlier) link = if roomed == link then false else is_blocked earlier link
+is_blocked (Opened serves opened from ∷ earlier) link = if link == opened then false else is_blocked earlier link
+is_blocked (Took by offered taken ∷ earlier) link = if link == by then nat_lt taken offered else is_blocked earlier link
+is_blocked (Roomed roomed ∷ earlier) link = if link == roomed then false else is_blocked earlier link
 is_blocked (entry ∷ earlier) link = is_blocked earlier link
 
 -- a send found it gone
 abbrev pub is_gone : Trace → ℕ → Bool
 is_gone [] link = false
-is_gone (Opened serves opened from ∷ earlier) link = if opened == link then false else is_gone earlier link
-is_gone (Lost lost ∷ earlier) link = if lost == link then true else is_gone earlier link
+is_gone (Opened serves opened from ∷ earlier) link = if link == opened then false else is_gone earlier link
+is_gone (Lost lost ∷ earlier) link = if link == lost then true else is_gone earlier link
 is_gone (entry ∷ earlier) link = is_gone earlier link
 
 abbrev pub gone_links : Trace → List ℕ

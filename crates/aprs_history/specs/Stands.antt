@@ -2,7 +2,7 @@
 use Rattle.std.specs.Prelude.{◌≡◌, ℕ, ◌≤◌, Bool, List, length, map, Option}
 use Rattle.aprs_base.specs.Held.{Held, held_after}
 use Rattle.aprs_history.specs.Setting.{Setting}
-use Rattle.aprs_history.specs.Verdicts.{Session}
+use Rattle.aprs_history.specs.declared.verdicts.Session.{Session}
 use Rattle.aprs_history.specs.Trace.{Trace, moment_of, served_links}
 use Rattle.aprs_history.specs.Links.{Opening, opening_of, last_heard, brought_by, session_of, taken_by, is_blocked, is_gone}
 use Rattle.aprs_history.specs.Texts.{Queued, queued, lines_of, text_bytes}

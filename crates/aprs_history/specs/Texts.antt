@@ -3,9 +3,10 @@ use Rattle.std.specs.Prelude.{ℕ, ◌==◌, ◌+◌, ◌-◌, ◌&&◌, Bool, t
 use Rattle.std.specs.List.{flat_map}
 use Rattle.aprs_base.specs.declared.packets.PortKind.{PortKind}
 use Rattle.aprs_base.specs.declared.packets.PortKind.TheVariants as kind
-use Rattle.tnc2_line.specs.Packet.{text_of}
 use Rattle.aprs_history.specs.Setting.{Setting}
-use Rattle.aprs_history.specs.Verdicts.{Verdict, Session, PassedOver, Refused, LoggedIn, Accepted}
+use Rattle.aprs_history.specs.declared.verdicts.Session.{Session}
+use Rattle.aprs_history.specs.declared.verdicts.Verdict.{Verdict}
+use Rattle.aprs_history.specs.declared.verdicts.Verdict.TheVariants.{PassedOver, Refused, LoggedIn, Accepted}
 use Rattle.aprs_history.specs.Trace.{Trace, Entry, Ticked, Opened, Brought, Said, Roomed, Took, Lost, Ended, is_live}
 use Rattle.aprs_history.specs.Links.{Opening, opening_of, session_of, taken_by}
 
@@ -32,17 +33,17 @@ banner_of None = []
 banner_of (Some kind) = banner ∷ []
 
 -- what a port of each kind sends of the accepted packets of others
+abbrev pub is_full_kind : PortKind → Bool
+is_full_kind kind.Full = true
+is_full_kind kind.Igate = false
+is_full_kind kind.Only = false
+is_full_kind kind.Dupe = false
+is_full_kind kind.Submit = false
+is_full_kind kind.Core = false
+
 abbrev pub kind_wants : Option Opening → Bool
 kind_wants None = false
-kind_wants (Some opening) = full opening.kind
-  where
-  full : PortKind → Bool
-  full kind.Full = true
-  full kind.Igate = false
-  full kind.Only = false
-  full kind.Dupe = false
-  full kind.Submit = false
-  full kind.Core = false
+kind_wants (Some opening) = is_full_kind opening.kind
 
 -- whether a link is sent an accepted packet: it lives, has logged in, isn't the one that it came from, and its port's kind wants it
 abbrev pub wants : Trace → ℕ → ℕ → Bool
@@ -52,13 +53,13 @@ wants trace from link = not (from == link) && is_live trace link && is_some (ses
 abbrev pub added_by : Setting → Trace → ℕ → Verdict → ℕ → List (List ℕ)
 added_by setting earlier from PassedOver link = []
 added_by setting earlier from (Refused refusal) link = []
-added_by setting earlier from (LoggedIn session) link = if from == link then login_reply setting.server session ∷ [] else []
-added_by setting earlier from (Accepted parts) link = if wants earlier from link then text_of parts ∷ [] else []
+added_by setting earlier from (LoggedIn session) link = if link == from then login_reply setting.server session ∷ [] else []
+added_by setting earlier from (Accepted parts line) link = if wants earlier from link then line ∷ [] else []
 
 -- the lines of a link's text, in order, from its opening on
 abbrev pub lines_of : Setting → Trace → ℕ → List (List ℕ)
 lines_of setting [] link = []
-lines_of setting (Opened serves opened from ∷ earlier) link = if opened == link then banner_of serves else lines_of setting earlier link
+lines_of setting (Opened serves opened from ∷ earlier) link = if link == opened then banner_of serves else lines_of setting earlier link
 lines_of setting (Said from cut verdict ∷ earlier) link = lines_of setting earlier link ++ added_by setting earlier from verdict link
 lines_of setting (entry ∷ earlier) link = lines_of setting earlier link
 

@@ -4,7 +4,7 @@ use Rattle.std.specs.List.{list_any}
 use Rattle.aprs_base.specs.declared.packets.PortKind.{PortKind}
 use Rattle.aprs_base.specs.declared.texts.Addr.{Addr}
 use Rattle.aprs_base.specs.declared.cutting.Cut.{Cut}
-use Rattle.aprs_history.specs.Verdicts.{Verdict}
+use Rattle.aprs_history.specs.declared.verdicts.Verdict.{Verdict}
 
 -- why a link ended
 pub data EndReason : Type 0 where

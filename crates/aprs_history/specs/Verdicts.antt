@@ -1,5 +1,5 @@
 -- What becomes of a line: each line has one verdict (aprs-is.net, Connecting, and q Construct).
-use Rattle.std.specs.Prelude.{ℕ, ◌==◌, ◌&&◌, ◌||◌, Bool, true, false, not, nat_lt, is_none, List, [], ◌∷◌, ◌++◌, length, codes, Option, Some, None, Result, Ok, Err, if◌then◌else◌}
+use Rattle.std.specs.Prelude.{ℕ, ◌-◌, slice_get, ◌==◌, ◌&&◌, ◌||◌, Bool, true, false, not, nat_lt, is_none, List, [], ◌∷◌, ◌++◌, length, codes, Option, Some, None, Result, Ok, Err, if◌then◌else◌}
 use Rattle.std.specs.List.{list_any, starts_with}
 use Rattle.std.specs.Cmp.Lexicographic.{pointwise}
 use Rattle.aprs_base.specs.declared.packets.Parts.{Parts}
@@ -11,23 +11,11 @@ use Rattle.tnc2_line.specs.declared.reading.LineFault.{LineFault}
 use Rattle.login_pass.specs.Login.{login_of, is_verified}
 use Rattle.login_pass.specs.declared.login_line.Login.{Login}
 use Rattle.login_pass.specs.declared.login_line.LoginFault.{LoginFault}
-
--- who a link has logged in as
-pub record Session : Type 0 where
-  pub call : List ℕ
-  pub verified : Bool
-
-pub data Refusal : Type 0 where
-  Long : Refusal
-  NotBuilt : Refusal
-  TooLong : Refusal
-
-pub data Verdict : Type 0 where
-  PassedOver : Verdict
-  Refused : Refusal → Verdict
-  LoggedIn : Session → Verdict
-  -- the packet as it is sent on
-  Accepted : Parts → Verdict
+use Rattle.aprs_history.specs.declared.verdicts.Session.{Session}
+use Rattle.aprs_history.specs.declared.verdicts.Refusal.{Refusal}
+use Rattle.aprs_history.specs.declared.verdicts.Refusal.TheVariants.{Long, NotBuilt, TooLong}
+use Rattle.aprs_history.specs.declared.verdicts.Verdict.{Verdict}
+use Rattle.aprs_history.specs.declared.verdicts.Verdict.TheVariants.{PassedOver, Refused, LoggedIn, Accepted}
 
 abbrev pub is_text : List ℕ → List ℕ → Bool
 is_text a b = pointwise ◌==◌ a b
@@ -48,10 +36,12 @@ abbrev pub is_no_gate : Via → Bool
 is_no_gate via = is_text via.call (codes "NOGATE") || is_text via.call (codes "RFONLY") || is_text via.call (codes "TCPXX")
 
 -- the element `I` at the path's end
+abbrev pub is_element_i : Option Via → Bool
+is_element_i None = false
+is_element_i (Some via) = is_text via.call (codes "I") && not via.star
+
 abbrev pub ends_in_i : List Via → Bool
-ends_in_i [] = false
-ends_in_i (via ∷ []) = is_text via.call (codes "I") && not via.star
-ends_in_i (via ∷ next ∷ vias) = ends_in_i (next ∷ vias)
+ends_in_i vias = is_element_i (slice_get vias (length vias - 1))
 
 -- a third-party packet or a query
 abbrev pub is_not_for_others : List ℕ → Bool
@@ -72,7 +62,7 @@ with_client_path server parts = record parts { vias = record { items = client_pa
 
 -- sent on, where its line has 510 bytes at most
 abbrev pub fitting : Parts → Verdict
-fitting parts = if nat_lt 510 (length (text_of parts)) then Refused TooLong else Accepted parts
+fitting parts = if nat_lt 510 (length (text_of parts)) then Refused TooLong else Accepted parts (text_of parts)
 
 abbrev pub packet_verdict : List ℕ → List ℕ → Result Parts LineFault → Verdict
 packet_verdict server login (Err fault) = Refused NotBuilt

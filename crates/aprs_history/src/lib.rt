@@ -1,2 +1,6 @@
 //! The definitions of histories: rounds, verdicts, texts, ends, acts due, runs, and what it is that a core stands for a history.
 #![tactic(auto)]
+
+mod verdicts;
+
+pub use verdicts::{Refusal, Session, Verdict, copy_session};

@@ -1,4 +1,13 @@
 //! The core of the server: sessions, rounds and acts, with no socket and no clock.
 #![tactic(auto)]
 
+mod conf;
+mod judging;
+mod link;
+mod links;
 mod queue;
+mod replies;
+mod server;
+
+pub use conf::Conf;
+pub use server::Core;

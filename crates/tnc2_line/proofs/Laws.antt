@@ -13,7 +13,8 @@ use Rattle.aprs_base.specs.declared.packets.Parts.{Parts}
 use Rattle.tnc2_line.specs.Packet.{text_of, is_parts, IsParts, IsPacket, is_path, parts_of, head_of, path_of, vias_of, call_of, checked_path, checked_body, cut_at, is_colon, is_arrow, is_comma, is_element, has_no_star, names_construct, from_construct, with_comma, via_text, ◌>>=◌}
 use Rattle.tnc2_line.specs.declared.reading.LineFault.{LineFault}
 use Rattle.tnc2_line.specs.declared.reading.LineFault.TheVariants as fault
-use Rattle.tnc2_line.proofs.Calls.{is_call_byte, each_weaker, call_bytes, call_without, no_colon, no_arrow, no_comma, no_line_end}
+use Rattle.aprs_base.proofs.CallLemmas.{is_call_byte, each_weaker, call_bytes, no_line_end}
+use Rattle.tnc2_line.proofs.Calls.{call_without, no_colon, no_arrow, no_comma}
 use Rattle.tnc2_line.proofs.Cuts.{cut_there, cut_sides}
 use Rattle.tnc2_line.proofs.Paths.{vias_back, vias_gives, split_back, join_back, Follow}
 

@@ -1,0 +1,250 @@
+-- The steps of the core, and the trace that it follows.
+use Rattle.std.proofs.Common.{◌≡◌, ℕ, ◌<◌, ◌≤◌, ◌==◌, ◌∷◌, ◌++◌, [], List, map, filter, refl, sym, ap, ◌∙◌, subst, true, false, Bool, Option, Some, None, IsTrue, max, min, append-nil, arith, ⊎_elim, ◌||◌, if◌then◌else◌, not, cond, ◌^◌, IfOk, Result, Ok, Err, Vec, Global}
+use Rattle.std.specs.List.{list_any}
+use Rattle.std.proofs.lemmas.Bool.{true≢false, eqb-true, cases_Bool}
+use Rattle.aprs_base.specs.Held.{held_after}
+use Rattle.aprs_base.specs.Cuts.{cuts_by}
+use Rattle.aprs_base.specs.declared.texts.Addr.{Addr}
+use Rattle.aprs_base.specs.declared.cutting.Cut.{Cut}
+use Rattle.aprs_base.specs.declared.packets.Parts.{Parts}
+use Rattle.aprs_base.specs.declared.packets.PortKind.{PortKind}
+use Rattle.aprs_history.specs.declared.verdicts.Session.{Session}
+use Rattle.aprs_history.specs.declared.verdicts.Refusal.{Refusal}
+use Rattle.aprs_history.specs.declared.verdicts.Verdict.{Verdict}
+use Rattle.aprs_history.specs.declared.verdicts.Verdict.TheVariants.{PassedOver, Refused, LoggedIn, Accepted}
+use Rattle.aprs_history.specs.Setting.{Setting, kind_at}
+use Rattle.aprs_history.specs.Verdicts.{verdict_of}
+use Rattle.aprs_history.specs.Trace.{Trace, Entry, Ticked, Opened, Brought, Said, Roomed, Ended, ByPeer, ByStop, is_live, live_links, stopped_links, served_links, last_moment}
+use Rattle.aprs_history.specs.Links.{session_of, brought_by, gone_links}
+use Rattle.aprs_history.specs.Texts.{login_reply}
+use Rattle.aprs_history.specs.History.{begin_round, end_all}
+use Rattle.aprs_history.specs.Stands.{LinkSeen, CoreSeen, link_seen, Follows}
+use Rattle.server_core.specs.LinkSteps.{at_link, has_that, has_number, is_there, is_another, with_session, with_packet, with_room, with_bytes, new_link_seen, numbers, Rises, session_at, held_at, picked_at, session_kept, held_kept, after_verdict, after_line}
+use Rattle.server_core.specs.Meaning.{CoreMeaning, ConfSeen, setting_of}
+use Rattle.server_core.specs.Kept.{IsKept}
+use Rattle.server_core.specs.Steps.{Walks, saying}
+use Rattle.server_core.proofs.LinkLemmas.{changed_none, rises_to, rises_push}
+use Rattle.server_core.proofs.WalkLemmas.{with_links, with_moment, is_member, follows_begun, going_after, follows_passed, follows_refused, follows_login, follows_accepted, follows_roomed, follows_ticked, follows_brought, follows_opened, follows_unserved, follows_ended, follows_stopped}
+
+-- the core with other links
+abbrev pub relinked : List LinkSeen → CoreMeaning → CoreMeaning
+relinked links core = record core { seen = record core.seen { links = links } }
+
+pub walks_begun : (core : CoreMeaning) (t : Trace) (links : List LinkSeen) → Walks core t → links ≡ filter is_there core.seen.links → Walks (relinked links core) (begin_round t)
+walks_begun core t links walks is = record {
+  follows = subst (λ ls. Follows (setting_of core.conf) (with_links ls core.seen) (begin_round t)) (sym is) (follows_begun (setting_of core.conf) core.seen t walks.follows walks.going);
+  going = going_after (gone_links t) t ∙ walks.going;
+}
+
+-- what is picked of a link that lives is what there is to keep of it
+picked_seen : {X : Type 0} (pick : LinkSeen → X) (none : X) (s : Setting) (t : Trace) (number : ℕ) (ks : List ℕ) → is_member number ks ≡ true
+    → picked_at pick none number (map (link_seen s t) ks) ≡ pick (link_seen s t number)
+unfolding link_seen
+picked_seen pick none s t number [] member = absurd (true≢false (sym member))
+picked_seen pick none s t number (k ∷ ks) member =
+    let rest = picked_at pick none number (map (link_seen s t) ks) in
+    ⊎_elim
+    (λ here. ap (λ b. if b then pick (link_seen s t k) else rest) here ∙ ap (λ n. pick (link_seen s t n)) (eqb-true k number here))
+    (λ other. ap (λ b. if b then pick (link_seen s t k) else rest) other
+        ∙ picked_seen pick none s t number ks (sym (ap (λ b. b || is_member number ks) other) ∙ member))
+    (cases_Bool (k == number))
+
+-- what is picked of a link that doesn't live
+picked_missing : {X : Type 0} (pick : LinkSeen → X) (none : X) (s : Setting) (t : Trace) (number : ℕ) (ks : List ℕ) → is_member number ks ≡ false
+    → picked_at pick none number (map (link_seen s t) ks) ≡ none
+unfolding link_seen
+picked_missing pick none s t number [] member = refl
+picked_missing pick none s t number (k ∷ ks) member =
+    let rest = picked_at pick none number (map (link_seen s t) ks) in
+    ⊎_elim
+    (λ here. absurd (true≢false (sym (ap (λ b. b || is_member number ks) here) ∙ member)))
+    (λ other. ap (λ b. if b then pick (link_seen s t k) else rest) other
+        ∙ picked_missing pick none s t number ks (sym (ap (λ b. b || is_member number ks) other) ∙ member))
+    (cases_Bool (k == number))
+
+module _ (core : CoreMeaning) (t : Trace) (walks : Walks core t) where
+  live_now : core.seen.links ≡ map (link_seen (setting_of core.conf) t) (live_links t)
+  live_now = walks.follows.links ∙ ap (λ stopped. map (link_seen (setting_of core.conf) t) (stopped ++ live_links t)) walks.going
+
+  session_now : (number : ℕ) → is_live t number ≡ true → session_at number core.seen.links ≡ session_of t number
+  unfolding link_seen
+  session_now number live = ap (session_at number) live_now ∙ picked_seen session_kept None (setting_of core.conf) t number (live_links t) live
+
+  pub held_now : (number : ℕ) → is_live t number ≡ true → held_at number core.seen.links ≡ Some (held_after (brought_by t number))
+  unfolding link_seen
+  held_now number live = ap (held_at number) live_now ∙ picked_seen held_kept None (setting_of core.conf) t number (live_links t) live
+
+  pub held_never : (number : ℕ) → is_live t number ≡ false → held_at number core.seen.links ≡ None
+  held_never number dead = ap (held_at number) live_now ∙ picked_missing held_kept None (setting_of core.conf) t number (live_links t) dead
+
+  verdict_now : (number : ℕ) (cut : Cut) (verdict : Verdict) → is_live t number ≡ true → verdict ≡ verdict_of core.conf.server (session_at number core.seen.links) cut
+      → verdict ≡ verdict_of core.conf.server (session_of t number) cut
+  verdict_now number cut verdict live is = is ∙ ap (λ session. verdict_of core.conf.server session cut) (session_now number live)
+
+  pub walks_passed : (number : ℕ) (cut : Cut) → is_live t number ≡ true → PassedOver ≡ verdict_of core.conf.server (session_at number core.seen.links) cut
+      → Walks core (saying (setting_of core.conf) number cut t)
+  walks_passed number cut live is =
+      subst (λ verdict. Walks core (Said number cut verdict ∷ t)) (verdict_now number cut PassedOver live is)
+      (record { follows = follows_passed (setting_of core.conf) core.seen t walks.follows number cut; going = walks.going })
+
+  pub walks_refused : (number : ℕ) (cut : Cut) (refusal : Refusal) → is_live t number ≡ true → Refused refusal ≡ verdict_of core.conf.server (session_at number core.seen.links) cut
+      → Walks core (saying (setting_of core.conf) number cut t)
+  walks_refused number cut refusal live is =
+      subst (λ verdict. Walks core (Said number cut verdict ∷ t)) (verdict_now number cut (Refused refusal) live is)
+      (record { follows = follows_refused (setting_of core.conf) core.seen t walks.follows number cut refusal; going = walks.going })
+
+  pub walks_login : (number : ℕ) (cut : Cut) (session : Session) (links : List LinkSeen) → is_live t number ≡ true
+      → LoggedIn session ≡ verdict_of core.conf.server (session_at number core.seen.links) cut
+      → links ≡ map (at_link number (with_session session (login_reply core.conf.server session))) core.seen.links
+      → Walks (relinked links core) (saying (setting_of core.conf) number cut t)
+  walks_login number cut session links live is new =
+      subst (λ verdict. Walks (relinked links core) (Said number cut verdict ∷ t)) (verdict_now number cut (LoggedIn session) live is)
+      (record {
+        follows = subst (λ ls. Follows (setting_of core.conf) (with_links ls core.seen) (Said number cut (LoggedIn session) ∷ t)) (sym new)
+          (follows_login (setting_of core.conf) core.seen t walks.follows number cut session);
+        going = walks.going;
+      })
+
+  pub walks_accepted : (number : ℕ) (cut : Cut) (parts : Parts) (line : List ℕ) (links : List LinkSeen) → is_live t number ≡ true
+      → Accepted parts line ≡ verdict_of core.conf.server (session_at number core.seen.links) cut
+      → links ≡ map (with_packet number line) core.seen.links
+      → Walks (relinked links core) (saying (setting_of core.conf) number cut t)
+  walks_accepted number cut parts line links live is new =
+      subst (λ verdict. Walks (relinked links core) (Said number cut verdict ∷ t)) (verdict_now number cut (Accepted parts line) live is)
+      (record {
+        follows = subst (λ ls. Follows (setting_of core.conf) (with_links ls core.seen) (Said number cut (Accepted parts line) ∷ t)) (sym new)
+          (follows_accepted (setting_of core.conf) core.seen t walks.follows walks.going number cut parts line);
+        going = walks.going;
+      })
+
+  pub walks_roomed : (number : ℕ) (links : List LinkSeen) → links ≡ map (at_link number with_room) core.seen.links → Walks (relinked links core) (Roomed number ∷ t)
+  walks_roomed number links new = record {
+    follows = subst (λ ls. Follows (setting_of core.conf) (with_links ls core.seen) (Roomed number ∷ t)) (sym new)
+      (follows_roomed (setting_of core.conf) core.seen t walks.follows number);
+    going = walks.going;
+  }
+
+  pub walks_brought : (number : ℕ) (bytes : List ℕ) (links : List LinkSeen)
+      → links ≡ map (at_link number (with_bytes core.seen.moment (held_after (brought_by t number ++ bytes)))) core.seen.links
+      → Walks (relinked links core) (Brought number bytes ∷ t)
+  walks_brought number bytes links new = record {
+    follows = subst (λ ls. Follows (setting_of core.conf) (with_links ls core.seen) (Brought number bytes ∷ t)) (sym new)
+      (follows_brought (setting_of core.conf) core.seen t walks.follows number bytes);
+    going = walks.going;
+  }
+
+  pub walks_ended : (number : ℕ) (links : List LinkSeen) → links ≡ filter (is_another number) core.seen.links → Walks (relinked links core) (Ended number ByPeer ∷ t)
+  walks_ended number links new = record {
+    follows = subst (λ ls. Follows (setting_of core.conf) (with_links ls core.seen) (Ended number ByPeer ∷ t)) (sym new)
+      (follows_ended (setting_of core.conf) core.seen t walks.follows walks.going number);
+    going = append-nil (stopped_links t) ∙ walks.going;
+  }
+
+heard_by : (core : CoreMeaning) (t : Trace) → Walks core t → (number : ℕ) (cut : Cut) (links : List LinkSeen) (verdict : Verdict) → is_live t number ≡ true
+    → verdict ≡ verdict_of core.conf.server (session_at number core.seen.links) cut → links ≡ after_verdict core.conf.server number verdict core.seen.links
+    → Walks (relinked links core) (saying (setting_of core.conf) number cut t)
+heard_by core t walks number cut links PassedOver live is new =
+    subst (λ ls. Walks (relinked ls core) (saying (setting_of core.conf) number cut t)) (sym new) (walks_passed core t walks number cut live is)
+heard_by core t walks number cut links (Refused refusal) live is new =
+    subst (λ ls. Walks (relinked ls core) (saying (setting_of core.conf) number cut t)) (sym new) (walks_refused core t walks number cut refusal live is)
+heard_by core t walks number cut links (LoggedIn session) live is new = walks_login core t walks number cut session links live is new
+heard_by core t walks number cut links (Accepted parts line) live is new = walks_accepted core t walks number cut parts line links live is new
+
+-- a line that a link said
+pub walks_heard : (core : CoreMeaning) (conf : ConfSeen) (t : Trace) → Walks core t → core.conf ≡ conf → (number : ℕ) (cut : Cut) (links : List LinkSeen) → is_live t number ≡ true
+    → links ≡ after_line core.conf.server number cut core.seen.links → Walks (relinked links core) (saying (setting_of conf) number cut t)
+walks_heard core conf t walks same number cut links live new =
+    subst (λ c. Walks (relinked links core) (saying (setting_of c) number cut t)) same
+    (heard_by core t walks number cut links (verdict_of core.conf.server (session_at number core.seen.links) cut) live refl new)
+
+-- a link that a listener for clients opens, and one that comes elsewhere
+pub walks_served : (core : CoreMeaning) (conf : ConfSeen) (t : Trace) → Walks core t → core.conf ≡ conf → (listener k : ℕ) (kind : PortKind) (from : Addr) (links : List LinkSeen) (served : Option PortKind)
+    → served ≡ Some kind → served ≡ kind_at (setting_of core.conf) listener → IsKept core → core.seen.greatest < k
+    → links ≡ core.seen.links ++ new_link_seen k (record { kind = kind; from = from; moment = core.seen.moment }) ∷ []
+    → Walks (record core { seen = record core.seen { links = links; greatest = k } }) (Opened (kind_at (setting_of conf) listener) k from ∷ t)
+walks_served core conf t walks same listener k kind from links served some at kept above new =
+    let follows = follows_opened (setting_of core.conf) core.seen t walks.follows kind k core.seen.greatest from kept.rising above in
+    let serves : Some kind ≡ kind_at (setting_of conf) listener = sym some ∙ at ∙ ap (λ c. kind_at (setting_of c) listener) same in
+    subst (λ kinds. Walks (record core { seen = record core.seen { links = links; greatest = k } }) (Opened kinds k from ∷ t)) serves (record {
+      follows = record { moment = follows.moment; links = new ∙ follows.links; took = follows.took };
+      going = walks.going;
+    })
+
+pub walks_unserved : (core : CoreMeaning) (conf : ConfSeen) (t : Trace) → Walks core t → core.conf ≡ conf → (listener k : ℕ) (from : Addr) (served : Option PortKind)
+    → served ≡ None → served ≡ kind_at (setting_of core.conf) listener → IsKept core → core.seen.greatest < k
+    → Walks (record core { seen = record core.seen { greatest = k } }) (Opened (kind_at (setting_of conf) listener) k from ∷ t)
+walks_unserved core conf t walks same listener k from served none at kept above =
+    let follows = follows_unserved (setting_of core.conf) core.seen t walks.follows k core.seen.greatest from kept.rising above in
+    let serves : None ≡ kind_at (setting_of conf) listener = sym none ∙ at ∙ ap (λ c. kind_at (setting_of c) listener) same in
+    subst (λ kinds. Walks (record core { seen = record core.seen { greatest = k } }) (Opened kinds k from ∷ t)) serves (record {
+      follows = record { moment = follows.moment; links = follows.links; took = follows.took };
+      going = walks.going;
+    })
+
+absent : (s : Setting) (t : Trace) (number : ℕ) (ks : List ℕ) → is_member number ks ≡ false → has_number number (map (link_seen s t) ks) ≡ false
+unfolding link_seen
+absent s t number [] dead = refl
+absent s t number (k ∷ ks) dead =
+    ⊎_elim
+    (λ here. absurd (true≢false (sym (ap (λ b. b || is_member number ks) here) ∙ dead)))
+    (λ other. ap (λ b. b || has_number number (map (link_seen s t) ks)) other ∙ absent s t number ks (sym (ap (λ b. b || is_member number ks) other) ∙ dead))
+    (cases_Bool (k == number))
+
+all_other : (number : ℕ) (links : List LinkSeen) → has_number number links ≡ false → filter (is_another number) links ≡ links
+all_other number [] none = refl
+all_other number (x ∷ links) none =
+    ⊎_elim
+    (λ here. absurd (true≢false (sym (ap (λ b. b || has_number number links) here) ∙ none)))
+    (λ other. ap (λ b. cond (not b) (x ∷ filter (is_another number) links) (filter (is_another number) links)) other
+        ∙ ap (λ ls. x ∷ ls) (all_other number links (sym (ap (λ b. b || has_number number links) other) ∙ none)))
+    (cases_Bool (has_that number x))
+
+-- a step at a link that doesn't live changes nothing
+no_number : (core : CoreMeaning) (t : Trace) → Walks core t → (number : ℕ) → is_live t number ≡ false → has_number number core.seen.links ≡ false
+no_number core t walks number dead = ap (has_number number) (live_now core t walks) ∙ absent (setting_of core.conf) t number (live_links t) dead
+
+pub walks_unmoved : (core : CoreMeaning) (t : Trace) (links : List LinkSeen) → Walks core t → links ≡ core.seen.links → Walks (relinked links core) t
+walks_unmoved core t links walks same = subst (λ ls. Walks (relinked ls core) t) (sym same) walks
+
+pub walks_no_room : (core : CoreMeaning) (t : Trace) → Walks core t → (number : ℕ) (links : List LinkSeen) → is_live t number ≡ false → links ≡ map (at_link number with_room) core.seen.links → Walks (relinked links core) t
+walks_no_room core t walks number links dead new = walks_unmoved core t links walks (new ∙ changed_none number with_room core.seen.links (no_number core t walks number dead))
+
+pub walks_no_end : (core : CoreMeaning) (t : Trace) → Walks core t → (number : ℕ) (links : List LinkSeen) → is_live t number ≡ false → links ≡ filter (is_another number) core.seen.links → Walks (relinked links core) t
+walks_no_end core t walks number links dead new = walks_unmoved core t links walks (new ∙ all_other number core.seen.links (no_number core t walks number dead))
+
+pub walks_ticked : (core : CoreMeaning) (t : Trace) → Walks core t → (m : ℕ) (moment : ℕ) → moment ≡ max (min m last_moment) core.seen.moment
+    → Walks (record core { seen = record core.seen { moment = moment } }) (Ticked m ∷ t)
+walks_ticked core t walks m moment is =
+    subst (λ n. Walks (record core { seen = record core.seen { moment = n } }) (Ticked m ∷ t)) (sym is)
+    (record { follows = follows_ticked (setting_of core.conf) core.seen t walks.follows m; going = walks.going })
+
+-- a core stays sound as a link comes
+pub kept_above : (core : CoreMeaning) (k : ℕ) → IsKept core → core.seen.greatest < k → k < 2 ^ 32 → IsKept (record core { seen = record core.seen { greatest = k } })
+kept_above core k kept above small = record { rising = rises_to 0 core.seen.greatest k (numbers core.seen.links) kept.rising (omega arith); small = small; station = kept.station }
+
+pub kept_links : (core : CoreMeaning) (links : List LinkSeen) → links ≡ core.seen.links → IsKept core → IsKept (record core { seen = record core.seen { links = links } })
+kept_links core links same kept = subst (λ ls. IsKept (record core { seen = record core.seen { links = ls } })) (sym same) kept
+
+pub kept_pushed : (core : CoreMeaning) (k : ℕ) (link : LinkSeen) (links : List LinkSeen) → IsKept core → core.seen.greatest < k → k < 2 ^ 32 → link.link ≡ k → links ≡ core.seen.links ++ link ∷ []
+    → IsKept (record core { seen = record core.seen { links = links; greatest = k } })
+kept_pushed core k link links kept above small is new =
+    let above_is : core.seen.greatest < link.link = omega (arith, is) in
+    record {
+      rising = subst (λ ls. Rises 0 (numbers ls) k) (sym new) (subst (λ n. Rises 0 (numbers (core.seen.links ++ link ∷ [])) n) is (rises_push 0 core.seen.greatest core.seen.links link kept.rising above_is));
+      small = small;
+      station = kept.station;
+    }
+
+-- what a dead link's bytes leave
+pub unmoved_ok : {E : Type 0} (core : CoreMeaning) (t : Trace) (links : List LinkSeen) (result : Result (Vec Cut Global) E) → Walks core t
+    → IfOk result (λ cuts. (cuts.items ≡ []) × (links ≡ core.seen.links)) → IfOk result (λ cuts. (cuts.items ≡ []) × Walks (relinked links core) t)
+unmoved_ok core t links (Ok cuts) walks h = (h.0, walks_unmoved core t links walks h.1)
+unmoved_ok core t links (Err e) walks h = h
+
+-- a stop ends all links, and leaves what there is to keep of them
+pub follows_stop : (core : CoreMeaning) (conf : ConfSeen) (t : Trace) → Walks core t → core.conf ≡ conf
+    → Follows (setting_of conf) (record core.seen { stopped = true }) (end_all ByStop (live_links t) t)
+follows_stop core conf t walks same =
+    let follows = follows_stopped (setting_of core.conf) core.seen t walks.follows walks.going in
+    subst (λ c. Follows (setting_of c) (record core.seen { stopped = true }) (end_all ByStop (live_links t) t)) same
+    (record { moment = follows.moment; links = follows.links; took = follows.took })

@@ -1,0 +1,390 @@
+-- The walk over a round: what the core keeps follows the trace, entry by entry.
+use Rattle.std.proofs.Common.{◌≡◌, ℕ, zero, suc, ◌+◌, ◌-◌, ◌≤◌, ◌<◌, ◌==◌, Bool, true, false, not, ◌&&◌, ◌||◌, List, [], ◌∷◌, ◌++◌, length, map, filter, refl, sym, ap, ◌∙◌, subst, arith, Option, Some, None, ⊎_elim, append-nil, append_assoc, length-append, max, min, drop, eq-eqb, if◌then◌else◌, cond}
+use Rattle.std.specs.List.{list_any, flat_map}
+use Rattle.std.proofs.lemmas.Bool.{eqb-true, cases_Bool, false_from_ne_true, true_from_ne_false, true≢false, false≢true}
+use Rattle.std.proofs.lemmas.List.Concat.{flat_map-append}
+use Rattle.aprs_base.specs.Held.{held_after}
+use Rattle.aprs_base.specs.declared.texts.Addr.{Addr}
+use Rattle.aprs_base.specs.declared.cutting.Cut.{Cut}
+use Rattle.aprs_base.specs.declared.packets.Parts.{Parts}
+use Rattle.aprs_base.specs.declared.packets.PortKind.{PortKind}
+use Rattle.aprs_history.specs.declared.verdicts.Session.{Session}
+use Rattle.aprs_history.specs.declared.verdicts.Refusal.{Refusal}
+use Rattle.aprs_history.specs.declared.verdicts.Verdict.{Verdict}
+use Rattle.aprs_history.specs.declared.verdicts.Verdict.TheVariants.{PassedOver, Refused, LoggedIn, Accepted}
+use Rattle.aprs_history.specs.Setting.{Setting}
+use Rattle.aprs_history.specs.Trace.{Trace, Entry, Ticked, Opened, Brought, Said, Roomed, Took, Lost, Ended, EndReason, FoundGone, ByPeer, ByStop, live_links, stopped_links, served_links, is_live, is_other, moment_of, last_moment}
+use Rattle.aprs_history.specs.Links.{brought_by, taken_by, session_of, opening_of, is_gone, gone_links}
+use Rattle.aprs_history.specs.Texts.{Queued, queued, lines_of, text_bytes, ended_line, wants, added_by, login_reply, banner, kind_wants}
+use Rattle.aprs_history.specs.Stands.{LinkSeen, CoreSeen, link_seen, TookNoMore, Follows}
+use Rattle.aprs_history.specs.History.{end_all, begin_round}
+use Rattle.server_core.specs.LinkSteps.{at_link, has_that, has_number, with_room, when_gone, with_taken, with_bytes, with_text, with_session, with_packet, new_link_seen, numbers, number_of, is_there, is_another, Rises}
+use Rattle.server_core.proofs.FollowLemmas.{map_through, seen-number, roomed_seen, lost_seen, took_seen, brought_seen, refused_seen, passed_seen, login_seen, accepted_seen, opened_seen, new_seen, text_size}
+
+-- ---- lists of numbers
+
+abbrev pub is_member : ℕ → List ℕ → Bool
+is_member x xs = list_any (λ y. y == x) xs
+
+member_here : (before after : List ℕ) (x : ℕ) → is_member x (before ++ x ∷ after) ≡ true
+member_here [] after x = rw (eq-eqb x x refl) refl
+member_here (y ∷ before) after x = ⊎_elim (λ here. rw here refl) (λ other. rw other (member_here before after x)) (cases_Bool (y == x))
+
+-- maps that agree at each member
+map_members : {Y : Type 0} (f : ℕ → Y) (h : ℕ → Y) (before xs : List ℕ) → ((x : ℕ) → is_member x (before ++ xs) ≡ true → f x ≡ h x) → map f xs ≡ map h xs
+map_members f h before [] same = refl
+map_members f h before (x ∷ xs) same =
+    let later : map f xs ≡ map h xs =
+        map_members f h (before ++ x ∷ []) xs (λ y member. same y (subst (λ ys. is_member y ys ≡ true) (append_assoc before (x ∷ []) xs) member)) in
+    rw (same x (member_here before xs x), later) refl
+
+pub map_on : {Y : Type 0} (f : ℕ → Y) (h : ℕ → Y) (xs : List ℕ) → ((x : ℕ) → is_member x xs ≡ true → f x ≡ h x) → map f xs ≡ map h xs
+map_on f h xs same = map_members f h [] xs same
+
+map_twice : {X Y Z : Type 0} (g : Y → Z) (h : X → Y) (xs : List X) → map g (map h xs) ≡ map (λ x. g (h x)) xs
+map_twice g h [] = refl
+map_twice g h (x ∷ xs) = ap (λ zs. g (h x) ∷ zs) (map_twice g h xs)
+
+rises_le : (low high : ℕ) (ns : List ℕ) → Rises low ns high → low ≤ high
+rises_le low high [] rises = rises
+rises_le low high (n ∷ ns) rises = let later = rises_le n high ns rises.1 in let above = rises.0 in omega arith
+
+-- members of rising numbers
+pub member_below : (low high : ℕ) (ns : List ℕ) (x : ℕ) → Rises low ns high → is_member x ns ≡ true → (low < x) × (x ≤ high)
+member_below low high [] x rises member = absurd (true≢false (sym member))
+member_below low high (n ∷ ns) x rises member =
+    ⊎_elim
+    (λ here. let same : n ≡ x = eqb-true n x here in let above = rises.0 in (omega arith, subst (λ m. m ≤ high) same (rises_le n high ns rises.1)))
+    (λ other. let later = member_below n high ns x rises.1 (rw other at member) in let above = rises.0 in let more = later.0 in (omega arith, later.1))
+    (cases_Bool (n == x))
+
+-- ---- no link takes more than its text
+
+text_more : (lines more : List (List ℕ)) (n : ℕ) → n ≤ length (text_bytes lines) → n ≤ length (text_bytes (lines ++ more))
+text_more lines more n le =
+    let split : length (text_bytes (lines ++ more)) ≡ length (text_bytes lines) + length (text_bytes more) =
+        ap length (flat_map-append ended_line lines more) ∙ length-append (text_bytes lines) (text_bytes more) in
+    omega arith
+
+module _ (s : Setting) where
+  took_said : (t : Trace) → TookNoMore s t → (k : ℕ) (cut : Cut) (verdict : Verdict) → TookNoMore s (Said k cut verdict ∷ t)
+  took_said t took k cut verdict j = text_more (lines_of s t j) (added_by s t k verdict j) (taken_by t j) (took j)
+
+  took_opened : (t : Trace) → TookNoMore s t → (serves : Option PortKind) (k : ℕ) (from : Addr) → TookNoMore s (Opened serves k from ∷ t)
+  took_opened t took serves k from j = ⊎_elim (λ here. rw here (omega arith)) (λ other. rw other (took j)) (cases_Bool (j == k))
+
+  took_took : (t : Trace) → TookNoMore s t → (k offered n : ℕ) → taken_by t k + n ≤ length (text_bytes (lines_of s t k)) → TookNoMore s (Took k offered n ∷ t)
+  took_took t took k offered n le j =
+      ⊎_elim
+      (λ here. let same : j ≡ k = eqb-true j k here in rw here (subst (λ i. taken_by t i + n ≤ length (text_bytes (lines_of s t i))) (sym same) le))
+      (λ other. rw other (took j)) (cases_Bool (j == k))
+
+map_push : {X Y : Type 0} (f : X → Y) (xs : List X) (x : X) → map f (xs ++ x ∷ []) ≡ map f xs ++ f x ∷ []
+map_push f [] x = refl
+map_push f (y ∷ xs) x = ap (λ ys. f y ∷ ys) (map_push f xs x)
+
+-- the numbers of what there is to keep are the links themselves
+pub numbers_seen : (s : Setting) (t : Trace) (ks : List ℕ) → numbers (map (link_seen s t) ks) ≡ ks
+unfolding link_seen
+numbers_seen s t [] = refl
+numbers_seen s t (k ∷ ks) = ap (λ ns. k ∷ ns) (numbers_seen s t ks)
+
+pub below_other : (j k high : ℕ) (ns : List ℕ) → Rises 0 ns high → high < k → is_member j ns ≡ true → (j == k) ≡ false
+below_other j k high ns rises above member =
+    let within = member_below 0 high ns j rises member in
+    let le : j ≤ high = within.1 in
+    false_from_ne_true _ (λ is. let same : j ≡ k = eqb-true j k is in absurd (omega arith))
+
+-- ---- one entry more
+
+abbrev pub with_links : List LinkSeen → CoreSeen → CoreSeen
+with_links links core = record core { links = links }
+
+abbrev pub with_moment : ℕ → CoreSeen → CoreSeen
+with_moment moment core = record core { moment = moment }
+
+module _ (s : Setting) (core : CoreSeen) (t : Trace) (follows : Follows s core t) where
+  pub follows_ticked : (m : ℕ) → Follows s (with_moment (max (min m last_moment) core.moment) core) (Ticked m ∷ t)
+  unfolding link_seen
+  follows_ticked m = record { moment = ap (max (min m last_moment)) follows.moment; links = follows.links; took = follows.took }
+
+  pub follows_roomed : (k : ℕ) → Follows s (with_links (map (at_link k with_room) core.links) core) (Roomed k ∷ t)
+  follows_roomed k = record {
+    moment = follows.moment;
+    links = ap (map (at_link k with_room)) follows.links ∙ sym (map_through (link_seen s (Roomed k ∷ t)) (at_link k with_room) (link_seen s t) (roomed_seen s t k) (served_links t));
+    took = follows.took;
+  }
+
+  pub follows_lost : (k : ℕ) → Follows s (with_links (map (at_link k when_gone) core.links) core) (Lost k ∷ t)
+  follows_lost k = record {
+    moment = follows.moment;
+    links = ap (map (at_link k when_gone)) follows.links ∙ sym (map_through (link_seen s (Lost k ∷ t)) (at_link k when_gone) (link_seen s t) (lost_seen s t k) (served_links t));
+    took = follows.took;
+  }
+
+  pub follows_took : (k offered n : ℕ) → taken_by t k + n ≤ length (text_bytes (lines_of s t k))
+      → Follows s (with_links (map (at_link k (with_taken offered n)) core.links) core) (Took k offered n ∷ t)
+  follows_took k offered n le = record {
+    moment = follows.moment;
+    links = ap (map (at_link k (with_taken offered n))) follows.links
+      ∙ sym (map_through (link_seen s (Took k offered n ∷ t)) (at_link k (with_taken offered n)) (link_seen s t) (took_seen s t k offered n) (served_links t));
+    took = took_took s t follows.took k offered n le;
+  }
+
+  pub follows_brought : (k : ℕ) (bytes : List ℕ)
+      → Follows s (with_links (map (at_link k (with_bytes core.moment (held_after (brought_by t k ++ bytes)))) core.links) core) (Brought k bytes ∷ t)
+  follows_brought k bytes = record {
+    moment = follows.moment;
+    links = ap (λ m. map (at_link k (with_bytes m (held_after (brought_by t k ++ bytes)))) core.links) follows.moment
+      ∙ ap (map (at_link k (with_bytes (moment_of t) (held_after (brought_by t k ++ bytes))))) follows.links
+      ∙ sym (map_through (link_seen s (Brought k bytes ∷ t)) (at_link k (with_bytes (moment_of t) (held_after (brought_by t k ++ bytes)))) (link_seen s t)
+        (brought_seen s t k bytes) (served_links t));
+    took = follows.took;
+  }
+
+  pub follows_passed : (k : ℕ) (cut : Cut) → Follows s core (Said k cut PassedOver ∷ t)
+  follows_passed k cut = record {
+    moment = follows.moment;
+    links = follows.links ∙ sym (map_on (link_seen s (Said k cut PassedOver ∷ t)) (link_seen s t) (served_links t) (λ j member. passed_seen s t k cut j));
+    took = took_said s t follows.took k cut PassedOver;
+  }
+
+  pub follows_refused : (k : ℕ) (cut : Cut) (refusal : Refusal) → Follows s core (Said k cut (Refused refusal) ∷ t)
+  follows_refused k cut refusal = record {
+    moment = follows.moment;
+    links = follows.links ∙ sym (map_on (link_seen s (Said k cut (Refused refusal) ∷ t)) (link_seen s t) (served_links t) (λ j member. refused_seen s t k cut refusal j));
+    took = took_said s t follows.took k cut (Refused refusal);
+  }
+
+  pub follows_login : (k : ℕ) (cut : Cut) (session : Session)
+      → Follows s (with_links (map (at_link k (with_session session (login_reply s.server session))) core.links) core) (Said k cut (LoggedIn session) ∷ t)
+  follows_login k cut session = record {
+    moment = follows.moment;
+    links = ap (map (at_link k (with_session session (login_reply s.server session)))) follows.links
+      ∙ sym (map_through (link_seen s (Said k cut (LoggedIn session) ∷ t)) (at_link k (with_session session (login_reply s.server session))) (link_seen s t)
+        (login_seen s t follows.took k cut session) (served_links t));
+    took = took_said s t follows.took k cut (LoggedIn session);
+  }
+
+  pub follows_accepted : stopped_links t ≡ [] → (k : ℕ) (cut : Cut) (parts : Parts) (line : List ℕ)
+      → Follows s (with_links (map (with_packet k line) core.links) core) (Said k cut (Accepted parts line) ∷ t)
+  follows_accepted going k cut parts line = record {
+    moment = follows.moment;
+    links = ap (map (with_packet k line)) follows.links
+      ∙ map_twice (with_packet k line) (link_seen s t) (served_links t)
+      ∙ sym (map_on (link_seen s (Said k cut (Accepted parts line) ∷ t)) (λ j. with_packet k line (link_seen s t j)) (served_links t)
+        (λ j member. accepted_seen s t follows.took k cut parts line j (subst (λ stopped. is_member j (stopped ++ live_links t) ≡ true) going member)));
+    took = took_said s t follows.took k cut (Accepted parts line);
+  }
+
+  numbers_are : numbers core.links ≡ served_links t
+  numbers_are = ap numbers follows.links ∙ numbers_seen s t (served_links t)
+
+  opened_kept : (serves : Option PortKind) (k high : ℕ) (from : Addr) → Rises 0 (numbers core.links) high → high < k
+      → map (link_seen s t) (served_links t) ≡ map (link_seen s (Opened serves k from ∷ t)) (served_links t)
+  opened_kept serves k high from rises above =
+      sym (map_on (link_seen s (Opened serves k from ∷ t)) (link_seen s t) (served_links t) (λ j member.
+        opened_seen s t serves k from j (below_other j k high (served_links t) (subst (λ ns. Rises 0 ns high) numbers_are rises) above member)))
+
+  -- a link that a client opens
+  pub follows_opened : (kind : PortKind) (k high : ℕ) (from : Addr) → Rises 0 (numbers core.links) high → high < k
+      → Follows s (with_links (core.links ++ new_link_seen k (record { kind = kind; from = from; moment = core.moment }) ∷ []) core) (Opened (Some kind) k from ∷ t)
+  follows_opened kind k high from rises above =
+      let seen = link_seen s (Opened (Some kind) k from ∷ t) in
+      record {
+        moment = follows.moment;
+        links =
+          ap (λ links. links ++ new_link_seen k (record { kind = kind; from = from; moment = core.moment }) ∷ []) (follows.links ∙ opened_kept (Some kind) k high from rises above)
+          ∙ ap (λ m. map seen (served_links t) ++ new_link_seen k (record { kind = kind; from = from; moment = m }) ∷ []) follows.moment
+          ∙ ap (λ l. map seen (served_links t) ++ l ∷ []) (sym (new_seen s t kind k from))
+          ∙ sym (map_push seen (served_links t) k)
+          ∙ ap (map seen) (append_assoc (stopped_links t) (live_links t) (k ∷ []));
+        took = took_opened s t follows.took (Some kind) k from;
+      }
+
+  -- a link that comes where none is served
+  pub follows_unserved : (k high : ℕ) (from : Addr) → Rises 0 (numbers core.links) high → high < k → Follows s core (Opened None k from ∷ t)
+  follows_unserved k high from rises above = record {
+    moment = follows.moment;
+    links = follows.links ∙ opened_kept None k high from rises above ∙ ap (λ ks. map (link_seen s (Opened None k from ∷ t)) (stopped_links t ++ ks)) (sym (append-nil (live_links t)));
+    took = took_opened s t follows.took None k from;
+  }
+
+  filter_seen : (p : LinkSeen → Bool) (q : ℕ → Bool) (ks : List ℕ) → ((j : ℕ) → p (link_seen s t j) ≡ q j) → filter p (map (link_seen s t) ks) ≡ map (link_seen s t) (filter q ks)
+  filter_seen p q [] same = refl
+  filter_seen p q (k ∷ ks) same =
+      let x = link_seen s t k in
+      let xs = filter p (map (link_seen s t) ks) in
+      ⊎_elim
+      (λ kept. ap (λ b. cond b (x ∷ xs) xs) (same k ∙ kept) ∙ ap (λ links. x ∷ links) (filter_seen p q ks same)
+        ∙ ap (map (link_seen s t)) (sym (ap (λ b. cond b (k ∷ filter q ks) (filter q ks)) kept)))
+      (λ left. ap (λ b. cond b (x ∷ xs) xs) (same k ∙ left) ∙ filter_seen p q ks same
+        ∙ ap (map (link_seen s t)) (sym (ap (λ b. cond b (k ∷ filter q ks) (filter q ks)) left)))
+      (cases_Bool (q k))
+
+  another_seen : (k j : ℕ) → is_another k (link_seen s t j) ≡ is_other k j
+  unfolding link_seen
+  another_seen k j = refl
+
+  ended_seen : (k : ℕ) (reason : EndReason) (ks : List ℕ) → map (link_seen s (Ended k reason ∷ t)) ks ≡ map (link_seen s t) ks
+  unfolding link_seen
+  ended_seen k reason ks = refl
+
+  pub follows_ended : stopped_links t ≡ [] → (k : ℕ) → Follows s (with_links (filter (is_another k) core.links) core) (Ended k ByPeer ∷ t)
+  follows_ended going k = record {
+    moment = follows.moment;
+    links =
+      ap (filter (is_another k)) (follows.links ∙ ap (λ stopped. map (link_seen s t) (stopped ++ live_links t)) going)
+      ∙ filter_seen (is_another k) (is_other k) (live_links t) (another_seen k)
+      ∙ sym (ended_seen k ByPeer (filter (is_other k) (live_links t)))
+      ∙ ap (λ stopped. map (link_seen s (Ended k ByPeer ∷ t)) (stopped ++ filter (is_other k) (live_links t))) (sym (append-nil (stopped_links t) ∙ going));
+    took = follows.took;
+  }
+
+-- ---- several links end
+
+-- what is left without these
+abbrev without_all : List ℕ → List ℕ → List ℕ
+without_all [] xs = xs
+without_all (k ∷ ks) xs = without_all ks (filter (is_other k) xs)
+
+live_after : (reason : EndReason) (ks : List ℕ) (t : Trace) → live_links (end_all reason ks t) ≡ without_all ks (live_links t)
+live_after reason [] t = refl
+live_after reason (k ∷ ks) t = live_after reason ks (Ended k reason ∷ t)
+
+-- one point of a trace that the end of a link leaves as it is
+same_after : {X : Type 0} (f : Trace → X) → ((k : ℕ) (reason : EndReason) (t : Trace) → f (Ended k reason ∷ t) ≡ f t) → (reason : EndReason) (ks : List ℕ) (t : Trace)
+    → f (end_all reason ks t) ≡ f t
+same_after f same reason [] t = refl
+same_after f same reason (k ∷ ks) t = same_after f same reason ks (Ended k reason ∷ t) ∙ same k reason t
+
+pub moment_after : (reason : EndReason) (ks : List ℕ) (t : Trace) → moment_of (end_all reason ks t) ≡ moment_of t
+moment_after = same_after moment_of (λ k reason t. refl)
+
+pub seen_after : (s : Setting) (reason : EndReason) (ks : List ℕ) (t : Trace) (j : ℕ) → link_seen s (end_all reason ks t) j ≡ link_seen s t j
+unfolding link_seen
+seen_after s reason ks t j = same_after (λ (u : Trace). link_seen s u j) (λ k reason t. refl) reason ks t
+
+pub took_after : (s : Setting) (reason : EndReason) (ks : List ℕ) (t : Trace) → TookNoMore s t → TookNoMore s (end_all reason ks t)
+took_after s reason ks t took j =
+    let taken = same_after (λ (u : Trace). taken_by u j) (λ k reason t. refl) reason ks t in
+    let lines = same_after (λ (u : Trace). lines_of s u j) (λ k reason t. refl) reason ks t in
+    subst (λ n. n ≤ length (text_bytes (lines_of s (end_all reason ks t) j))) (sym taken) (subst (λ ls. taken_by t j ≤ length (text_bytes ls)) (sym lines) (took j))
+
+pub going_after : (ks : List ℕ) (t : Trace) → stopped_links (end_all FoundGone ks t) ≡ stopped_links t
+going_after [] t = refl
+going_after (k ∷ ks) t = going_after ks (Ended k FoundGone ∷ t) ∙ append-nil (stopped_links t)
+
+stopped_after : (ks : List ℕ) (t : Trace) → stopped_links (end_all ByStop ks t) ≡ stopped_links t ++ ks
+stopped_after [] t = sym (append-nil (stopped_links t))
+stopped_after (k ∷ ks) t = stopped_after ks (Ended k ByStop ∷ t) ∙ append_assoc (stopped_links t) (k ∷ []) ks
+
+filter_all : (xs : List ℕ) → filter (λ x. not false) xs ≡ xs
+filter_all [] = refl
+filter_all (x ∷ xs) = ap (λ ys. x ∷ ys) (filter_all xs)
+
+eqb_turned : (a b : ℕ) → (a == b) ≡ (b == a)
+eqb_turned a b =
+    ⊎_elim
+    (λ same. let is : a ≡ b = eqb-true a b same in same ∙ sym (eq-eqb b a (sym is)))
+    (λ differ. differ ∙ sym (false_from_ne_true _ (λ is. true≢false (sym (eq-eqb a b (sym (eqb-true b a is))) ∙ differ))))
+    (cases_Bool (a == b))
+
+filter_twice : (ks : List ℕ) (k : ℕ) (xs : List ℕ) → filter (λ x. not (is_member x ks)) (filter (is_other k) xs) ≡ filter (λ x. not (is_member x (k ∷ ks))) xs
+filter_twice ks k [] = refl
+filter_twice ks k (x ∷ xs) =
+    let later = filter_twice ks k xs in
+    let kept = filter (is_other k) xs in
+    let both = filter (λ x. not (is_member x (k ∷ ks))) xs in
+    ⊎_elim
+    (λ same.
+        ap (λ b. filter (λ x. not (is_member x ks)) (cond (not b) (x ∷ kept) kept)) same ∙ later
+        ∙ ap (λ b. cond (not (b || is_member x ks)) (x ∷ both) both) (sym (eqb_turned k x ∙ same)))
+    (λ differ.
+        ap (λ b. filter (λ x. not (is_member x ks)) (cond (not b) (x ∷ kept) kept)) differ
+        ∙ ap (λ ys. cond (not (is_member x ks)) (x ∷ ys) ys) later
+        ∙ ap (λ b. cond (not (b || is_member x ks)) (x ∷ both) both) (sym (eqb_turned k x ∙ differ)))
+    (cases_Bool (x == k))
+
+-- what is left without the members of a list
+left_without : (ks xs : List ℕ) → without_all ks xs ≡ filter (λ x. not (is_member x ks)) xs
+left_without [] xs = sym (filter_all xs)
+left_without (k ∷ ks) xs = left_without ks (filter (is_other k) xs) ∙ filter_twice ks k xs
+
+-- filters that agree at each member
+filter_members : (p q : ℕ → Bool) (before xs : List ℕ) → ((x : ℕ) → is_member x (before ++ xs) ≡ true → p x ≡ q x) → filter p xs ≡ filter q xs
+filter_members p q before [] same = refl
+filter_members p q before (x ∷ xs) same =
+    let later : filter p xs ≡ filter q xs =
+        filter_members p q (before ++ x ∷ []) xs (λ y member. same y (subst (λ ys. is_member y ys ≡ true) (append_assoc before (x ∷ []) xs) member)) in
+    ap (λ b. cond b (x ∷ filter p xs) (filter p xs)) (same x (member_here before xs x)) ∙ ap (λ ys. cond (q x) (x ∷ ys) ys) later
+
+member_dropped : (p : ℕ → Bool) (xs : List ℕ) (x : ℕ) → p x ≡ false → is_member x (filter p xs) ≡ false
+member_dropped p [] x fails = refl
+member_dropped p (y ∷ xs) x fails =
+    let later = member_dropped p xs x fails in
+    ⊎_elim
+    (λ passes.
+        let differ : (y == x) ≡ false = false_from_ne_true _ (λ is. true≢false (sym passes ∙ ap p (eqb-true y x is) ∙ fails)) in
+        ap (λ b. is_member x (cond b (y ∷ filter p xs) (filter p xs))) passes ∙ ap (λ b. b || is_member x (filter p xs)) differ ∙ later)
+    (λ left. ap (λ b. is_member x (cond b (y ∷ filter p xs) (filter p xs))) left ∙ later)
+    (cases_Bool (p y))
+
+-- a member passes a filter exactly where it passes the test
+member_filtered : (p : ℕ → Bool) (xs : List ℕ) (x : ℕ) → is_member x xs ≡ true → is_member x (filter p xs) ≡ p x
+member_filtered p [] x member = absurd (true≢false (sym member))
+member_filtered p (y ∷ xs) x member =
+    ⊎_elim
+    (λ here. let same : y ≡ x = eqb-true y x here in ⊎_elim
+        (λ passes. ap (λ b. is_member x (cond b (y ∷ filter p xs) (filter p xs))) passes ∙ ap (λ b. b || is_member x (filter p xs)) here ∙ sym (ap p (sym same) ∙ passes))
+        (λ left. ap (λ b. is_member x (cond b (y ∷ filter p xs) (filter p xs))) left ∙ member_dropped p xs x (ap p (sym same) ∙ left) ∙ sym (ap p (sym same) ∙ left))
+        (cases_Bool (p y)))
+    (λ other. let later = member_filtered p xs x (sym (ap (λ b. b || is_member x xs) other) ∙ member) in ⊎_elim
+        (λ passes. ap (λ b. is_member x (cond b (y ∷ filter p xs) (filter p xs))) passes ∙ ap (λ b. b || is_member x (filter p xs)) other ∙ later)
+        (λ left. ap (λ b. is_member x (cond b (y ∷ filter p xs) (filter p xs))) left ∙ later)
+        (cases_Bool (p y)))
+    (cases_Bool (y == x))
+
+-- without those that pass a test, those that fail it are left
+left_failing : (p : ℕ → Bool) (xs : List ℕ) → without_all (filter p xs) xs ≡ filter (λ x. not (p x)) xs
+left_failing p xs =
+    left_without (filter p xs) xs ∙ filter_members (λ x. not (is_member x (filter p xs))) (λ x. not (p x)) [] xs (λ x member. ap not (member_filtered p xs x member))
+
+left_none : (xs : List ℕ) → without_all xs xs ≡ []
+left_none xs = left_without xs xs ∙ filter_members (λ x. not (is_member x xs)) (λ x. false) [] xs (λ x member. ap not member) ∙ nothing xs
+  where
+  nothing : (xs : List ℕ) → filter (λ x. false) xs ≡ []
+  nothing [] = refl
+  nothing (x ∷ xs) = nothing xs
+
+module _ (s : Setting) (core : CoreSeen) (t : Trace) (follows : Follows s core t) (going : stopped_links t ≡ []) where
+  there_seen : (j : ℕ) → is_there (link_seen s t j) ≡ not (is_gone t j)
+  unfolding link_seen
+  there_seen j = refl
+
+  -- the links that were found gone end as a round begins
+  pub follows_begun : Follows s (with_links (filter is_there core.links) core) (begin_round t)
+  follows_begun = record {
+    moment = follows.moment ∙ sym (moment_after FoundGone (gone_links t) t);
+    links =
+      ap (filter is_there) (follows.links ∙ ap (λ stopped. map (link_seen s t) (stopped ++ live_links t)) going)
+      ∙ filter_seen s core t follows is_there (λ j. not (is_gone t j)) (live_links t) there_seen
+      ∙ sym (map_on (link_seen s (begin_round t)) (link_seen s t) (filter (λ j. not (is_gone t j)) (live_links t)) (λ j member. seen_after s FoundGone (gone_links t) t j))
+      ∙ ap (map (link_seen s (begin_round t))) (sym (live_after FoundGone (gone_links t) t ∙ left_failing (is_gone t) (live_links t)))
+      ∙ ap (λ stopped. map (link_seen s (begin_round t)) (stopped ++ live_links (begin_round t))) (sym (going_after (gone_links t) t ∙ going));
+    took = took_after s FoundGone (gone_links t) t follows.took;
+  }
+
+  -- at a stop all links end, and keep their texts
+  pub follows_stopped : Follows s core (end_all ByStop (live_links t) t)
+  follows_stopped = record {
+    moment = follows.moment ∙ sym (moment_after ByStop (live_links t) t);
+    links =
+      follows.links
+      ∙ sym (map_on (link_seen s (end_all ByStop (live_links t) t)) (link_seen s t) (served_links t) (λ j member. seen_after s ByStop (live_links t) t j))
+      ∙ ap (map (link_seen s (end_all ByStop (live_links t) t))) (sym (
+        ap (λ stopped. stopped ++ live_links (end_all ByStop (live_links t) t)) (stopped_after (live_links t) t)
+        ∙ ap (λ live. (stopped_links t ++ live_links t) ++ live) (live_after ByStop (live_links t) t ∙ left_none (live_links t))
+        ∙ append-nil (stopped_links t ++ live_links t)));
+    took = took_after s ByStop (live_links t) t follows.took;
+  }

@@ -1,0 +1,13 @@
+use Rattle.std.proofs.Common.{◌^◌, ap, ◌∙◌}
+use Rattle.std.specs.List.{position}
+use Rattle.server_core.specs.LinkSteps.{has_that, when_gone}
+use Rattle.server_core.proofs.LinkLemmas.{changed_by, changed_nowhere}
+use Rattle.server_core.proofs.links.lose.Goals as goal
+
+pub returns-in-Some : goal.returns-in-Some
+returns-in-Some c =
+    let found = c.in-Some.ensures ∙ ap (position (has_that c.args.number)) c.as_slice.ensures.value in
+    changed_by c.args.number when_gone (2 ^ 32) c.args.links.now.items c.in-Some.place c.index_mut.result.now c.lose.new.self c.requires found c.index_mut.ensures.value c.lose.ensures
+
+pub returns-in-None : goal.returns-in-None
+returns-in-None c = changed_nowhere c.args.number when_gone c.args.links.now.items (c.in-None.ensures ∙ ap (position (has_that c.args.number)) c.as_slice.ensures.value)

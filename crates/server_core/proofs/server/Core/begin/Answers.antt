@@ -1,0 +1,16 @@
+use Rattle.std.proofs.Common.{◌≡◌, subst, sym}
+use Rattle.server_core.specs.LinkSteps.{Rises, numbers, is_there}
+use Rattle.server_core.specs.Steps.{Walks}
+use Rattle.server_core.proofs.LinkLemmas.{rises_filter}
+use Rattle.server_core.proofs.CoreLemmas.{walks_begun}
+use Rattle.server_core.proofs.server.Core.begin.Goals as goal
+
+pub invariant_of-self : goal.invariant_of-self
+invariant_of-self c = record {
+  rising = subst (λ links. Rises 0 (numbers links) c.self.inside.greatest) (sym c.drop_gone.ensures) (rises_filter is_there 0 c.self.inside.greatest c.self.inside.links.items c.self.invariant.rising);
+  small = c.self.invariant.small;
+  station = c.self.invariant.station;
+}
+
+pub returns-clause-walks : goal.returns-clause-walks
+returns-clause-walks c = λ t walks. walks_begun _ t c.drop_gone.new.links.items (subst (λ core. Walks core t) (sym c.self.view_is) walks) c.drop_gone.ensures

@@ -1,0 +1,10 @@
+use Rattle.std.proofs.Common.{subst, sym, ap}
+use Rattle.aprs_history.specs.Stands.{Follows}
+use Rattle.server_core.specs.Meaning.{CoreMeaning, setting_of}
+use Rattle.server_core.specs.Steps.{Walks}
+use Rattle.server_core.proofs.CoreLemmas.{follows_stop}
+use Rattle.server_core.proofs.server.Core.stop.Goals as goal
+
+pub returns-clause-follows : goal.returns-clause-follows
+returns-clause-follows c = λ t walks.
+    follows_stop _ c.args.self.now.conf t (subst (λ core. Walks core t) (sym c.self.view_is) walks) (ap (λ (core : CoreMeaning). core.conf) c.self.view_is)

@@ -1,0 +1,11 @@
+-- What is true of every core.
+use Rattle.std.specs.Prelude.{ℕ, ◌<◌, ◌^◌, IsTrue}
+use Rattle.aprs_base.specs.Bytes.{is_station}
+use Rattle.server_core.specs.LinkSteps.{Rises, numbers}
+use Rattle.server_core.specs.Meaning.{CoreMeaning}
+
+-- its links are in the order of their numbers, which aren't above the greatest; and its server is a station
+pub record IsKept (core : CoreMeaning) : Type 0 where
+  pub rising : Rises 0 (numbers core.seen.links) core.seen.greatest
+  pub small : core.seen.greatest < 2 ^ 32
+  pub station : IsTrue (is_station core.conf.server)

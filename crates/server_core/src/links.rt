@@ -1,0 +1,185 @@
+//! The links of the core, in the order of their numbers.
+ghost use Rattle.std.specs.Prelude.{◌≡◌, ℕ, ◌≤◌, ◌<◌, ◌^◌, ◌++◌, [], IsTrue, List, None, Some, OnOk, IfOk, min, take, MatchOption, IsSome, length, map, slice_get, option_map, position, filter, not, true, false};
+ghost use Rattle.std.specs.Arc.{arc_value};
+ghost use Rattle.aprs_history.specs.Stands.{LinkSeen};
+ghost use Rattle.server_core.specs.LinkSteps.{Rises, after_line, at_link, number_of, has_that, held_at, is_another, is_ready, is_there, numbers, pending_at, session_at, when_gone, with_bytes, with_packet, with_room, with_session, with_taken};
+ghost use Rattle.aprs_base.specs.Bytes.{is_station};
+ghost use Rattle.aprs_base.specs.Cuts.{cuts_by};
+ghost use Rattle.aprs_base.specs.Held.{held_after};
+ghost use Rattle.aprs_history.specs.Verdicts.{verdict_of};
+ghost use Rattle.server_core.specs.Pending.{pending_bytes};
+
+use crate::judging::judge;
+use crate::link::Link;
+use crate::replies::login_line;
+use aprs_base::{Call, Cut, Line, Memory};
+use aprs_history::{Session, Verdict};
+use std::alloc::Global;
+use std::sync::Arc;
+
+/// Where the link of that number stands.
+pub(crate) fn place_of(links: &[Link], number: u32) -> Option<usize>
+    ensures { result ≡ position (has_that number) links.now }
+{
+    links.iter().position(|link| link.number == number)
+}
+
+/// The link has room again.
+pub(crate) fn give_room(links: &mut Vec<Link>, number: u32)
+    requires { Rises 0 (numbers links.old.items) (2 ^ 32) }
+    ensures { links.new.items ≡ map (at_link number with_room) links.old.items }
+{
+    match place_of(links.as_slice(), number) {
+        Some(place) => links[place].give_room(),
+        None => {}
+    }
+}
+
+/// A send found the link gone.
+pub(crate) fn lose(links: &mut Vec<Link>, number: u32)
+    requires { Rises 0 (numbers links.old.items) (2 ^ 32) }
+    ensures { links.new.items ≡ map (at_link number when_gone) links.old.items }
+{
+    match place_of(links.as_slice(), number) {
+        Some(place) => links[place].lose(),
+        None => {}
+    }
+}
+
+/// The link took the first `count` bytes of an offer.
+pub(crate) fn take(links: &mut Vec<Link>, number: u32, offered: usize, count: usize)
+    requires rises { Rises 0 (numbers links.old.items) (2 ^ 32) }
+    requires pending { count ≤ length (pending_at number links.old.items) }
+    requires small { count ≤ 65536 }
+    ensures { links.new.items ≡ map (at_link number (with_taken offered count)) links.old.items }
+{
+    match place_of(links.as_slice(), number) {
+        Some(place) => links[place].take(offered, count),
+        None => {}
+    }
+}
+
+/// Writes the next bytes of the link, as many as there are and as fit.
+pub(crate) fn offer(links: &[Link], number: u32, out: &mut [u8]) -> usize
+    ensures count { result ≡ min (length out.old) (length (pending_at number links.now)) }
+    ensures bytes { take result out.new ≡ take (length out.old) (pending_at number links.now) }
+{
+    match place_of(links, number) {
+        Some(place) => links[place].front_bytes(out),
+        None => 0,
+    }
+}
+
+/// Gives an accepted packet to every other link that wants it.
+pub(crate) fn share(links: &mut Vec<Link>, from: u32, line: &Arc<Line>) -> Result<(), Memory>
+    ensures numbers { numbers links.new.items ≡ numbers links.old.items }
+    ensures ok { OnOk result (links.new.items ≡ map (with_packet from (arc_value line.now)) links.old.items) }
+{
+    for link in links.iter_mut() {
+        link.hear(from, line)?;
+    }
+    Ok(())
+}
+
+/// The links that a send found gone leave.
+pub(crate) fn drop_gone(links: &mut Vec<Link>)
+    ensures { links.new.items ≡ filter is_there links.old.items }
+{
+    links.retain(|link| !link.gone);
+}
+
+/// The link leaves.
+pub(crate) fn drop_link(links: &mut Vec<Link>, number: u32)
+    ensures { links.new.items ≡ filter (is_another number) links.old.items }
+{
+    links.retain(|link| link.number != number);
+}
+
+/// The numbers of the links that are to be offered their next bytes.
+pub(crate) fn ready(alloc: Global, links: &[Link]) -> Result<Vec<u32>, Memory>
+    ensures { IfOk result (λ v. v.items ≡ map number_of (filter is_ready links.now)) }
+{
+    let mut numbers = Vec::new(alloc);
+    for link in links {
+        if link.is_ready() {
+            numbers.push(link.number())?;
+        }
+    }
+    Ok(numbers)
+}
+
+/// The numbers of all links.
+pub(crate) fn all(alloc: Global, links: &[Link]) -> Result<Vec<u32>, Memory>
+    ensures { IfOk result (λ v. v.items ≡ numbers links.now) }
+{
+    let numbers: Vec<u32> = links.iter().map(|link| link.number).collect(alloc)?;
+    Ok(numbers)
+}
+
+/// The verdict on what the link of that number said.
+pub(crate) fn judge_at(server: &Call, links: &[Link], number: u32, cut: &Cut) -> Verdict
+    requires { IsTrue (is_station server.now) }
+    ensures { result ≡ verdict_of server.now (session_at number links.now) cut.now }
+{
+    match place_of(links, number) {
+        Some(place) => links[place].judge(server, cut),
+        None => judge(server, None, cut),
+    }
+}
+
+/// The link of that number has logged in.
+pub(crate) fn log_in(links: &mut Vec<Link>, number: u32, session: Session, reply: Arc<Line>) -> Result<(), Memory>
+    requires { Rises 0 (numbers links.old.items) (2 ^ 32) }
+    ensures numbers { numbers links.new.items ≡ numbers links.old.items }
+    ensures ok { OnOk result (links.new.items ≡ map (at_link number (with_session session (arc_value reply))) links.old.items) }
+{
+    match place_of(links.as_slice(), number) {
+        Some(place) => {
+            links[place].log_in(session, reply)?;
+            Ok(())
+        }
+        None => Ok(()),
+    }
+}
+
+/// The link of that number brought bytes: what they cut.
+pub(crate) fn bring(alloc: Global, links: &mut Vec<Link>, number: u32, moment: u64, bytes: &[u8]) -> Result<Vec<Cut>, Memory>
+    requires { Rises 0 (numbers links.old.items) (2 ^ 32) }
+    ensures numbers { numbers links.new.items ≡ numbers links.old.items }
+    ensures links { (before : List ℕ) → held_at number links.old.items ≡ Some (held_after before)
+        → OnOk result (links.new.items ≡ map (at_link number (with_bytes moment (held_after (before ++ bytes.now)))) links.old.items) }
+    ensures cuts { (before : List ℕ) → held_at number links.old.items ≡ Some (held_after before) → IfOk result (λ cuts. cuts.items ≡ cuts_by before bytes.now) }
+    ensures nowhere { held_at number links.old.items ≡ None → IfOk result (λ cuts. (cuts.items ≡ []) × (links.new.items ≡ links.old.items)) }
+{
+    let mut cuts = Vec::new(alloc);
+    match place_of(links.as_slice(), number) {
+        Some(place) => {
+            links[place].bring(alloc, moment, bytes, &mut cuts)?;
+            Ok(cuts)
+        }
+        None => Ok(cuts),
+    }
+}
+
+/// What the link of that number said: it is judged, and what comes of it is done.
+pub(crate) fn hear(alloc: Global, server: &Call, links: &mut Vec<Link>, number: u32, cut: &Cut) -> Result<(), Memory>
+    requires rises { Rises 0 (numbers links.old.items) (2 ^ 32) }
+    requires station { IsTrue (is_station server.now) }
+    ensures numbers { numbers links.new.items ≡ numbers links.old.items }
+    ensures ok { OnOk result (links.new.items ≡ after_line server.now number cut.now links.old.items) }
+{
+    match judge_at(server, links.as_slice(), number, cut) {
+        Verdict::PassedOver => Ok(()),
+        Verdict::Refused(_) => Ok(()),
+        Verdict::LoggedIn(session) => {
+            let reply = Arc::new(alloc, login_line(server, &session))?;
+            log_in(links, number, session, reply)?;
+            Ok(())
+        }
+        Verdict::Accepted(_, line) => {
+            let line = Arc::new(alloc, line)?;
+            share(links, number, &line)?;
+            Ok(())
+        }
+    }
+}

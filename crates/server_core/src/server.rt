@@ -1,0 +1,185 @@
+//! The core: it takes a round of events, and says what is to be done.
+ghost use Rattle.std.specs.Prelude.{◌≡◌, ◌∷◌, [], ◌≤◌, ◌<◌, ◌||◌, ℕ, IsTrue, IfOk, OnOk, IfSome, List, length, false, true};
+ghost use Rattle.std.specs.Arc.{arc_value};
+ghost use Rattle.aprs_base.specs.Bytes.{is_station};
+ghost use Rattle.aprs_base.specs.Outside.{new_link};
+ghost use Rattle.aprs_history.specs.Trace.{Trace, Entry, EndReason, Brought, ByPeer, ByStop, Ended, Opened, Roomed, Ticked, is_live, live_links, stopped_links};
+ghost use Rattle.aprs_history.specs.Links.{brought_by, session_of};
+ghost use Rattle.aprs_base.specs.Cuts.{cuts_by};
+ghost use Rattle.aprs_history.specs.Setting.{kind_at};
+ghost use Rattle.aprs_history.specs.Verdicts.{verdict_of};
+ghost use Rattle.aprs_history.specs.Stands.{Follows};
+ghost use Rattle.aprs_history.specs.History.{begin_round, end_all, greater_link, is_stop, say_all, with_bytes_of, with_event};
+ghost use Rattle.server_core.specs.Meaning.{setting_of};
+ghost use Rattle.server_core.specs.Steps.{AfterEvent, SameRest, Walks, saying};
+
+use crate::conf::Conf;
+use crate::link::Link;
+use crate::links::{bring, drop_gone, drop_link, give_room, hear};
+use aprs_base::{Addr, Chunk, Cut, Event, Memory, PortKind};
+use std::alloc::Global;
+use std::marker::Model;
+
+/// The greatest moment: the last second of the year 9999.
+const LAST_MOMENT: u64 = 253_402_300_799;
+
+/// The core of a server.
+#[derive(Drop)]
+pub struct Core {
+    conf: Conf,
+    moment: u64,
+    links: Vec<Link>,
+    greatest: u32,
+    stopped: bool,
+}
+
+impl Model for Core {
+    ghost use Rattle.server_core.specs.Meaning.{CoreMeaning};
+    ghost use Rattle.server_core.specs.Kept.{IsKept};
+
+    ghost Value = { CoreMeaning };
+
+    ghost view = { λ c. record { conf = c.conf; seen = record { moment = c.moment; links = c.links.items; greatest = c.greatest; stopped = c.stopped } } };
+
+    ghost invariant = { λ c. IsKept (record { conf = c.conf; seen = record { moment = c.moment; links = c.links.items; greatest = c.greatest; stopped = c.stopped } }) };
+}
+
+impl Core {
+    /// A round begins: the links that a send found gone end.
+    fn begin(&mut self)
+        ensures walks { (t : Trace) → Walks self.old t → Walks self.new (begin_round t) }
+        ensures rest { SameRest self.old self.new }
+    {
+        drop_gone(&mut self.links);
+    }
+
+    /// What the link of that number said: it is judged, and what comes of it is done.
+    fn hear(&mut self, alloc: Global, number: u32, cut: &Cut) -> Result<(), Memory>
+        ensures walks { (t : Trace) → Walks self.old t → IsTrue (is_live t number) → OnOk result (Walks self.new (saying (setting_of self.old.conf) number cut.now t)) }
+        ensures rest { OnOk result (SameRest self.old self.new) }
+    {
+        hear(alloc, self.conf.server(), &mut self.links, number, cut)
+    }
+
+    /// The same for several lines, one after another.
+    fn hear_all(&mut self, alloc: Global, number: u32, cuts: &[Cut]) -> Result<(), Memory>
+        ensures walks { (t : Trace) → Walks self.old t → IsTrue (is_live t number) → OnOk result (Walks self.new (say_all (setting_of self.old.conf) number cuts.now t)) }
+        ensures rest { OnOk result (SameRest self.old self.new) }
+    {
+        for cut in cuts {
+            self.hear(alloc, number, cut)?;
+        }
+        Ok(())
+    }
+
+    /// Bytes came on a link.
+    fn bring(&mut self, alloc: Global, number: u32, bytes: &[u8]) -> Result<Vec<Cut>, Memory>
+        ensures live { (t : Trace) → Walks self.old t → IsTrue (is_live t number) → OnOk result (Walks self.new (Brought number bytes.now ∷ t)) }
+        ensures cuts { (t : Trace) → Walks self.old t → IsTrue (is_live t number) → IfOk result (λ cuts. cuts.items ≡ cuts_by (brought_by t number) bytes.now) }
+        ensures dead { (t : Trace) → Walks self.old t → is_live t number ≡ false → IfOk result (λ cuts. (cuts.items ≡ []) × Walks self.new t) }
+        ensures rest { OnOk result (SameRest self.old self.new) }
+    {
+        bring(alloc, &mut self.links, number, self.moment, bytes)
+    }
+
+    /// A link was opened on a listener.
+    fn open(&mut self, alloc: Global, listener: u16, number: u32, from: Addr) -> Result<(), Memory>
+        requires { self.old.seen.greatest < number }
+        ensures walks { (t : Trace) → Walks self.old t → OnOk result (Walks self.new (Opened (kind_at (setting_of self.old.conf) listener) number from ∷ t)) }
+        ensures conf { OnOk result (self.new.conf ≡ self.old.conf) }
+        ensures greatest { OnOk result (self.new.seen.greatest ≡ number) }
+        ensures stopped { OnOk result (self.new.seen.stopped ≡ self.old.seen.stopped) }
+    {
+        self.greatest = number;
+        match self.conf.client_kind(listener) {
+            Some(kind) => {
+                self.links.push(Link::open(alloc, number, kind, from, self.moment)?)?;
+                Ok(())
+            }
+            None => Ok(()),
+        }
+    }
+
+    /// A link was ended by its peer.
+    fn end(&mut self, number: u32)
+        ensures live { (t : Trace) → Walks self.old t → IsTrue (is_live t number) → Walks self.new (Ended number ByPeer ∷ t) }
+        ensures dead { (t : Trace) → Walks self.old t → is_live t number ≡ false → Walks self.new t }
+        ensures rest { SameRest self.old self.new }
+    {
+        drop_link(&mut self.links, number);
+    }
+
+    /// A link has room again.
+    fn room(&mut self, number: u32)
+        ensures live { (t : Trace) → Walks self.old t → IsTrue (is_live t number) → Walks self.new (Roomed number ∷ t) }
+        ensures dead { (t : Trace) → Walks self.old t → is_live t number ≡ false → Walks self.new t }
+        ensures rest { SameRest self.old self.new }
+    {
+        give_room(&mut self.links, number);
+    }
+
+    /// The moment goes on.
+    fn tick(&mut self, moment: u64)
+        ensures walks { (t : Trace) → Walks self.old t → Walks self.new (Ticked moment ∷ t) }
+        ensures rest { SameRest self.old self.new }
+    {
+        self.moment = moment.min(LAST_MOMENT).max(self.moment);
+    }
+
+    /// Bytes came on a link: they are cut, and each line is heard.
+    fn take_bytes(&mut self, alloc: Global, number: u32, bytes: &[u8]) -> Result<(), Memory>
+        ensures walks { (t : Trace) → Walks self.old t → OnOk result (Walks self.new (with_bytes_of (setting_of self.old.conf) number bytes.now t)) }
+        ensures rest { OnOk result (SameRest self.old self.new) }
+    {
+        let cuts = self.bring(alloc, number, bytes)?;
+        if cuts.is_empty() {
+            return Ok(());
+        }
+        self.hear_all(alloc, number, cuts.as_slice())?;
+        Ok(())
+    }
+
+    /// A link comes that nobody asked for.
+    fn pass_over(&mut self, number: u32)
+        requires { self.old.seen.greatest < number }
+        ensures walks { (t : Trace) → Walks self.old t → Walks self.new t }
+        ensures conf { self.new.conf ≡ self.old.conf }
+        ensures greatest { self.new.seen.greatest ≡ number }
+        ensures stopped { self.new.seen.stopped ≡ self.old.seen.stopped }
+    {
+        self.greatest = number;
+    }
+
+    /// The server stops: all links end, and keep what they have still to take.
+    fn stop(&mut self)
+        ensures follows { (t : Trace) → Walks self.old t → Follows (setting_of self.old.conf) self.new.seen (end_all ByStop (live_links t) t) }
+        ensures conf { self.new.conf ≡ self.old.conf }
+        ensures greatest { self.new.seen.greatest ≡ self.old.seen.greatest }
+        ensures stopped { self.new.seen.stopped ≡ true }
+    {
+        self.stopped = true;
+    }
+
+    /// One event of a round.
+    fn take_event(&mut self, alloc: Global, event: &Event) -> Result<(), Memory>
+        requires { IfSome (new_link event.now) (λ link. self.old.seen.greatest < link) }
+        ensures follows { (t : Trace) → Walks self.old t → OnOk result (Follows (setting_of self.old.conf) self.new.seen (with_event (setting_of self.old.conf) event.now t)) }
+        ensures rest { OnOk result (AfterEvent self.old self.new event.now) }
+    {
+        match event {
+            Event::Tick(moment) => self.tick(*moment),
+            Event::Opened {
+                listener,
+                link,
+                from,
+            } => self.open(alloc, *listener, *link, *from)?,
+            Event::Joined { link, .. } => self.pass_over(*link),
+            Event::Bytes(link, chunk) => self.take_bytes(alloc, *link, chunk.bytes())?,
+            Event::Ended(link) => self.end(*link),
+            Event::Room(link) => self.room(*link),
+            Event::Stop => self.stop(),
+            Event::Unjoined(_) | Event::Datagram { .. } => {}
+        }
+        Ok(())
+    }
+}
