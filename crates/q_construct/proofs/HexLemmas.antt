@@ -5,7 +5,7 @@ use Rattle.std.proofs.lemmas.Bool.{and_from, le-leb, eq-eqb}
 use Rattle.std.proofs.lemmas.Bool.Decides.{nat_tests}
 use Rattle.std.proofs.Math.Seq.{take-length}
 use Rattle.aprs_base.specs.Bytes.{is_call, is_alphanumeric, is_dash, base_of, has_no_bad_ssid}
-use Rattle.tnc2_line.proofs.Calls.{each_weaker}
+use Rattle.aprs_base.proofs.CallLemmas.{each_weaker}
 use Rattle.tnc2_line.proofs.Cuts.{position_none}
 
 no_dash : (b : ℕ) → is_alphanumeric b ≡ true → not (is_dash b) ≡ true

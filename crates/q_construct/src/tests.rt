@@ -69,79 +69,72 @@ fn client<R: Abort>(rt: &R, login: &[u8], verified: bool, only: bool) -> Origin 
     }
 }
 
+/// Each line of a pair, sent from there, goes on as the other one.
+fn check_rewrites<R: Abort>(rt: &R, origin: &Origin, pairs: &[(&[u8], &[u8])]) {
+    for (text, want) in pairs {
+        let parts = answer(rt, origin, &[], text).expect(rt, "a packet that goes on");
+        let line = Line::new(want).expect(rt, "a line");
+        assert!(rt; read(&line) == Ok(parts));
+    }
+}
+
 #[test]
-fn rewrites_by_the_first_row(rt: HostRuntime) {
-    let uplink = Addr {
-        ip: [10, 0, 0, 9],
-        port: 1,
-    };
-    let cases: [(Origin, &[u8], &[u8]); 12] = [
+fn rewrites_what_clients_send(rt: HostRuntime) {
+    let own: [(&[u8], &[u8]); 1] = [(
+        b"N0CALL>APRS,WIDE1-1:>hi",
+        b"N0CALL>APRS,TCPIP*,qAC,T2TEST:>hi",
+    )];
+    check_rewrites(&rt, &client(&rt, b"N0CALL", true, false), &own);
+    let unverified: [(&[u8], &[u8]); 1] = [(
+        b"N0CALL>APRS:>hi",
+        b"N0CALL>APRS,TCPXX*,qAX,T2TEST:>hi",
+    )];
+    check_rewrites(&rt, &client(&rt, b"N0CALL", false, false), &unverified);
+    let by_another: [(&[u8], &[u8]); 2] = [
         (
-            client(&rt, b"N0CALL", true, false),
-            b"N0CALL>APRS,WIDE1-1:>hi",
-            b"N0CALL>APRS,TCPIP*,qAC,T2TEST:>hi",
-        ),
-        (
-            client(&rt, b"N0CALL", false, false),
-            b"N0CALL>APRS,WIDE1-1:>hi",
-            b"N0CALL>APRS,TCPXX*,qAX,T2TEST:>hi",
-        ),
-        (
-            client(&rt, b"K1ABC", true, false),
-            b"K1XYZ>APRS,qAR,G:>x",
-            b"K1XYZ>APRS,qAR,G:>x",
-        ),
-        (
-            client(&rt, b"OH7LZB", true, false),
-            b"K1ABC>APRS,DIG*,OH7LZB,I:>x",
-            b"K1ABC>APRS,DIG*,qAR,OH7LZB:>x",
-        ),
-        (
-            client(&rt, b"K1XYZ", true, false),
             b"K1ABC>APRS,DIG*,OH7LZB,I:>x",
             b"K1ABC>APRS,DIG*,qAr,OH7LZB:>x",
         ),
+        (b"K1ABC>APRS,qAR,G:>x", b"K1ABC>APRS,qAR,G:>x"),
+    ];
+    check_rewrites(&rt, &client(&rt, b"K1XYZ", true, false), &by_another);
+    let gated: [(&[u8], &[u8]); 2] = [
         (
-            client(&rt, b"OH7LZB", true, true),
+            b"K1ABC>APRS,DIG*,OH7LZB,I:>x",
+            b"K1ABC>APRS,DIG*,qAR,OH7LZB:>x",
+        ),
+        (b"K1ABC>APRS,DIG*:>x", b"K1ABC>APRS,DIG*,qAS,OH7LZB:>x"),
+    ];
+    check_rewrites(&rt, &client(&rt, b"OH7LZB", true, false), &gated);
+    let received: [(&[u8], &[u8]); 2] = [
+        (
             b"K1ABC>APRS,DIG*,OH7LZB,I:>x",
             b"K1ABC>APRS,DIG*,qAo,OH7LZB:>x",
         ),
-        (
-            client(&rt, b"OH7LZB", true, true),
-            b"K1ABC>APRS,DIG*:>x",
-            b"K1ABC>APRS,DIG*,qAO,OH7LZB:>x",
-        ),
-        (
-            client(&rt, b"OH7LZB", true, false),
-            b"K1ABC>APRS,DIG*:>x",
-            b"K1ABC>APRS,DIG*,qAS,OH7LZB:>x",
-        ),
-        (
-            client(&rt, b"T2LEAF", true, false),
-            b"K1ABC>APRS,qAI,K1ABC,T2LEAF:>t",
-            b"K1ABC>APRS,qAI,K1ABC,T2LEAF,T2TEST:>t",
-        ),
-        (
-            Origin::Uplink(uplink),
-            b"K1ABC>APRS:>x",
-            b"K1ABC>APRS,qAS,0A000009:>x",
-        ),
-        (
-            Origin::Peer(call(&rt, b"T2HUB")),
-            b"K1ABC>APRS,qAC,T2LEAF:>x",
-            b"K1ABC>APRS,qAC,T2LEAF:>x",
-        ),
-        (
-            Origin::Udp {
-                login: call(&rt, b"N0CALL"),
-            },
-            b"N0CALL>APRS:>hi",
-            b"N0CALL>APRS,TCPIP*,qAU,T2TEST:>hi",
-        ),
+        (b"K1ABC>APRS,DIG*:>x", b"K1ABC>APRS,DIG*,qAO,OH7LZB:>x"),
     ];
-    for (origin, text, want) in cases {
-        let parts = answer(&rt, &origin, &[], text).expect(&rt, "a packet that goes on");
-        let line = read(&Line::new(want).expect(&rt, "a line")).expect(&rt, "a packet");
-        assert!(rt; parts == line);
-    }
+    check_rewrites(&rt, &client(&rt, b"OH7LZB", true, true), &received);
+}
+
+#[test]
+fn rewrites_what_servers_send(rt: HostRuntime) {
+    let uplink = Origin::Uplink(Addr {
+        ip: [10, 0, 0, 9],
+        port: 1,
+    });
+    let heard: [(&[u8], &[u8]); 1] = [(b"K1ABC>APRS:>x", b"K1ABC>APRS,qAS,0A000009:>x")];
+    check_rewrites(&rt, &uplink, &heard);
+    let traced: [(&[u8], &[u8]); 1] = [(
+        b"K1ABC>A,qAI,K1ABC:>t",
+        b"K1ABC>A,qAI,K1ABC,T2HUB,T2TEST:>t",
+    )];
+    check_rewrites(&rt, &Origin::Peer(call(&rt, b"T2HUB")), &traced);
+    let sent: [(&[u8], &[u8]); 1] = [(b"N0CALL>APRS:>hi", b"N0CALL>APRS,TCPIP*,qAU,T2TEST:>hi")];
+    check_rewrites(
+        &rt,
+        &Origin::Udp {
+            login: call(&rt, b"N0CALL"),
+        },
+        &sent,
+    );
 }
