@@ -1,5 +1,5 @@
 -- From what a part of the program did to the cause of its status.
-use Rattle.std.proofs.Common.{◌≡◌, ◌⊎◌, ℕ, ◌≤◌, ◌<◌, List, [], length, refl, sym, ap, ◌∙◌, subst, Option, Some, None, Result, Ok, Err, ⊎_elim, arith}
+use Rattle.std.proofs.Common.{◌≡◌, ◌⊎◌, inl, inr, ℕ, ◌≤◌, ◌<◌, List, [], length, refl, sym, ap, ◌∙◌, subst, Option, Some, None, Result, Ok, Err, ⊎_elim, arith}
 use Rattle.std.specs.Bool.{⊤}
 use Rattle.aprs_base.specs.Outside.{Rose}
 use Rattle.aprs_base.specs.Stores.{Holds, bytes_named}
@@ -101,19 +101,16 @@ words_cause o result bad unused said =
 
 -- ---- the headline
 
-same_result : Result ConfSeen ℕ → Result ConfSeen ℕ → Type 0
-same_result a b = a ≡ b
-
 same_conf : (words : List (List ℕ)) (files : List MemFile) (a b : ConfSeen) → HasNamed words (Some files) a → HasNamed words (Some files) b → a ≡ b
 same_conf words files a b x y =
-    let file = some_same x.file y.file (sym x.named ∙ y.named) in
-    let bytes = some_same x.bytes y.bytes (sym x.holds ∙ ap (λ f. bytes_named f files) file ∙ y.holds) in
-    ok_same a b (sym x.reads ∙ ap conf_of bytes ∙ y.reads)
+    let file = some_same (file_word words) x.file y.file x.named y.named in
+    let bytes = some_same (bytes_named y.file files) x.bytes y.bytes (ap (λ f. bytes_named f files) (sym file) ∙ x.holds) y.holds in
+    ok_same (conf_of y.bytes) a b (ap conf_of (sym bytes) ∙ x.reads) y.reads
   where
-  some_same : {X : Type 0} (m n : X) → Some m ≡ Some n → m ≡ n
-  some_same m n e = cc
-  ok_same : (m n : ConfSeen) → same_result (Ok m) (Ok n) → m ≡ n
-  ok_same m n e = cc
+  some_same : {X : Type 0} (r : Option X) (m n : X) → r ≡ Some m → r ≡ Some n → m ≡ n
+  some_same r m n e f = cc
+  ok_same : (r : Result ConfSeen ℕ) (m n : ConfSeen) → r ≡ Ok m → r ≡ Ok n → m ≡ n
+  ok_same r m n e f = cc
 
 unused_run : (o : Outside) (s : Setting) (P : History → Type 0) → P [] → IsUnused o → AppendsRun s o.wire.told o.wire_after.told P
 unused_run o s P begins unused = run_told s o.wire.told o.wire.told o.wire_after.told P unused (run_begins s o.wire.told P begins)
