@@ -79,24 +79,35 @@ fn cut_line<R: Abort>(rt: &R, text: &[u8]) -> Cut {
     Cut::Line(Line::new(text).expect(rt, "a line"))
 }
 
+fn feed_each(
+    alloc: Global,
+    cutter: &mut Cutter,
+    bytes: &[u8],
+    cuts: &mut Vec<Cut>,
+) -> Result<(), Memory> {
+    for byte in bytes {
+        cutter.feed(alloc, &[*byte], cuts)?;
+    }
+    Ok(())
+}
+
 /// The cuts of two pieces, and of all their bytes one by one.
 fn check_cuts<R: Abort>(
     rt: &R,
     alloc: Global,
-    pieces: [&[u8]; 2],
+    first: &[u8],
+    second: &[u8],
     want: &[Cut],
 ) -> Result<(), Memory> {
     let mut whole = Cutter::new();
-    let mut single = Cutter::new();
     let mut cuts = Vec::new(alloc);
-    let mut single_cuts = Vec::new(alloc);
-    for piece in pieces {
-        whole.feed(alloc, piece, &mut cuts)?;
-        for byte in piece {
-            single.feed(alloc, &[*byte], &mut single_cuts)?;
-        }
-    }
+    whole.feed(alloc, first, &mut cuts)?;
+    whole.feed(alloc, second, &mut cuts)?;
     assert!(rt; cuts.as_slice() == want);
+    let mut single = Cutter::new();
+    let mut single_cuts = Vec::new(alloc);
+    feed_each(alloc, &mut single, first, &mut single_cuts)?;
+    feed_each(alloc, &mut single, second, &mut single_cuts)?;
     assert!(rt; single_cuts.as_slice() == want);
     assert!(rt; whole == single);
     Ok(())
@@ -110,8 +121,8 @@ fn cuts_lines(rt: HostRuntime) -> Result<(), Fail> {
         cut_line(&rt, b"N0CALL>APRS:>x"),
         cut_line(&rt, b"K1ABC>APRS:>y"),
     ];
-    let pieces: [&[u8]; 2] = [b"# hi\r\nN0CALL>AP", b"RS:>x\n\n\r\nK1ABC>APRS:>y\rrest"];
-    check_cuts(&rt, alloc, pieces, &want)?;
+    let rest = b"RS:>x\n\n\r\nK1ABC>APRS:>y\rrest";
+    check_cuts(&rt, alloc, b"# hi\r\nN0CALL>AP", rest, &want)?;
     Ok(())
 }
 
@@ -120,9 +131,9 @@ fn cuts_long_lines(rt: HostRuntime) -> Result<(), Fail> {
     let alloc = rt.alloc();
     let most = [b'x'; 510];
     let long = [Cut::Long, cut_line(&rt, b"N0CALL>APRS:>x")];
-    check_cuts(&rt, alloc, [&most, b"x\r\nN0CALL>APRS:>x\r\n"], &long)?;
+    check_cuts(&rt, alloc, &most, b"x\r\nN0CALL>APRS:>x\r\n", &long)?;
     let fits = [cut_line(&rt, &most), cut_line(&rt, b"y")];
-    check_cuts(&rt, alloc, [&most, b"\r\ny\n"], &fits)?;
+    check_cuts(&rt, alloc, &most, b"\r\ny\n", &fits)?;
     Ok(())
 }
 
