@@ -6,6 +6,8 @@ mod events;
 mod files;
 mod packets;
 mod sinks;
+#[cfg(test)]
+mod tests;
 mod texts;
 mod wire;
 

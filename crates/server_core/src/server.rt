@@ -19,6 +19,9 @@ ghost use Rattle.server_core.specs.Meaning.{AreActs, Stands, setting_of};
 ghost use Rattle.server_core.specs.RoundWalk.{Traced, Walking};
 ghost use Rattle.server_core.specs.Steps.{AfterEvent, SameRest, Walks, saying};
 
+#[cfg(test)]
+mod tests;
+
 use crate::acts::Acts;
 use crate::conf::Conf;
 use crate::link::Link;

@@ -1,0 +1,261 @@
+//! Rounds of a server T2TEST with one full port, and what its links are offered, from the public description of APRS-IS.
+ghost use Rattle.std.specs.Prelude.{◌≡◌, ◌<◌, IfOk, OnOk, false};
+ghost use Rattle.server_core.specs.LinkSteps.{has_number};
+ghost use Rattle.server_core.specs.Steps.{SameRest};
+
+use super::Core;
+use crate::acts::Acts;
+use crate::conf::Conf;
+use aprs_base::{Addr, Call, Chunk, Event, ListenSpec, Memory, PortKind};
+use std::alloc::Global;
+use std::marker::Sync;
+use std::process::Abort;
+use std::test::Fail;
+use std::thread::Threads;
+
+const HERE: Addr = Addr {
+    ip: [127, 0, 0, 1],
+    port: 14580,
+};
+
+fn new_core<R: Abort>(rt: &R, alloc: Global) -> Result<Core, Memory>
+    ensures { IfOk result (λ core. (core.seen.greatest ≡ 0) × (core.seen.stopped ≡ false)) }
+{
+    let server = Call::read(b"T2TEST").expect(rt, "a call");
+    assert!(rt; server.is_station());
+    let mut listens = Vec::new(alloc);
+    listens.push(ListenSpec {
+        kind: PortKind::Full,
+        at: HERE,
+    })?;
+    Core::new(
+        alloc,
+        Conf {
+            server,
+            code: 8385,
+            listens,
+        },
+        1,
+    )
+}
+
+fn opened(link: u32) -> Event
+    ensures { result ≡ Event.Opened 0 link HERE }
+{
+    Event::Opened {
+        listener: 0,
+        link,
+        from: HERE,
+    }
+}
+
+/// A round in which a link is opened.
+fn open<R: Threads + Sync>(
+    rt: &R,
+    alloc: Global,
+    core: &mut Core,
+    link: u32,
+) -> Result<Acts, Memory>
+    requires fresh { core.old.seen.greatest < link }
+    requires going { core.old.seen.stopped ≡ false }
+    ensures greatest { OnOk result (core.new.seen.greatest ≡ link) }
+    ensures going { OnOk result (core.new.seen.stopped ≡ false) }
+{
+    core.round(rt, alloc, &[opened(link), Event::Tick(1000)])
+}
+
+/// A round in which a link brings bytes.
+fn say<R: Threads + Sync + Abort>(
+    rt: &R,
+    alloc: Global,
+    core: &mut Core,
+    link: u32,
+    text: &[u8],
+) -> Result<Acts, Memory>
+    requires going { core.old.seen.stopped ≡ false }
+    ensures greatest { OnOk result (core.new.seen.greatest ≡ core.old.seen.greatest) }
+    ensures going { OnOk result (core.new.seen.stopped ≡ false) }
+{
+    let chunk = Chunk::new(text).expect(rt, "a chunk");
+    core.round(rt, alloc, &[Event::Bytes(link, chunk), Event::Tick(1000)])
+}
+
+/// A round in which a link has room again.
+fn give_room<R: Threads + Sync>(
+    rt: &R,
+    alloc: Global,
+    core: &mut Core,
+    link: u32,
+) -> Result<Acts, Memory>
+    requires going { core.old.seen.stopped ≡ false }
+    ensures greatest { OnOk result (core.new.seen.greatest ≡ core.old.seen.greatest) }
+    ensures going { OnOk result (core.new.seen.stopped ≡ false) }
+{
+    core.round(rt, alloc, &[Event::Room(link), Event::Tick(1000)])
+}
+
+fn is_served(core: &Core, link: u32) -> bool
+    ensures { result ≡ has_number link core.now.seen.links }
+{
+    core.links.iter().any(|served| served.number == link)
+}
+
+/// The link is offered these bytes, and takes at most so many.
+fn take_next<R: Abort>(rt: &R, core: &mut Core, link: u32, want: &[u8], most: usize)
+    ensures { SameRest core.old core.new }
+{
+    let mut out = [0; 600];
+    assert!(rt; is_served(core, link));
+    let count = core.offer(link, &mut out);
+    assert!(rt; &out[..count] == want);
+    core.took(link, count, count.min(most));
+}
+
+/// Two clients, who have logged in and taken all.
+fn two_clients<R: Threads + Sync + Abort>(rt: &R, alloc: Global) -> Result<Core, Memory>
+    ensures { IfOk result (λ core. core.seen.stopped ≡ false) }
+{
+    let mut core = new_core(rt, alloc)?;
+    open(rt, alloc, &mut core, 1)?;
+    open(rt, alloc, &mut core, 2)?;
+    say(rt, alloc, &mut core, 1, b"user N0CALL pass 13023\r\n")?;
+    say(rt, alloc, &mut core, 2, b"user K1ABC-9 pass 14993\r\n")?;
+    let first = b"# aprsc 1.0\r\n# logresp N0CALL verified, server T2TEST\r\n";
+    take_next(rt, &mut core, 1, first, 600);
+    let second = b"# aprsc 1.0\r\n# logresp K1ABC-9 verified, server T2TEST\r\n";
+    take_next(rt, &mut core, 2, second, 600);
+    Ok(core)
+}
+
+/// The first client says this, and the second is offered that.
+fn check_heard<R: Threads + Sync + Abort>(
+    rt: &R,
+    alloc: Global,
+    said: &[u8],
+    heard: &[u8],
+) -> Result<(), Memory> {
+    let mut core = two_clients(rt, alloc)?;
+    let acts = say(rt, alloc, &mut core, 1, said)?;
+    if heard.is_empty() {
+        assert!(rt; acts.offers.is_empty());
+    } else {
+        assert!(rt; acts.offers.as_slice() == [2].as_slice());
+    }
+    take_next(rt, &mut core, 1, b"", 600);
+    take_next(rt, &mut core, 2, heard, 600);
+    Ok(())
+}
+
+#[test]
+fn stops_after_the_banner(rt: HostRuntime) -> Result<(), Fail> {
+    let alloc = rt.alloc();
+    let mut core = new_core(&rt, alloc)?;
+    let acts = core.round(&rt, alloc, &[opened(1), Event::Stop])?;
+    assert!(rt; acts.done);
+    assert!(rt; acts.offers.as_slice() == [1].as_slice());
+    assert!(rt; acts.closes.as_slice() == [1].as_slice());
+    take_next(&rt, &mut core, 1, b"# aprsc 1.0\r\n", 600);
+    Ok(())
+}
+
+#[test]
+fn answers_logins(rt: HostRuntime) -> Result<(), Fail> {
+    let alloc = rt.alloc();
+    let cases: [(&[u8], &[u8]); 6] = [
+        (
+            b"user N0CALL pass 13023 vers t 1\r\n",
+            b"# logresp N0CALL verified, server T2TEST\r\n",
+        ),
+        (b"# hi\r\n", b""),
+        (b"user N0CALL pass 13024\r\n", b""),
+        (b"user N0CALL pass -1\r\n", b""),
+        (b"user T2TEST pass 8385\r\n", b""),
+        (b"N0CALL>APRS:>hi\r\n", b""),
+    ];
+    for (said, reply) in cases {
+        let mut core = new_core(&rt, alloc)?;
+        open(&rt, alloc, &mut core, 1)?;
+        take_next(&rt, &mut core, 1, b"# aprsc 1.0\r\n", 600);
+        let acts = say(&rt, alloc, &mut core, 1, said)?;
+        assert!(rt; acts.offers.is_empty() == reply.is_empty());
+        take_next(&rt, &mut core, 1, reply, 600);
+    }
+    Ok(())
+}
+
+#[test]
+fn sends_packets_to_the_others(rt: HostRuntime) -> Result<(), Fail> {
+    let alloc = rt.alloc();
+    let heard: &[u8] = b"N0CALL>APRS,TCPIP*,qAC,T2TEST:>hi\r\n";
+    check_heard(&rt, alloc, b"N0CALL>APRS:>hi\r\n", heard)?;
+    check_heard(&rt, alloc, b"N0CALL>APRS,WIDE1-1,WIDE2-1:>hi\n", heard)?;
+    let refused: [&[u8]; 8] = [
+        b"K1ABC>APRS:>hi\r\n",
+        b"N0CALL-1>APRS:>hi\r\n",
+        b"N0CALL>APRS,NOGATE:>hi\r\n",
+        b"N0CALL>APRS,TCPXX*:>hi\r\n",
+        b"N0CALL>APRS,qAR,GATE:>hi\r\n",
+        b"N0CALL>APRS,GATE,I:>hi\r\n",
+        b"N0CALL>APRS:}K1ABC>APRS:>hi\r\n",
+        b"N0CALL>APRS:?APRS?\r\n",
+    ];
+    for said in refused {
+        check_heard(&rt, alloc, said, b"")?;
+    }
+    Ok(())
+}
+
+/// A packet of N0CALL with a body of so many bytes, and a short one after it.
+fn long_packet(alloc: Global, body: usize) -> Result<Vec<u8>, Memory> {
+    let mut text = b"N0CALL>APRS:".to_vec(alloc)?;
+    for _ in 0..body {
+        text.push(b'x')?;
+    }
+    text.extend_from_slice(b"\r\nN0CALL>APRS:>hi\r\n")?;
+    Ok(text)
+}
+
+#[test]
+fn keeps_the_limit_of_a_line(rt: HostRuntime) -> Result<(), Fail> {
+    let alloc = rt.alloc();
+    let short: &[u8] = b"N0CALL>APRS,TCPIP*,qAC,T2TEST:>hi\r\n";
+    let mut longest = b"N0CALL>APRS,TCPIP*,qAC,T2TEST:".to_vec(alloc)?;
+    longest.extend_from_slice(&[b'x'; 480])?;
+    longest.extend_from_slice(b"\r\n")?;
+    longest.extend_from_slice(short)?;
+    let cases: [(usize, &[u8]); 3] = [(480, longest.as_slice()), (481, short), (499, short)];
+    for (body, heard) in cases {
+        let said = long_packet(alloc, body)?;
+        check_heard(&rt, alloc, said.as_slice(), heard)?;
+    }
+    Ok(())
+}
+
+#[test]
+fn waits_for_room(rt: HostRuntime) -> Result<(), Fail> {
+    let alloc = rt.alloc();
+    let mut core = new_core(&rt, alloc)?;
+    let acts = open(&rt, alloc, &mut core, 1)?;
+    assert!(rt; acts.offers.as_slice() == [1].as_slice());
+    take_next(&rt, &mut core, 1, b"# aprsc 1.0\r\n", 5);
+    let acts = say(&rt, alloc, &mut core, 1, b"# hi\r\n")?;
+    assert!(rt; acts.offers.is_empty());
+    let acts = give_room(&rt, alloc, &mut core, 1)?;
+    assert!(rt; acts.offers.as_slice() == [1].as_slice());
+    take_next(&rt, &mut core, 1, b"sc 1.0\r\n", 600);
+    Ok(())
+}
+
+#[test]
+fn lets_lost_links_go(rt: HostRuntime) -> Result<(), Fail> {
+    let alloc = rt.alloc();
+    let mut core = new_core(&rt, alloc)?;
+    open(&rt, alloc, &mut core, 1)?;
+    open(&rt, alloc, &mut core, 2)?;
+    core.gone(1);
+    let acts = core.round(&rt, alloc, &[Event::Stop])?;
+    assert!(rt; acts.offers.as_slice() == [2].as_slice());
+    assert!(rt; acts.closes.as_slice() == [2].as_slice());
+    assert!(rt; !is_served(&core, 1));
+    Ok(())
+}
