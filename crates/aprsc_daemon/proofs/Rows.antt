@@ -1,9 +1,8 @@
 -- Worked words and texts: what the definitions make of them.
-use Rattle.std.specs.Prelude.{◌≡◌, ℕ, List, [], ◌∷◌, ◌++◌, Option, Some, None, Ok, Err, refl, codes, Result}
+use Rattle.std.specs.Prelude.{◌≡◌, ℕ, List, [], ◌∷◌, ◌++◌, Some, None, Ok, Err, refl, codes, Result}
 use Rattle.std.specs.Fmt.{decimal}
 use Rattle.std.proofs.Common.{lit<}
 use Rattle.std.proofs.lemmas.Fmt.{decimal_digit}
-use Rattle.aprs_base.specs.declared.packets.ListenSpec.{ListenSpec}
 use Rattle.aprs_base.specs.declared.packets.PortKind.TheVariants as kind
 use Rattle.server_core.specs.Meaning.{ConfSeen}
 use Rattle.aprsc_daemon.specs.Saying.{not_built_text, listen_failed_text}

@@ -1,5 +1,5 @@
 //! The files and the standard output of the system.
-ghost use Rattle.std.specs.Prelude.{◌≡◌, ◌≢◌, ◌<◌, ◌≤◌, ◌+◌, None, IfOk, length};
+ghost use Rattle.std.specs.Prelude.{◌≡◌, ◌≢◌, ◌<◌, ◌≤◌, ◌+◌, ◌++◌, None, IfOk, IfSome, OnOk, length, take};
 ghost use Rattle.std.specs.Io.{StartsWith};
 ghost use Rattle.aprs_base.specs.Outside.{Rose};
 
@@ -38,6 +38,7 @@ impl<R: fs::Files + Drop> RealFiles<R> {
 /// Appends what a file holds, but at most `most` bytes.
 fn append<F: Read + Drop>(file: F, most: u64, out: &mut Vec<u8>) -> io::Result<usize>
     ensures appends { StartsWith out.new.items out.old.items }
+    ensures bytes { OnOk result (IfSome (F.remaining file) (λ bytes. out.new.items ≡ out.old.items ++ take most bytes)) }
     ensures count { IfOk result (λ n. length out.new.items ≡ length out.old.items + n) }
 {
     file.take(most).read_to_end(out)

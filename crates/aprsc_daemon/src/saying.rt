@@ -11,11 +11,11 @@ pub(crate) fn write_all<S: Sink>(out: &mut S, bytes: &[u8]) -> Result<(), SinkEr
 {
     let mut done = 0;
     while done < bytes.len() {
-        let count = out.write(&bytes[done..])?;
-        if count == 0 {
-            return Err(SinkError::Failed);
+        match out.write(&bytes[done..]) {
+            Ok(0) => return Err(SinkError::Failed),
+            Ok(count) => done += count,
+            Err(error) => return Err(error),
         }
-        done += count;
     }
     Ok(())
 }

@@ -4,7 +4,7 @@ use Rattle.aprsc_daemon.proofs.saying.write_all.Goals as goal
 
 pub loop-done-preserved : goal.loop-done-preserved
 loop-done-preserved g c = record {
-  within = still_within c.args.bytes.now c.loop-done.done c.in_ok-count.count c.loop-done.invariant.within c.in_ok-count.ensures.ok.0;
-  grew = writes_on (g.S.Sink.shown c.args.out.now).told (g.S.Sink.shown c.loop-done.out).told (g.S.Sink.shown c.write.new.self).told c.args.bytes.now c.loop-done.done c.in_ok-count.count c.loop-done.invariant.grew c.in_ok-count.ensures.ok.1;
-  faults = omega (arith, c.in_ok-count.ensures.faults);
+  within = still_within c.args.bytes.now c.loop-done.done c.in-Ok.count c.loop-done.invariant.within c.in-Ok.ensures.ok.0;
+  grew = writes_on (g.S.Sink.shown c.args.out.now).told (g.S.Sink.shown c.loop-done.out).told (g.S.Sink.shown c.write.new.self).told c.args.bytes.now c.loop-done.done c.in-Ok.count c.loop-done.invariant.grew c.in-Ok.ensures.ok.1;
+  faults = omega (arith, c.in-Ok.ensures.faults);
 }

@@ -1,4 +1,4 @@
-use Rattle.std.proofs.Common.{length, ◌-◌, ◌≡◌, ◌≤◌, ◌++◌, take}
+use Rattle.std.proofs.Common.{length, ◌-◌, ◌≤◌, take}
 use Rattle.aprsc_daemon.specs.Saying.{Grew}
 use Rattle.aprsc_daemon.proofs.saying.write_all.Given as goal
 

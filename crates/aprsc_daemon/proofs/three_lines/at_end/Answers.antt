@@ -1,4 +1,4 @@
-use Rattle.std.proofs.Common.{sym, ◌∙◌}
+use Rattle.std.proofs.Common.{◌∙◌}
 use Rattle.aprsc_daemon.proofs.PartLemmas.{ends}
 use Rattle.aprsc_daemon.proofs.three_lines.at_end.Goals as goal
 

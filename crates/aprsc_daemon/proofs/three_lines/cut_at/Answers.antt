@@ -1,4 +1,4 @@
-use Rattle.std.proofs.Common.{◌<◌, length, arith, sym, ◌∙◌}
+use Rattle.std.proofs.Common.{arith, sym, ◌∙◌}
 use Rattle.aprsc_daemon.proofs.PartLemmas.{uncut, cut}
 use Rattle.aprsc_daemon.proofs.three_lines.cut_at.Goals as goal
 
