@@ -1,6 +1,6 @@
 -- The cutting of bytes into lines, one line end after another.
-use Rattle.std.proofs.Common.{◌≡◌, ℕ, ◌≤◌, ◌<◌, ◌+◌, Bool, true, false, ◌&&◌, List, [], ◌∷◌, ◌++◌, length, take, drop, get_or, refl, sym, ap, arith, zero, suc, add-one, ⊎_elim, subst, ◌∙◌, append-nil, append_assoc, Option, Some, None, take_all, le_refl}
-use Rattle.std.specs.List.{position_or_len, before_first, after_first, slice_split, onto_first, list_all, cons_option, filter_map}
+use Rattle.std.proofs.Common.{◌≡◌, ℕ, ◌<◌, ◌+◌, true, false, List, [], ◌∷◌, ◌++◌, length, take, drop, get_or, refl, sym, ap, arith, zero, suc, ⊎_elim, subst, ◌∙◌, append-nil, append_assoc, Option, Some, None, take_all, le_refl}
+use Rattle.std.specs.List.{position_or_len, before_first, after_first, onto_first, list_all, cons_option, filter_map}
 use Rattle.std.proofs.lemmas.Bool.{false_from_ne_true, cases_Bool, false≢true}
 use Rattle.std.proofs.lemmas.List.Folds.{list_all-append}
 use Rattle.std.proofs.lemmas.List.Elements.{filter_map-append}

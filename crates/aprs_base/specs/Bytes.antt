@@ -1,5 +1,5 @@
 -- The bytes and the short texts of APRS-IS: calls, lines, and the limits of their lengths.
-use Rattle.std.specs.Prelude.{ℕ, ◌≡◌, ◌+◌, ◌==◌, ◌&&◌, ◌||◌, Bool, true, false, nat_le, not, List, [], ◌∷◌, length, IsTrue}
+use Rattle.std.specs.Prelude.{ℕ, ◌≡◌, ◌==◌, ◌&&◌, ◌||◌, Bool, true, false, nat_le, not, List, [], ◌∷◌, length, IsTrue}
 use Rattle.std.specs.List.{list_all, before_first, after_first}
 
 -- CR, LF and the blank

@@ -1,8 +1,8 @@
 -- How the bytes of a link are cut into lines: at each CR and each LF, empty lines left out,
 -- and a line of more than 510 bytes as one long line (aprs-is.net, Connecting).
-use Rattle.std.specs.Prelude.{ℕ, List, [], ◌∷◌, ◌++◌, length, nat_lt, Bool, true, false, if◌then◌else◌, Option, Some, None, ◌≡◌, ◌≤◌}
-use Rattle.std.specs.List.{slice_split, filter_map, list_all}
-use Rattle.aprs_base.specs.Bytes.{is_line_end, is_inner}
+use Rattle.std.specs.Prelude.{ℕ, List, [], ◌∷◌, ◌++◌, length, nat_lt, if◌then◌else◌, Option, Some, None}
+use Rattle.std.specs.List.{slice_split, filter_map}
+use Rattle.aprs_base.specs.Bytes.{is_line_end}
 use Rattle.aprs_base.specs.declared.cutting.Cut.{Cut}
 use Rattle.aprs_base.specs.declared.cutting.Cut.TheVariants as cut
 

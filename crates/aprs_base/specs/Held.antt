@@ -1,6 +1,5 @@
 -- What a cutter has to keep of the bytes so far: their rest, or only that it is too long.
 use Rattle.std.specs.Prelude.{ℕ, List, [], length, nat_lt, Bool, true, false, if◌then◌else◌}
-use Rattle.aprs_base.specs.Bytes.{is_inner}
 use Rattle.aprs_base.specs.Cuts.{rest_of}
 
 pub record Held : Type 0 where

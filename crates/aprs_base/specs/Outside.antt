@@ -1,8 +1,6 @@
 -- What the outside shows of itself: counts of faults that never fall, and, where it tells them, what happened and what it holds.
-use Rattle.std.specs.Prelude.{◌≡◌, ◌≢◌, ℕ, ◌+◌, ◌-◌, ◌≤◌, ◌<◌, ◌^◌, ◌==◌, ◌&&◌, List, [], ◌∷◌, ◌++◌, length, take, min, Bool, true, false, Option, Some, None, Result, OnOk, OnErr, IfOk, IsErrOf, ⊤}
+use Rattle.std.specs.Prelude.{◌≡◌, ℕ, ◌+◌, ◌-◌, ◌≤◌, ◌^◌, ◌==◌, ◌&&◌, List, [], ◌∷◌, ◌++◌, length, min, Bool, true, Option, Some, None, Result, OnOk, OnErr, IfOk, IsErrOf, ⊤}
 use Rattle.std.specs.Option.{option_map}
-use Rattle.std.specs.Map.{lookup}
-use Rattle.std.specs.Cmp.Lexicographic.{pointwise}
 use Rattle.aprs_base.specs.declared.packets.ListenSpec.{ListenSpec}
 use Rattle.aprs_base.specs.declared.packets.UplinkSpec.{UplinkSpec}
 use Rattle.aprs_base.specs.declared.texts.Addr.{Addr}

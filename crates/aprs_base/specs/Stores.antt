@@ -1,5 +1,5 @@
 -- What files hold and what a sink was given, where they tell it.
-use Rattle.std.specs.Prelude.{◌≡◌, ℕ, ◌+◌, ◌≤◌, ◌<◌, ◌==◌, List, [], ◌∷◌, ◌++◌, length, take, Bool, true, false, Option, Some, None, Result, OnOk, OnErr, IfOk, IsErrOf, ⊤, if◌then◌else◌}
+use Rattle.std.specs.Prelude.{◌≡◌, ℕ, ◌≤◌, ◌<◌, ◌==◌, List, [], ◌∷◌, ◌++◌, length, take, Option, Some, None, Result, OnOk, OnErr, IfOk, IsErrOf, ⊤, if◌then◌else◌}
 use Rattle.std.specs.Option.{option_map}
 use Rattle.std.specs.Cmp.Lexicographic.{pointwise}
 use Rattle.aprs_base.specs.Outside.{Rose}

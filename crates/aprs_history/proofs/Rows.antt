@@ -1,5 +1,5 @@
 -- Small histories, and what the definitions say of them.
-use Rattle.std.proofs.Common.{◌≡◌, refl, ℕ, List, [], ◌∷◌, ◌++◌, codes, true, false, Some, None}
+use Rattle.std.proofs.Common.{◌≡◌, refl, ℕ, List, [], ◌∷◌, ◌++◌, codes}
 use Rattle.aprs_base.specs.declared.packets.PortKind.TheVariants as kind
 use Rattle.aprs_base.specs.declared.texts.Addr.{Addr}
 use Rattle.aprs_base.specs.declared.events.Event.TheVariants as event
@@ -7,8 +7,8 @@ use Rattle.aprs_base.specs.declared.events.Sent.TheVariants as sent
 use Rattle.aprs_base.specs.declared.events.Happening.TheVariants as did
 use Rattle.aprs_history.specs.Setting.{Setting}
 use Rattle.aprs_history.specs.History.{History, trace_of}
-use Rattle.aprs_history.specs.Texts.{lines_of, text_bytes, banner}
-use Rattle.aprs_history.specs.Acts.{Act, Offers, Closes, Listens, due}
+use Rattle.aprs_history.specs.Texts.{lines_of, banner}
+use Rattle.aprs_history.specs.Acts.{Offers, Closes, Listens, due}
 use Rattle.tnc2_line.specs.Packet.{parts_of, text_of, via_of, head_of}
 use Rattle.login_pass.specs.Login.{login_of}
 use Rattle.login_pass.specs.Passcode.{passcode_of}

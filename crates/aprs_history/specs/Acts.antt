@@ -1,8 +1,6 @@
 -- The acts that are due, and the histories that are runs: each happening is the first act due, or an event where none is.
-use Rattle.std.specs.Prelude.{◌≡◌, ℕ, ◌+◌, ◌&&◌, Bool, true, false, not, nat_lt, List, [], ◌∷◌, ◌++◌, length, take, map, filter, if◌then◌else◌, ⊤}
+use Rattle.std.specs.Prelude.{◌≡◌, ℕ, ◌+◌, ◌&&◌, Bool, false, not, nat_lt, List, [], ◌∷◌, ◌++◌, length, take, map, filter, if◌then◌else◌, ⊤}
 use Rattle.aprs_base.specs.Outside.{IsOutcome}
-use Rattle.aprs_base.specs.declared.events.Event.{Event}
-use Rattle.aprs_base.specs.declared.events.Sent.{Sent}
 use Rattle.aprs_base.specs.declared.events.Happening.{Happening}
 use Rattle.aprs_base.specs.declared.events.Happening.TheVariants as did
 use Rattle.aprs_base.specs.declared.packets.ListenSpec.{ListenSpec}

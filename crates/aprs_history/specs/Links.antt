@@ -5,7 +5,7 @@ use Rattle.aprs_base.specs.declared.texts.Addr.{Addr}
 use Rattle.aprs_history.specs.declared.verdicts.Session.{Session}
 use Rattle.aprs_history.specs.declared.verdicts.Verdict.{Verdict}
 use Rattle.aprs_history.specs.declared.verdicts.Verdict.TheVariants.{PassedOver, Refused, LoggedIn, Accepted}
-use Rattle.aprs_history.specs.Trace.{Trace, Entry, Ticked, Opened, Brought, Said, Roomed, Took, Lost, Ended, moment_of, live_links}
+use Rattle.aprs_history.specs.Trace.{Trace, Opened, Brought, Said, Roomed, Took, Lost, moment_of, live_links}
 
 -- a link's opening: what it serves, where it came from, and when
 pub record Opening : Type 0 where

@@ -7,7 +7,7 @@ use Rattle.aprs_history.specs.Setting.{Setting}
 use Rattle.aprs_history.specs.declared.verdicts.Session.{Session}
 use Rattle.aprs_history.specs.declared.verdicts.Verdict.{Verdict}
 use Rattle.aprs_history.specs.declared.verdicts.Verdict.TheVariants.{PassedOver, Refused, LoggedIn, Accepted}
-use Rattle.aprs_history.specs.Trace.{Trace, Entry, Ticked, Opened, Brought, Said, Roomed, Took, Lost, Ended, is_live}
+use Rattle.aprs_history.specs.Trace.{Trace, Opened, Said, is_live}
 use Rattle.aprs_history.specs.Links.{Opening, opening_of, session_of, taken_by}
 
 -- a line with its end, and lines one after another

@@ -1,5 +1,5 @@
 -- The trace of a history: what happened to each link, with the verdict on each line, the newest first.
-use Rattle.std.specs.Prelude.{ℕ, ◌==◌, ◌≡◌, Bool, true, false, not, List, [], ◌∷◌, ◌++◌, Option, Some, None, filter, max, min, if◌then◌else◌}
+use Rattle.std.specs.Prelude.{ℕ, ◌==◌, Bool, not, List, [], ◌∷◌, ◌++◌, Option, Some, None, filter, max, min}
 use Rattle.std.specs.List.{list_any}
 use Rattle.aprs_base.specs.declared.packets.PortKind.{PortKind}
 use Rattle.aprs_base.specs.declared.texts.Addr.{Addr}

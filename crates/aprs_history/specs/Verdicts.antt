@@ -1,5 +1,5 @@
 -- What becomes of a line: each line has one verdict (aprs-is.net, Connecting, and q Construct).
-use Rattle.std.specs.Prelude.{ℕ, ◌-◌, slice_get, ◌==◌, ◌&&◌, ◌||◌, Bool, true, false, not, nat_lt, is_none, List, [], ◌∷◌, ◌++◌, length, codes, Option, Some, None, Result, Ok, Err, if◌then◌else◌}
+use Rattle.std.specs.Prelude.{ℕ, ◌-◌, slice_get, ◌==◌, ◌&&◌, ◌||◌, Bool, true, false, not, nat_lt, is_none, List, [], ◌∷◌, length, codes, Option, Some, None, Result, Ok, Err, if◌then◌else◌}
 use Rattle.std.specs.List.{list_any, starts_with}
 use Rattle.std.specs.Cmp.Lexicographic.{pointwise}
 use Rattle.aprs_base.specs.declared.packets.Parts.{Parts}
@@ -12,7 +12,6 @@ use Rattle.login_pass.specs.Login.{login_of, is_verified}
 use Rattle.login_pass.specs.declared.login_line.Login.{Login}
 use Rattle.login_pass.specs.declared.login_line.LoginFault.{LoginFault}
 use Rattle.aprs_history.specs.declared.verdicts.Session.{Session}
-use Rattle.aprs_history.specs.declared.verdicts.Refusal.{Refusal}
 use Rattle.aprs_history.specs.declared.verdicts.Refusal.TheVariants.{Long, NotBuilt, TooLong}
 use Rattle.aprs_history.specs.declared.verdicts.Verdict.{Verdict}
 use Rattle.aprs_history.specs.declared.verdicts.Verdict.TheVariants.{PassedOver, Refused, LoggedIn, Accepted}

@@ -44,8 +44,8 @@ owing_next conf link offers closes bytes outcome more other owing = record {
   round = owing.round;
   owed = ap but_first owing.owed;
   same = λ k member.
-    left_by_other (setting_of conf) more link k bytes outcome (member_differs link k offers other member)
-    ∙ owing.same k (⊎_elim (λ here. ap (λ b. b || is_member k offers) here) (λ differ. ap (λ b. b || is_member k offers) differ ∙ member) (cases_Bool (link == k)));
+      left_by_other (setting_of conf) more link k bytes outcome (member_differs link k offers other member)
+      ∙ owing.same k (⊎_elim (λ here. ap (λ b. b || is_member k offers) here) (λ differ. ap (λ b. b || is_member k offers) differ ∙ member) (cases_Bool (link == k)));
   all = owing.all;
 }
 
@@ -61,17 +61,16 @@ pub run_sends : (s : Setting) (start now next : Option Told) (core new : CoreMea
     → AppendsRun s start now (Offering core (link ∷ offers) closes) → AppendsRun s start next (Offering new offers closes)
 run_sends s start now next core new link offers closes bytes outcome same conf other part given stands is run =
     run_goes_on s start now next (did.Sent link bytes outcome) (Offering core (link ∷ offers) closes) (Offering new offers closes) (λ more. refl) is (λ more phase.
-      let owing = phase.owing in
-      let c = setting_of core.conf in
-      (
-        subst (λ t. MayCome (due t more) (is_stopped more) (did.Sent link bytes outcome)) same
-        (send_comes (due c more) (is_stopped more) link bytes (take 65536 (untaken c owing.round link)) outcome (map (offer_to c owing.round) offers ++ map Closes closes) owing.owed
+    let owing = phase.owing in
+    let c = setting_of core.conf in (
+      subst (λ t. MayCome (due t more) (is_stopped more) (did.Sent link bytes outcome)) same
+          (send_comes (due c more) (is_stopped more) link bytes (take 65536 (untaken c owing.round link)) outcome (map (offer_to c owing.round) offers ++ map Closes closes) owing.owed
           (given more phase.stands ∙ ap (take 65536) (owing.same link (member_first link offers))) part),
-        record {
-          stands = stands more phase.stands;
-          owing = subst (λ conf. Owing conf offers closes (did.Sent link bytes outcome ∷ more)) (sym conf) (owing_next core.conf link offers closes bytes outcome more other owing);
-        },
-      )) run
+      record {
+        stands = stands more phase.stands;
+        owing = subst (λ conf. Owing conf offers closes (did.Sent link bytes outcome ∷ more)) (sym conf) (owing_next core.conf link offers closes bytes outcome more other owing);
+      },
+    )) run
 
 -- ---- closes
 
@@ -86,29 +85,28 @@ owing_closed conf link closes more owing = record { round = owing.round; owed = 
 pub run_closes : (s : Setting) (start now next : Option Told) (core : CoreMeaning) (link : ℕ) (closes : List ℕ) → setting_of core.conf ≡ s
     → next ≡ option_map (with_done (did.Closed link)) now → AppendsRun s start now (Offering core [] (link ∷ closes)) → AppendsRun s start next (Offering core [] closes)
 run_closes s start now next core link closes same is run =
-    run_goes_on s start now next (did.Closed link) (Offering core [] (link ∷ closes)) (Offering core [] closes) (λ more. refl) is (λ more phase.
-      (
-        subst (λ t. MayCome (due t more) (is_stopped more) (did.Closed link)) same (close_comes (due (setting_of core.conf) more) (is_stopped more) link (map Closes closes) phase.owing.owed),
-        record { stands = stands_closed core link more phase.stands; owing = owing_closed core.conf link closes more phase.owing },
-      )) run
+    run_goes_on s start now next (did.Closed link) (Offering core [] (link ∷ closes)) (Offering core [] closes) (λ more. refl) is (λ more phase. (
+      subst (λ t. MayCome (due t more) (is_stopped more) (did.Closed link)) same (close_comes (due (setting_of core.conf) more) (is_stopped more) link (map Closes closes) phase.owing.owed),
+      record { stands = stands_closed core link more phase.stands; owing = owing_closed core.conf link closes more phase.owing },
+    )) run
 
 -- ---- numbers that rise differ
 
 pub first_differs : (low high : ℕ) (ns : List ℕ) (i n : ℕ) (rest : List ℕ) → Rises low ns high → drop i ns ≡ n ∷ rest → is_member n rest ≡ false
 first_differs low high [] zero n rest rises is = absurd (nothing n rest is)
   where
-  nothing : (n : ℕ) (rest : List ℕ) → [] ≡ n ∷ rest → ⊥
-  nothing n rest e = cc
+    nothing : (n : ℕ) (rest : List ℕ) → [] ≡ n ∷ rest → ⊥
+    nothing n rest e = cc
 first_differs low high [] (suc i) n rest rises is = absurd (nothing n rest is)
   where
-  nothing : (n : ℕ) (rest : List ℕ) → [] ≡ n ∷ rest → ⊥
-  nothing n rest e = cc
+    nothing : (n : ℕ) (rest : List ℕ) → [] ≡ n ∷ rest → ⊥
+    nothing n rest e = cc
 first_differs low high (x ∷ ns) zero n rest rises is =
     let first : x ≡ n = cc in
     let others : ns ≡ rest = cc in
     false_from_ne_true _ (λ member.
-      let above = member_below x high ns n rises.1 (ap (is_member n) others ∙ member) in
-      let lt = above.0 in absurd (omega arith))
+    let above = member_below x high ns n rises.1 (ap (is_member n) others ∙ member) in
+    let lt = above.0 in absurd (omega arith))
 first_differs low high (x ∷ ns) (suc i) n rest rises is = first_differs x high ns i n rest rises.1 is
 
 -- what was offered is what was asked for
@@ -118,8 +116,8 @@ offered_bytes bytes left room is given = given ∙ ap (λ n. take (min n 65536) 
 pub offered_length : (offered room left : ℕ) (out : List ℕ) → offered ≡ min (min room 65536) left → length out ≡ room → length (take offered out) ≡ offered
 offered_length offered room left out is full = length-take offered out ∙ min_is offered room left (length out) is full
   where
-  min_is : (offered room left n : ℕ) → offered ≡ min (min room 65536) left → n ≡ room → min offered n ≡ offered
-  min_is offered room left n is full = omega arith
+    min_is : (offered room left n : ℕ) → offered ≡ min (min room 65536) left → n ≡ room → min offered n ≡ offered
+    min_is offered room left n is full = omega arith
 
 -- one offer is made, from what the core said
 pub run_offered : (s : Setting) (start now next : Option Told) (core new : CoreMeaning) (link : ℕ) (offers closes : List ℕ) (bytes : List ℕ) (outcome said : Sent) → setting_of core.conf ≡ s
@@ -136,6 +134,6 @@ member_at [] i d lt = absurd (omega arith)
 member_at (n ∷ ns) zero d lt = member_first n ns
 member_at (n ∷ ns) (suc i) d lt = or_true (n == get_or ns i d) _ (member_at ns i d (omega arith))
   where
-  or_true : (a b : Bool) → b ≡ true → (a || b) ≡ true
-  or_true true b h = refl
-  or_true false b h = h
+    or_true : (a b : Bool) → b ≡ true → (a || b) ≡ true
+    or_true true b h = refl
+    or_true false b h = h

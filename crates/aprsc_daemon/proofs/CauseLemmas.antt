@@ -36,12 +36,12 @@ said_cause o text wanted result said message left cause =
     ⊎_elim
     (λ whole. subst (λ st. Cause st o) (sym whole.0) (cause whole.1))
     (λ partly. ⊎_elim
-      (λ memory. subst (λ st. Cause st o) (sym memory.0) (record {
-        run = ⊎_elim {C = IsUnused o ⊎ IsServed o (λ s more. ⊤)} inl (λ served. inr (served_weaker o Opening (λ s more. ⊤) (λ s more at. tt) served)) left;
-        says = (text, message, memory.1);
-      }))
-      (λ lost. subst (λ st. Cause st o) (sym lost.0) (record { run = left; failed = lost.1; says = (text, message, lost.2) }))
-      partly)
+    (λ memory. subst (λ st. Cause st o) (sym memory.0) (record {
+      run = ⊎_elim {C = IsUnused o ⊎ IsServed o (λ s more. ⊤)} inl (λ served. inr (served_weaker o Opening (λ s more. ⊤) (λ s more at. tt) served)) left;
+      says = (text, message, memory.1);
+    }))
+    (λ lost. subst (λ st. Cause st o) (sym lost.0) (record { run = left; failed = lost.1; says = (text, message, lost.2) }))
+    partly)
     said
 
 silent_part : (o : Outside) (file : List ℕ) → file_word o.words ≡ Some file → o.sink_after.told ≡ o.sink.told → SaysPart o
@@ -55,10 +55,10 @@ pub ended_cause : (o : Outside) (conf : ConfSeen) (end : End) (result : Status) 
     → AppendsRun (setting_of conf) o.wire.told o.wire_after.told (Ends (setting_of conf) end) → Cause result o
 ended_cause o conf end result is read silent failed run = subst (λ st. Cause st o) (sym is) (causes end failed run)
   where
-  causes : (end : End) → (end ≡ ended.Failed → Rose o.wire.stops o.wire_after.stops) → AppendsRun (setting_of conf) o.wire.told o.wire_after.told (Ends (setting_of conf) end) → Cause (status_of end) o
-  causes ended.Stopped failed run = record { run = record { conf = conf; read = read; run = run }; silent = silent }
-  causes ended.Failed failed run = record { run = record { conf = conf; read = read; run = run }; failed = failed refl; silent = silent }
-  causes ended.Memory failed run = memory_cause o read.file read.named silent (inr (record { conf = conf; read = read; run = run }))
+    causes : (end : End) → (end ≡ ended.Failed → Rose o.wire.stops o.wire_after.stops) → AppendsRun (setting_of conf) o.wire.told o.wire_after.told (Ends (setting_of conf) end) → Cause (status_of end) o
+    causes ended.Stopped failed run = record { run = record { conf = conf; read = read; run = run }; silent = silent }
+    causes ended.Failed failed run = record { run = record { conf = conf; read = read; run = run }; failed = failed refl; silent = silent }
+    causes ended.Memory failed run = memory_cause o read.file read.named silent (inr (record { conf = conf; read = read; run = run }))
 
 pub listener_cause : (o : Outside) (conf : ConfSeen) (n : ℕ) (result : Status) → HasNamed o.words o.files.told conf → Rose o.wire.stops o.wire_after.stops
     → AppendsRun (setting_of conf) o.wire.told o.wire_after.told (OpensOnly n (setting_of conf)) → Said o.sink o.sink_after (listen_failed_text n) status.NoListener result → Cause result o
@@ -68,8 +68,8 @@ listener_cause o conf n result read failed run said =
     (inr (served_weaker o (OpensOnly n) Opening (λ s more opens. subst (λ m. m < length s.listens) (sym opens.0) opens.2) served))
     (λ says. record { number = n; run = served; failed = failed; says = says })
   where
-  served : IsServed o (OpensOnly n)
-  served = record { conf = conf; read = read; run = run }
+    served : IsServed o (OpensOnly n)
+    served = record { conf = conf; read = read; run = run }
 
 pub line_cause : (o : Outside) (file bytes : List ℕ) (line : ℕ) (result : Status) → file_word o.words ≡ Some file → Holds o.files.told file bytes → length bytes ≤ 65536
     → conf_of bytes ≡ Err line → IsUnused o → Said o.sink o.sink_after (not_built_text file line) status.BadFile result → Cause result o
@@ -107,10 +107,11 @@ same_conf words files a b x y =
     let bytes = some_same (bytes_named y.file files) x.bytes y.bytes (ap (λ f. bytes_named f files) (sym file) ∙ x.holds) y.holds in
     ok_same (conf_of y.bytes) a b (ap conf_of (sym bytes) ∙ x.reads) y.reads
   where
-  some_same : {X : Type 0} (r : Option X) (m n : X) → r ≡ Some m → r ≡ Some n → m ≡ n
-  some_same r m n e f = cc
-  ok_same : (r : Result ConfSeen ℕ) (m n : ConfSeen) → r ≡ Ok m → r ≡ Ok n → m ≡ n
-  ok_same r m n e f = cc
+    some_same : {X : Type 0} (r : Option X) (m n : X) → r ≡ Some m → r ≡ Some n → m ≡ n
+    some_same r m n e f = cc
+
+    ok_same : (r : Result ConfSeen ℕ) (m n : ConfSeen) → r ≡ Ok m → r ≡ Ok n → m ≡ n
+    ok_same r m n e f = cc
 
 unused_run : (o : Outside) (s : Setting) (P : History → Type 0) → P [] → IsUnused o → AppendsRun s o.wire.told o.wire_after.told P
 unused_run o s P begins unused = run_told s o.wire.told o.wire.told o.wire_after.told P unused (run_begins s o.wire.told P begins)

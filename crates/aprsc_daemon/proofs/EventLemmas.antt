@@ -54,18 +54,19 @@ pub run_gathers : (s : Setting) (start now next : Option Told) (core : CoreMeani
     → next ≡ option_map (with_done (did.Event e)) now → AppendsRun s start now (Gathering core events) → AppendsRun s start next (Gathering core (events ++ e ∷ []))
 run_gathers s start now next core events e same partial is run =
     run_goes_on s start now next (did.Event e) (Gathering core events) (Gathering core (events ++ e ∷ [])) (λ more. refl) is (λ more phase.
-      let none : due s more ≡ [] =
-          ap (due s) phase.since
-          ∙ due_partial s 0 events phase.before partial phase.resting.stands.finished (subst (λ t. due t phase.before ≡ []) same phase.resting.none) in
-      let going : is_stopped more ≡ false = ap is_stopped phase.since ∙ stopped_partial 0 events phase.before partial phase.going in
-      (event_comes (due s more) (is_stopped more) e none going,
+    let none : due s more ≡ [] =
+    ap (due s) phase.since
+    ∙ due_partial s 0 events phase.before partial phase.resting.stands.finished (subst (λ t. due t phase.before ≡ []) same phase.resting.none) in
+    let going : is_stopped more ≡ false = ap is_stopped phase.since ∙ stopped_partial 0 events phase.before partial phase.going in (
+      event_comes (due s more) (is_stopped more) e none going,
       record {
         before = phase.before;
         since = ap (λ h. did.Event e ∷ h) phase.since ∙ sym (with_push events e phase.before);
         resting = phase.resting;
         going = phase.going;
         all = phase.all;
-      })) run
+      },
+    )) run
 
 -- where a part of a round is there, no act is due
 pub gathered_none : (s : Setting) (core : CoreMeaning) (events : List Event) (more : History) → setting_of core.conf ≡ s → is_partial 0 events ≡ true → Gathering core events more → due s more ≡ []

@@ -51,10 +51,10 @@ told_listened : (s : Setting) (old : Told) (n : ℕ) (spec : ListenSpec) (more :
 told_listened s old n spec more count is =
     ap (λ done. record (told_after s old more) { done = done; listened = (old.listened ++ take (listens_in more) s.listens) ++ spec ∷ [] }) (append_assoc old.done (in_order more) (did.Listen n ∷ []))
     ∙ ap (λ listened. record (told_after s old more) { done = old.done ++ (in_order more ++ did.Listen n ∷ []); listened = listened }) (
-      append_assoc old.listened (take (listens_in more) s.listens) (spec ∷ [])
-      ∙ ap (λ m. old.listened ++ (take m s.listens ++ spec ∷ [])) count
-      ∙ ap (λ listens. old.listened ++ listens) (sym is)
-      ∙ ap (λ m. old.listened ++ take (m + 1) s.listens) (sym count))
+    append_assoc old.listened (take (listens_in more) s.listens) (spec ∷ [])
+    ∙ ap (λ m. old.listened ++ (take m s.listens ++ spec ∷ [])) count
+    ∙ ap (λ listens. old.listened ++ listens) (sym is)
+    ∙ ap (λ m. old.listened ++ take (m + 1) s.listens) (sym count))
 
 pub run_listens : (s : Setting) (start now next : Option Told) (n : ℕ) (spec : ListenSpec) → drop n s.listens ≡ spec ∷ drop (n + 1) s.listens → take (n + 1) s.listens ≡ take n s.listens ++ spec ∷ []
     → next ≡ option_map (with_listen n spec) now → AppendsRun s start now (Listening s n) → AppendsRun s start next (Listening s (n + 1))
@@ -62,8 +62,7 @@ unfolding due
 run_listens s None now next n spec left took is run = is ∙ ap (option_map (with_listen n spec)) run
 run_listens s (Some old) now next n spec left took is run =
     let phase = run.3 in
-    let owed : due s run.0 ≡ Listens n ∷ listens_from (n + 1) (drop (n + 1) s.listens) = phase.due ∙ ap (listens_from n) left in
-    (
+    let owed : due s run.0 ≡ Listens n ∷ listens_from (n + 1) (drop (n + 1) s.listens) = phase.due ∙ ap (listens_from n) left in (
       did.Listen n ∷ run.0,
       is ∙ ap (option_map (with_listen n spec)) run.1 ∙ ap Some (told_listened s old n spec run.0 phase.count took),
       (run.2, listen_comes (due s run.0) n (listens_from (n + 1) (drop (n + 1) s.listens)) (is_stopped run.0) owed),
@@ -83,9 +82,9 @@ pub listened : (s : Setting) (start now next : Option Told) (n : ℕ) (spec : Li
     → next ≡ option_map (with_listen n spec) now → AppendsRun s start now (Listening s n) → AppendsRun s start next (Listening s (n + 1))
 listened s start now next n spec listens is lt at comes run =
     let left : drop n s.listens ≡ spec ∷ drop (n + 1) s.listens =
-        ap (drop n) is ∙ drop-cons listens n spec lt ∙ ap (λ x. x ∷ drop (suc n) listens) (sym at) ∙ ap (λ m. spec ∷ drop m listens) (sym (add-one n)) ∙ ap (λ xs. spec ∷ drop (n + 1) xs) (sym is) in
+    ap (drop n) is ∙ drop-cons listens n spec lt ∙ ap (λ x. x ∷ drop (suc n) listens) (sym at) ∙ ap (λ m. spec ∷ drop m listens) (sym (add-one n)) ∙ ap (λ xs. spec ∷ drop (n + 1) xs) (sym is) in
     let took : take (n + 1) s.listens ≡ take n s.listens ++ spec ∷ [] =
-        ap (take (n + 1)) is ∙ take_more listens n spec lt ∙ ap (λ x. take n listens ++ x ∷ []) (sym at) ∙ ap (λ xs. take n xs ++ spec ∷ []) (sym is) in
+    ap (take (n + 1)) is ∙ take_more listens n spec lt ∙ ap (λ x. take n listens ++ x ∷ []) (sym at) ∙ ap (λ xs. take n xs ++ spec ∷ []) (sym is) in
     run_listens s start now next n spec left took comes run
 
 -- an element at a place within a list, whatever stands past its end

@@ -18,17 +18,17 @@ pub begins_offers : (s : Setting) (start now : Option Told) (core new : CoreMean
     → AppendsRun s start now (Gathering core events) → AppendsRun s start now (Offering new offers closes)
 begins_offers s start now core new events acts offers closes offers_are closes_are conf stands acts_are =
     run_weaker s start now (Gathering core events) (Offering new offers closes) (λ more phase.
-      record {
-        stands = subst (Stands new) (sym phase.since) (stands phase.before phase.resting.stands);
-        owing = record {
-          round = trace_of (setting_of new.conf) (with_events events phase.before);
-          owed = ap (due (setting_of new.conf)) phase.since ∙ (acts_are phase.before phase.resting.stands).due
+    record {
+      stands = subst (Stands new) (sym phase.since) (stands phase.before phase.resting.stands);
+      owing = record {
+        round = trace_of (setting_of new.conf) (with_events events phase.before);
+        owed = ap (due (setting_of new.conf)) phase.since ∙ (acts_are phase.before phase.resting.stands).due
             ∙ ap (λ links. map (offer_to (setting_of new.conf) (trace_of (setting_of new.conf) (with_events events phase.before))) links ++ map Closes acts.closes) (sym offers_are)
             ∙ ap (λ links. map (offer_to (setting_of new.conf) (trace_of (setting_of new.conf) (with_events events phase.before))) offers ++ map Closes links) (sym closes_are);
-          same = λ link member. ap (λ h. untaken (setting_of new.conf) (trace_of (setting_of new.conf) h) link) phase.since;
-          all = phase.all ∙ ap (λ c. length c.listens) (sym conf);
-        };
-      })
+        same = λ link member. ap (λ h. untaken (setting_of new.conf) (trace_of (setting_of new.conf) h) link) phase.since;
+        all = phase.all ∙ ap (λ c. length c.listens) (sym conf);
+      };
+    })
 
 pub rests : (s : Setting) (start now : Option Told) (core : CoreMeaning) → AppendsRun s start now (Offering core [] []) → AppendsRun s start now (Resting core)
 rests s start now core = run_weaker s start now (Offering core [] []) (Resting core) (λ more phase. record { stands = phase.stands; none = phase.owing.owed; all = phase.owing.all })

@@ -1,9 +1,9 @@
 //! The server's program as a library: the top call over files, a wire and a sink that are handed in.
 #![tactic(auto)]
 
+mod program;
 #[cfg(test)]
 mod reading_tests;
-mod program;
 mod real;
 mod saying;
 #[cfg(test)]

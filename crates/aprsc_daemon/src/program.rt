@@ -56,7 +56,12 @@ impl Status {
 }
 
 /// Serves a wire whose listeners are open.
-fn serve_conf<R: Threads + Sync + Wait, W: Wire>(rt: &R, alloc: Global, conf: Conf, wire: &mut W) -> End
+fn serve_conf<R: Threads + Sync + Wait, W: Wire>(
+    rt: &R,
+    alloc: Global,
+    conf: Conf,
+    wire: &mut W,
+) -> End
     requires listens { length conf.listens ≤ 16 }
     requires station { IsTrue (is_station conf.server) }
     ensures run { (start : Option Told) → AppendsRun (setting_of conf) start (W.shown wire.old).told (Listening (setting_of conf) (length conf.listens))
@@ -131,8 +136,15 @@ fn run_conf<R: Threads + Sync + Wait, W: Wire, S: Sink>(
     requires listens { length conf.listens ≤ 16 }
     requires station { IsTrue (is_station conf.server) }
     ensures { (words : List (List ℕ)) (files files_after : FilesShown) → HasNamed words files.told conf
-        → Cause result (record { words = words; files = files; files_after = files_after; wire = W.shown wire.old; wire_after = W.shown wire.new;
-            sink = S.shown out.old; sink_after = S.shown out.new }) }
+        → Cause result (record {
+          words = words;
+          files = files;
+          files_after = files_after;
+          wire = W.shown wire.old;
+          wire_after = W.shown wire.new;
+          sink = S.shown out.old;
+          sink_after = S.shown out.new;
+        }) }
 {
     match open_and_serve(rt, alloc, conf, wire) {
         Ok(end) => ended(end),
@@ -152,8 +164,15 @@ fn run_text<R: Threads + Sync + Wait, W: Wire, S: Sink>(
 ) -> Status
     requires short { length text.now ≤ 65536 }
     ensures { (words : List (List ℕ)) (files files_after : FilesShown) → file_word words ≡ Some file.now → Holds files.told file.now text.now
-        → Cause result (record { words = words; files = files; files_after = files_after; wire = W.shown wire.old; wire_after = W.shown wire.new;
-            sink = S.shown out.old; sink_after = S.shown out.new }) }
+        → Cause result (record {
+          words = words;
+          files = files;
+          files_after = files_after;
+          wire = W.shown wire.old;
+          wire_after = W.shown wire.new;
+          sink = S.shown out.old;
+          sink_after = S.shown out.new;
+        }) }
 {
     match read_conf(alloc, text) {
         Ok(conf) => run_conf(rt, alloc, conf, wire, out),
@@ -174,8 +193,15 @@ fn run_file<R: Threads + Sync + Wait, F: Files, W: Wire, S: Sink>(
     out: &mut S,
 ) -> Status
     ensures { (words : List (List ℕ)) → file_word words ≡ Some file.now
-        → Cause result (record { words = words; files = F.shown files.old; files_after = F.shown files.new; wire = W.shown wire.old; wire_after = W.shown wire.new;
-            sink = S.shown out.old; sink_after = S.shown out.new }) }
+        → Cause result (record {
+          words = words;
+          files = F.shown files.old;
+          files_after = F.shown files.new;
+          wire = W.shown wire.old;
+          wire_after = W.shown wire.new;
+          sink = S.shown out.old;
+          sink_after = S.shown out.new;
+        }) }
 {
     let mut text = Vec::new(alloc);
     match files.read(file, MOST_READ, &mut text) {
@@ -194,8 +220,15 @@ fn run<R: Threads + Sync + Wait, F: Files, W: Wire, S: Sink>(
     wire: &mut W,
     out: &mut S,
 ) -> Status
-    ensures { Cause result (record { words = map string_bytes words.now; files = F.shown files.old; files_after = F.shown files.new;
-        wire = W.shown wire.old; wire_after = W.shown wire.new; sink = S.shown out.old; sink_after = S.shown out.new }) }
+    ensures { Cause result (record {
+      words = map string_bytes words.now;
+      files = F.shown files.old;
+      files_after = F.shown files.new;
+      wire = W.shown wire.old;
+      wire_after = W.shown wire.new;
+      sink = S.shown out.old;
+      sink_after = S.shown out.new;
+    }) }
 {
     match file_word(words) {
         Some(file) => run_file(rt, alloc, file, files, wire, out),
@@ -221,8 +254,15 @@ pub fn aprsc<R: Threads + Sync + Wait, F: Files, W: Wire, S: Sink>(
         → HasNamed (map string_bytes words.now) (F.shown files.old).told conf
         → AppendsRun (setting_of conf) (W.shown wire.old).told (W.shown wire.new).told (Ended result (setting_of conf)) }
     // Each status has its cause.
-    ensures cause { HasCause result (record { words = map string_bytes words.now; files = F.shown files.old; files_after = F.shown files.new;
-        wire = W.shown wire.old; wire_after = W.shown wire.new; sink = S.shown out.old; sink_after = S.shown out.new }) }
+    ensures cause { HasCause result (record {
+      words = map string_bytes words.now;
+      files = F.shown files.old;
+      files_after = F.shown files.new;
+      wire = W.shown wire.old;
+      wire_after = W.shown wire.new;
+      sink = S.shown out.old;
+      sink_after = S.shown out.new;
+    }) }
 {
     run(rt, alloc, words, files, wire, out).code()
 }

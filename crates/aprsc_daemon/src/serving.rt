@@ -107,7 +107,12 @@ fn gather<W: Wire>(wire: &mut W, events: &mut Vec<Event>) -> Result<(), WireErro
 }
 
 /// Offers a link its next bytes, and tells the core what became of them.
-fn send_one<W: Wire>(core: &mut Core, wire: &mut W, link: u32, buffer: &mut [u8]) -> Result<(), Memory>
+fn send_one<W: Wire>(
+    core: &mut Core,
+    wire: &mut W,
+    link: u32,
+    buffer: &mut [u8],
+) -> Result<(), Memory>
     requires served { has_number link core.old.seen.links ≡ true }
     requires room { length buffer.old ≡ 65536 }
     ensures run { (s : Setting) (start : Option Told) (offers closes : List ℕ) → setting_of core.old.conf ≡ s → is_member link offers ≡ false
@@ -128,7 +133,12 @@ fn send_one<W: Wire>(core: &mut Core, wire: &mut W, link: u32, buffer: &mut [u8]
 }
 
 /// Makes each offer, in rising number.
-fn send_all<W: Wire>(core: &mut Core, wire: &mut W, offers: &[u32], buffer: &mut [u8]) -> Result<(), Memory>
+fn send_all<W: Wire>(
+    core: &mut Core,
+    wire: &mut W,
+    offers: &[u32],
+    buffer: &mut [u8],
+) -> Result<(), Memory>
     requires served { AreServed offers.now core.old.seen.links }
     requires rising { (high : ℕ) × Rises 0 offers.now high }
     requires room { length buffer.old ≡ 65536 }

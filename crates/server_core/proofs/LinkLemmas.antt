@@ -195,9 +195,9 @@ served_filter p (x ∷ links) n member =
     ⊎_elim
     (λ here. ap (λ b. b || has_number n links) here)
     (λ other. ap (λ b. b || has_number n links) other ∙ served_filter p links n (⊎_elim
-        (λ kept. sym (ap (λ b. b || is_member n (numbers (filter p links))) other) ∙ sym (ap (λ b. is_member n (numbers (cond b (x ∷ filter p links) (filter p links)))) kept) ∙ member)
-        (λ left. sym (ap (λ b. is_member n (numbers (cond b (x ∷ filter p links) (filter p links)))) left) ∙ member)
-        (cases_Bool (p x))))
+    (λ kept. sym (ap (λ b. b || is_member n (numbers (filter p links))) other) ∙ sym (ap (λ b. is_member n (numbers (cond b (x ∷ filter p links) (filter p links)))) kept) ∙ member)
+    (λ left. sym (ap (λ b. is_member n (numbers (cond b (x ∷ filter p links) (filter p links)))) left) ∙ member)
+    (cases_Bool (p x))))
     (cases_Bool (x.link == n))
 
 -- whether a number is a link's shows in the numbers alone

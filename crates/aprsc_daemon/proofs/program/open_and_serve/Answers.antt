@@ -13,10 +13,9 @@ returns-in_err-listen_all-clause-listen g c =
     let s = setting_of c.args.conf in
     let same : c.as_slice.result.now ≡ c.args.conf.listens = c.as_slice.ensures.value ∙ ap (λ conf. conf.listens) c.conf.view_is in
     err_of _ c.from_residual.result error.0 c.in_err-listen_all.field-0.0 error.1 error.2 (λ n is.
-      let failed = c.in_err-listen_all.ensures.failed n is in
-      let within = c.in_err-listen_all.ensures.within n is in
-      (
-        failed.0,
-        run_weaker s (g.W.Wire.shown c.args.wire.now).told (g.W.Wire.shown c.listen_all.new.wire).told (Listening s n) (OpensOnly n s)
-        (λ more phase. (phase.count, phase.only, subst (λ specs. n < length specs) same within)) (failed.1 s (sym same)),
-      ))
+    let failed = c.in_err-listen_all.ensures.failed n is in
+    let within = c.in_err-listen_all.ensures.within n is in (
+      failed.0,
+      run_weaker s (g.W.Wire.shown c.args.wire.now).told (g.W.Wire.shown c.listen_all.new.wire).told (Listening s n) (OpensOnly n s)
+          (λ more phase. (phase.count, phase.only, subst (λ specs. n < length specs) same within)) (failed.1 s (sym same)),
+    ))

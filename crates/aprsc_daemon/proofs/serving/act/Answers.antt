@@ -12,7 +12,7 @@ returns-in_err-send_all-clause-err g c = λ s start same run.
     err_any {P = AppendsRun s start (g.W.Wire.shown c.send_all.new.wire).told (λ more. ⊤)} c.from_residual-in_err-send_all.result
     (c.in_err-send_all.ensures.err s start acts.closes (ap setting_of c.in_ok-acts.ensures.conf ∙ same)
     (begins_offers s start (g.W.Wire.shown c.args.wire.now).told c.args.core.now c.round.new.self c.args.events.now acts c.as_slice.result.now acts.closes
-      (c.as_slice.ensures.value ∙ ap (λ a. a.offers) c.acts.view_is) refl c.in_ok-acts.ensures.conf c.in_ok-acts.ensures.stands c.in_ok-acts.ensures.due run))
+    (c.as_slice.ensures.value ∙ ap (λ a. a.offers) c.acts.view_is) refl c.in_ok-acts.ensures.conf c.in_ok-acts.ensures.stands c.in_ok-acts.ensures.due run))
 
 pub returns-in_err-close_all-clause-err : goal.returns-in_err-close_all-clause-err
 returns-in_err-close_all-clause-err g c = λ s start same run.
@@ -21,7 +21,7 @@ returns-in_err-close_all-clause-err g c = λ s start same run.
     (c.in_err-close_all.ensures.err s start c.send_all.new.core (ap setting_of (c.in_ok-send_all.ensures.rest.conf ∙ c.in_ok-acts.ensures.conf) ∙ same)
     (c.in_ok-send_all.ensures.run s start c.as_slice-2.result.now (ap setting_of c.in_ok-acts.ensures.conf ∙ same)
     (begins_offers s start (g.W.Wire.shown c.args.wire.now).told c.args.core.now c.round.new.self c.args.events.now acts c.as_slice.result.now c.as_slice-2.result.now
-      (c.as_slice.ensures.value ∙ ap (λ a. a.offers) c.acts.view_is) (c.as_slice-2.ensures.value ∙ ap (λ a. a.closes) c.acts.view_is) c.in_ok-acts.ensures.conf c.in_ok-acts.ensures.stands c.in_ok-acts.ensures.due run)))
+    (c.as_slice.ensures.value ∙ ap (λ a. a.offers) c.acts.view_is) (c.as_slice-2.ensures.value ∙ ap (λ a. a.closes) c.acts.view_is) c.in_ok-acts.ensures.conf c.in_ok-acts.ensures.stands c.in_ok-acts.ensures.due run)))
 
 pub returns-clause-run : goal.returns-clause-run
 returns-clause-run g c = λ s start same run.
@@ -30,4 +30,4 @@ returns-clause-run g c = λ s start same run.
     (c.in_ok-close_all.ensures.run s start c.send_all.new.core (ap setting_of (c.in_ok-send_all.ensures.rest.conf ∙ c.in_ok-acts.ensures.conf) ∙ same)
     (c.in_ok-send_all.ensures.run s start c.as_slice-2.result.now (ap setting_of c.in_ok-acts.ensures.conf ∙ same)
     (begins_offers s start (g.W.Wire.shown c.args.wire.now).told c.args.core.now c.round.new.self c.args.events.now acts c.as_slice.result.now c.as_slice-2.result.now
-      (c.as_slice.ensures.value ∙ ap (λ a. a.offers) c.acts.view_is) (c.as_slice-2.ensures.value ∙ ap (λ a. a.closes) c.acts.view_is) c.in_ok-acts.ensures.conf c.in_ok-acts.ensures.stands c.in_ok-acts.ensures.due run)))
+    (c.as_slice.ensures.value ∙ ap (λ a. a.offers) c.acts.view_is) (c.as_slice-2.ensures.value ∙ ap (λ a. a.closes) c.acts.view_is) c.in_ok-acts.ensures.conf c.in_ok-acts.ensures.stands c.in_ok-acts.ensures.due run)))

@@ -11,7 +11,7 @@ loop-link-preserved g c = (
   c.close.ensures.stops ∙ c.loop-link.invariant.0,
   c.close.ensures.links ∙ c.loop-link.invariant.1,
   λ s start core same run.
-    let left = next_item c.args.closes.now c.loop-link.link-index _ c.loop-link-test.true (same_at c.args.closes.now c.loop-link.link-index 0 _ c.loop-link-test.true) in
-    run_closes s start _ (g.W.Wire.shown c.close.new.self).told core _ (drop (c.loop-link.link-index + 1) c.args.closes.now) same c.in_ok-close.ensures.ok
-    (subst (λ closes. AppendsRun s start (g.W.Wire.shown c.loop-link.wire).told (Offering core [] closes)) left (c.loop-link.invariant.2 s start core same run)),
+      let left = next_item c.args.closes.now c.loop-link.link-index _ c.loop-link-test.true (same_at c.args.closes.now c.loop-link.link-index 0 _ c.loop-link-test.true) in
+      run_closes s start _ (g.W.Wire.shown c.close.new.self).told core _ (drop (c.loop-link.link-index + 1) c.args.closes.now) same c.in_ok-close.ensures.ok
+      (subst (λ closes. AppendsRun s start (g.W.Wire.shown c.loop-link.wire).told (Offering core [] closes)) left (c.loop-link.invariant.2 s start core same run)),
 )

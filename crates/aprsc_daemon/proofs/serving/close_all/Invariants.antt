@@ -11,5 +11,5 @@ invariant-loop-link g l =
     ((g.W.Wire.shown l.wire).stops ≡ (g.W.Wire.shown l.initial.wire).stops)
     × ((g.W.Wire.shown l.wire).links ≡ (g.W.Wire.shown l.initial.wire).links)
     × ((s : Setting) (start : Option Told) (core : CoreMeaning) → setting_of core.conf ≡ s
-      → AppendsRun s start (g.W.Wire.shown l.initial.wire).told (Offering core [] l.closes)
-      → AppendsRun s start (g.W.Wire.shown l.wire).told (Offering core [] (drop l.link-index l.closes)))
+    → AppendsRun s start (g.W.Wire.shown l.initial.wire).told (Offering core [] l.closes)
+    → AppendsRun s start (g.W.Wire.shown l.wire).told (Offering core [] (drop l.link-index l.closes)))

@@ -14,7 +14,7 @@ invariant-loop-whole g l =
     × Counted (g.W.Wire.shown l.initial.wire).links l.events.items (g.W.Wire.shown l.wire).links
     × ((g.W.Wire.shown l.initial.wire).stops ≤ (g.W.Wire.shown l.wire).stops)
     × ((s : Setting) (start : Option Told) (core : CoreMeaning) → setting_of core.conf ≡ s → AppendsRun s start (g.W.Wire.shown l.initial.wire).told (Gathering core [])
-      → AppendsRun s start (g.W.Wire.shown l.wire).told (Gathering core l.events.items))
+    → AppendsRun s start (g.W.Wire.shown l.wire).told (Gathering core l.events.items))
 
 abbrev pub decreases-loop-whole : goal.decreases-loop-whole
 decreases-loop-whole g l = if l.whole then 0 else 513 - length l.events.items

@@ -25,7 +25,7 @@ loop-spec-preserved g c = (
   omega arith,
   (let before = c.loop-spec.invariant.1 in let now = c.listen.ensures.stops in omega arith),
   λ s is.
-    let at : c.loop-spec.n ≡ c.loop-spec.spec-index = c.loop-spec.invariant.0 in
-    let within : c.loop-spec.n < length c.args.listens.now = omega arith in
-    listened s _ _ _ c.loop-spec.n _ c.args.listens.now is within (listed_at c.args.listens.now c.loop-spec.n c.loop-spec.spec-index _ at within) c.in-Ok.ensures.ok (c.loop-spec.invariant.2 s is),
+      let at : c.loop-spec.n ≡ c.loop-spec.spec-index = c.loop-spec.invariant.0 in
+      let within : c.loop-spec.n < length c.args.listens.now = omega arith in
+      listened s _ _ _ c.loop-spec.n _ c.args.listens.now is within (listed_at c.args.listens.now c.loop-spec.n c.loop-spec.spec-index _ at within) c.in-Ok.ensures.ok (c.loop-spec.invariant.2 s is),
 )

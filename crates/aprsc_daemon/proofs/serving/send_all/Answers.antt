@@ -25,14 +25,13 @@ loop-link-preserved g c =
     let now = c.send_one.ensures.rest in
     let offers = c.args.offers.now in
     let i = c.loop-link.link-index in
-    let left = next_item offers i (get_or offers i 0) c.loop-link-test.true (same_at offers i 0 _ c.loop-link-test.true) in
-    (
+    let left = next_item offers i (get_or offers i 0) c.loop-link-test.true (same_at offers i 0 _ c.loop-link-test.true) in (
       record { conf = now.conf ∙ was.conf; greatest = now.greatest ∙ was.greatest; stopped = now.stopped ∙ was.stopped },
       c.send_one.ensures.numbers ∙ c.loop-link.invariant.1,
       c.send_one.ensures.stops ∙ c.loop-link.invariant.2,
       c.send_one.ensures.links ∙ c.loop-link.invariant.3,
       c.send_one.auto.buffer ∙ c.loop-link.invariant.4,
       λ s start closes same run.
-        c.in_ok-send_one.ensures.run s start (drop (i + 1) offers) closes (ap setting_of was.conf ∙ same) (first_differs 0 c.requires.rising.0 offers i (get_or offers i 0) (drop (i + 1) offers) c.requires.rising.1 left)
-        (subst (λ links. AppendsRun s start (g.W.Wire.shown c.loop-link.wire).told (Offering c.loop-link.core links closes)) left (c.loop-link.invariant.5 s start closes same run)),
+          c.in_ok-send_one.ensures.run s start (drop (i + 1) offers) closes (ap setting_of was.conf ∙ same) (first_differs 0 c.requires.rising.0 offers i (get_or offers i 0) (drop (i + 1) offers) c.requires.rising.1 left)
+          (subst (λ links. AppendsRun s start (g.W.Wire.shown c.loop-link.wire).told (Offering c.loop-link.core links closes)) left (c.loop-link.invariant.5 s start closes same run)),
     )

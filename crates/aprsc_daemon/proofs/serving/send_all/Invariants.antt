@@ -16,5 +16,5 @@ invariant-loop-link g l =
     × ((g.W.Wire.shown l.wire).links ≡ (g.W.Wire.shown l.initial.wire).links)
     × (length l.buffer ≡ 65536)
     × ((s : Setting) (start : Option Told) (closes : List ℕ) → setting_of l.initial.core.conf ≡ s
-      → AppendsRun s start (g.W.Wire.shown l.initial.wire).told (Offering l.initial.core l.offers closes)
-      → AppendsRun s start (g.W.Wire.shown l.wire).told (Offering l.core (drop l.link-index l.offers) closes))
+    → AppendsRun s start (g.W.Wire.shown l.initial.wire).told (Offering l.initial.core l.offers closes)
+    → AppendsRun s start (g.W.Wire.shown l.wire).told (Offering l.core (drop l.link-index l.offers) closes))

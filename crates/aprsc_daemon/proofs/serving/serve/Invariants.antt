@@ -15,5 +15,5 @@ invariant-loop g l =
     × (l.core.seen.greatest ≤ (g.W.Wire.shown l.wire).links)
     × ((g.W.Wire.shown l.initial.wire).stops ≤ (g.W.Wire.shown l.wire).stops)
     × ((s : Setting) (start : Option Told) → setting_of l.initial.core.conf ≡ s
-      → AppendsRun s start (g.W.Wire.shown l.initial.wire).told (Resting l.initial.core)
-      → AppendsRun s start (g.W.Wire.shown l.wire).told (Resting l.core))
+    → AppendsRun s start (g.W.Wire.shown l.initial.wire).told (Resting l.initial.core)
+    → AppendsRun s start (g.W.Wire.shown l.wire).told (Resting l.core))

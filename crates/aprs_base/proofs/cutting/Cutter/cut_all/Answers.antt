@@ -1,4 +1,4 @@
-use Rattle.std.proofs.Common.{◌≡◌, ℕ, ◌+◌, ◌++◌, List, [], refl, take, length, sym, ◌∙◌, ap, arith, append-nil, IsTrue}
+use Rattle.std.proofs.Common.{◌++◌, [], refl, take, sym, ◌∙◌, ap, arith, append-nil}
 use Rattle.aprs_base.specs.Cuts.{cuts_of, rest_of}
 use Rattle.aprs_base.specs.Held.{held_of}
 use Rattle.aprs_base.specs.Bytes.{IsInner, is_line_end}

@@ -1,4 +1,4 @@
-use Rattle.std.proofs.Common.{◌≡◌, ℕ, ◌++◌, List, append_assoc, sym, ◌∙◌, ap}
+use Rattle.std.proofs.Common.{◌++◌, append_assoc, sym, ◌∙◌, ap}
 use Rattle.aprs_base.specs.Cuts.{cuts_of, rest_of, cuts_by}
 use Rattle.aprs_base.specs.Held.{held_of}
 use Rattle.aprs_base.proofs.CutLemmas.{inner_rest, rest_of-append, cuts_of-append}
