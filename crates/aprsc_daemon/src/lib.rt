@@ -12,4 +12,5 @@ mod serving;
 mod three_lines;
 mod words;
 
+pub use program::aprsc;
 pub use real::{RealFiles, RealSink};
