@@ -3,6 +3,8 @@
 
 mod program;
 #[cfg(test)]
+mod program_tests;
+#[cfg(test)]
 mod reading_tests;
 mod real;
 mod saying;

@@ -1,0 +1,335 @@
+//! Runs of the program over files, a wire and a sink in memory.
+use crate::aprsc;
+use aprs_base::{
+    Addr, Chunk, Event, Happening, MemFile, MemFiles, MemSink, MemWire, Sent, Take, Text,
+};
+use std::alloc::Global;
+use std::marker::Sync;
+use std::sync::Wait;
+use std::test::Fail;
+use std::thread::Threads;
+
+const CONF: &[u8] = b"ServerId T2TEST\nPassCode 8385\nListen \"full\" fullfeed tcp 0.0.0.0 10152\n";
+
+const FIRST_LOGIN: &[u8] = b"user N0CALL pass 13023 vers t 1\r\n";
+
+const SECOND_LOGIN: &[u8] = b"user K1ABC pass 14993 vers t 1\r\n";
+
+const FIRST_REPLY: &[u8] = b"# logresp N0CALL verified, server T2TEST\r\n";
+
+const SECOND_REPLY: &[u8] = b"# logresp K1ABC verified, server T2TEST\r\n";
+
+const BANNER: &[u8] = b"# aprsc 1.0\r\n";
+
+const PACKET: &[u8] = b"N0CALL>APRS,WIDE1-1:>hi\r\n";
+
+const SENT_ON: &[u8] = b"N0CALL>APRS,TCPIP*,qAC,T2TEST:>hi\r\n";
+
+/// What goes wrong outside, and what sends take.
+#[derive(Drop)]
+struct Outside {
+    takes: Vec<Take>,
+    fail_listen: Option<u64>,
+    fail_next: Option<u64>,
+    fail_sink: Vec<u64>,
+    file: &'static str,
+}
+
+impl Outside {
+    fn well(alloc: Global) -> Outside {
+        Outside {
+            takes: Vec::new(alloc),
+            fail_listen: None,
+            fail_next: None,
+            fail_sink: Vec::new(alloc),
+            file: "c",
+        }
+    }
+}
+
+/// What a run left.
+#[derive(Drop)]
+struct Left {
+    status: u8,
+    text: Vec<u8>,
+    done: Vec<Happening>,
+}
+
+impl Left {
+    /// All that a link took.
+    fn taken(&self, alloc: Global, number: u32) -> Result<Vec<u8>, Fail> {
+        let mut all = Vec::new(alloc);
+        for happening in &self.done {
+            if let Happening::Sent(link, bytes, Sent::Took(count)) = happening {
+                if *link == number {
+                    all.extend_from_slice(bytes.as_bytes().get(..*count).ok_or("a part")?)?;
+                }
+            }
+        }
+        Ok(all)
+    }
+}
+
+fn opened(link: u32) -> Event {
+    Event::Opened {
+        listener: 0,
+        link,
+        from: Addr {
+            ip: [127, 0, 0, 1],
+            port: 4000,
+        },
+    }
+}
+
+fn said(link: u32, bytes: &[u8]) -> Result<Event, Fail> {
+    Ok(Event::Bytes(link, Chunk::new(bytes).ok_or("a chunk")?))
+}
+
+/// Runs `-c c` over a file `c` with these bytes, and these events.
+fn run_over<R: Threads + Sync + Wait>(
+    rt: &R,
+    alloc: Global,
+    conf: &[u8],
+    events: Vec<Event>,
+    outside: Outside,
+) -> Result<Left, Fail> {
+    let mut words = Vec::new(alloc);
+    words.push(String::from_str(alloc, "-c")?)?;
+    words.push(String::from_str(alloc, outside.file)?)?;
+    let file = MemFile {
+        name: Text::copied(alloc, b"c")?,
+        bytes: Text::copied(alloc, conf)?,
+    };
+    let mut listed = Vec::new(alloc);
+    listed.push(file)?;
+    let mut files = MemFiles::new(listed, Vec::new(alloc));
+    let mut wire = MemWire::new(
+        alloc,
+        events,
+        outside.takes,
+        outside.fail_listen,
+        outside.fail_next,
+    )?;
+    let mut sink = MemSink::new(alloc, outside.fail_sink, 1000);
+    let status = aprsc(
+        rt,
+        alloc,
+        words.as_slice(),
+        &mut files,
+        &mut wire,
+        &mut sink,
+    );
+    Ok(Left {
+        status,
+        text: sink.text,
+        done: wire.done,
+    })
+}
+
+/// Two links that log in, and a packet of the first.
+fn two_stations(alloc: Global) -> Result<Vec<Event>, Fail> {
+    let mut events = Vec::new(alloc);
+    events.push(Event::Tick(1000))?;
+    events.push(opened(1))?;
+    events.push(opened(2))?;
+    for (link, line) in [(1, FIRST_LOGIN), (2, SECOND_LOGIN), (1, PACKET)] {
+        events.push(said(link, line)?)?;
+    }
+    Ok(events)
+}
+
+/// The same, each byte an event of its own.
+fn byte_by_byte(alloc: Global) -> Result<Vec<Event>, Fail> {
+    let mut events = Vec::new(alloc);
+    events.push(Event::Tick(1000))?;
+    events.push(opened(1))?;
+    events.push(opened(2))?;
+    for (link, line) in [(1, FIRST_LOGIN), (2, SECOND_LOGIN), (1, PACKET)] {
+        for byte in line {
+            events.push(said(link, [*byte].as_slice())?)?;
+        }
+    }
+    Ok(events)
+}
+
+/// The parts one after another.
+fn joined(alloc: Global, parts: &[&[u8]]) -> Result<Vec<u8>, Fail> {
+    let mut all = Vec::new(alloc);
+    for part in parts {
+        all.extend_from_slice(part)?;
+    }
+    Ok(all)
+}
+
+#[test]
+fn sends_a_packet_to_the_other_station(rt: HostRuntime) -> Result<(), Fail> {
+    let alloc = rt.alloc();
+    let first = joined(alloc, &[BANNER, FIRST_REPLY])?;
+    let second = joined(alloc, &[BANNER, SECOND_REPLY, SENT_ON])?;
+    for events in [two_stations(alloc)?, byte_by_byte(alloc)?] {
+        let left = run_over(&rt, alloc, CONF, events, Outside::well(alloc))?;
+        assert!(rt; left.status == 0);
+        assert!(rt; left.text.is_empty());
+        assert!(rt; left.taken(alloc, 1)?.as_slice() == first.as_slice());
+        assert!(rt; left.taken(alloc, 2)?.as_slice() == second.as_slice());
+    }
+    Ok(())
+}
+
+fn only_stop(alloc: Global) -> Result<Vec<Event>, Fail> {
+    let mut events = Vec::new(alloc);
+    events.push(Event::Stop)?;
+    Ok(events)
+}
+
+fn one_link(alloc: Global) -> Result<Vec<Event>, Fail> {
+    let mut events = Vec::new(alloc);
+    events.push(opened(1))?;
+    events.push(Event::Tick(1000))?;
+    events.push(Event::Tick(1001))?;
+    events.push(Event::Room(1))?;
+    events.push(Event::Stop)?;
+    Ok(events)
+}
+
+#[test]
+fn stops_with_no_link(rt: HostRuntime) -> Result<(), Fail> {
+    let alloc = rt.alloc();
+    let left = run_over(&rt, alloc, CONF, only_stop(alloc)?, Outside::well(alloc))?;
+    assert!(rt; left.status == 0);
+    assert!(rt; left.text.is_empty());
+    assert!(rt;
+        left.done.as_slice() == [Happening::Listen(0), Happening::Event(Event::Stop)].as_slice()
+    );
+    Ok(())
+}
+
+#[test]
+fn greets_a_link_and_closes_it(rt: HostRuntime) -> Result<(), Fail> {
+    let alloc = rt.alloc();
+    let mut events = Vec::new(alloc);
+    events.push(opened(1))?;
+    events.push(Event::Stop)?;
+    let left = run_over(&rt, alloc, CONF, events, Outside::well(alloc))?;
+    let want = [
+        Happening::Listen(0),
+        Happening::Event(opened(1)),
+        Happening::Event(Event::Stop),
+        Happening::Sent(1, Text::copied(alloc, BANNER)?, Sent::Took(13)),
+        Happening::Closed(1),
+    ];
+    assert!(rt; left.status == 0);
+    assert!(rt; left.done.as_slice() == want.as_slice());
+    Ok(())
+}
+
+#[test]
+fn waits_for_room(rt: HostRuntime) -> Result<(), Fail> {
+    let alloc = rt.alloc();
+    let mut outside = Outside::well(alloc);
+    outside.takes.push(Take::Most(5))?;
+    let left = run_over(&rt, alloc, CONF, one_link(alloc)?, outside)?;
+    let want = [
+        Happening::Listen(0),
+        Happening::Event(opened(1)),
+        Happening::Event(Event::Tick(1000)),
+        Happening::Sent(1, Text::copied(alloc, BANNER)?, Sent::Took(5)),
+        Happening::Event(Event::Tick(1001)),
+        Happening::Event(Event::Room(1)),
+        Happening::Event(Event::Stop),
+        Happening::Sent(1, Text::copied(alloc, b"sc 1.0\r\n")?, Sent::Took(8)),
+        Happening::Closed(1),
+    ];
+    assert!(rt; left.status == 0);
+    assert!(rt; left.done.as_slice() == want.as_slice());
+    Ok(())
+}
+
+#[test]
+fn closes_no_link_that_is_gone(rt: HostRuntime) -> Result<(), Fail> {
+    let alloc = rt.alloc();
+    let mut outside = Outside::well(alloc);
+    outside.takes.push(Take::Gone)?;
+    let left = run_over(&rt, alloc, CONF, one_link(alloc)?, outside)?;
+    let want = [
+        Happening::Listen(0),
+        Happening::Event(opened(1)),
+        Happening::Event(Event::Tick(1000)),
+        Happening::Sent(1, Text::copied(alloc, BANNER)?, Sent::Gone),
+        Happening::Event(Event::Tick(1001)),
+        Happening::Event(Event::Room(1)),
+        Happening::Event(Event::Stop),
+    ];
+    assert!(rt; left.status == 0);
+    assert!(rt; left.done.as_slice() == want.as_slice());
+    Ok(())
+}
+
+#[test]
+fn names_what_failed(rt: HostRuntime) -> Result<(), Fail> {
+    let alloc = rt.alloc();
+    let mut no_file = Outside::well(alloc);
+    no_file.file = "d";
+    let mut no_words = Outside::well(alloc);
+    no_words.file = "-y";
+    let mut no_listener = Outside::well(alloc);
+    no_listener.fail_listen = Some(0);
+    let mut no_event = Outside::well(alloc);
+    no_event.fail_next = Some(0);
+    let mut no_sink = Outside::well(alloc);
+    no_sink.fail_listen = Some(0);
+    no_sink.fail_sink.push(0)?;
+    let usage: &[u8] =
+        b"usage: aprsc -c FILE [-w N] [-y] | aprsc drill SEED LINES LINKS [-w N] | aprsc net FILE\n";
+    let cases: [(Outside, &[u8], u8, &[u8]); 6] = [
+        (no_words, CONF, 1, usage),
+        (Outside::well(alloc), b"", 2, b"c: line 1: not-built\n"),
+        (no_file, CONF, 3, b"d: cannot be read\n"),
+        (no_listener, CONF, 4, b"listen 0 failed\n"),
+        (no_event, CONF, 5, b""),
+        (no_sink, CONF, 7, b""),
+    ];
+    for (outside, conf, status, text) in cases {
+        let left = run_over(&rt, alloc, conf, only_stop(alloc)?, outside)?;
+        assert!(rt; left.status == status);
+        assert!(rt; left.text.as_slice() == text);
+    }
+    Ok(())
+}
+
+/// Two links that log in, a line of so many bytes from the first, and a packet from it.
+fn long_line(alloc: Global, before: &[u8], length: usize) -> Result<Vec<Event>, Fail> {
+    let mut line = before.to_vec(alloc)?;
+    line.resize(length, b'x')?;
+    line.extend_from_slice(b"\r\n")?;
+    let mut events = Vec::new(alloc);
+    events.push(opened(1))?;
+    events.push(opened(2))?;
+    events.push(said(1, FIRST_LOGIN)?)?;
+    events.push(said(2, SECOND_LOGIN)?)?;
+    events.push(said(1, line.as_slice())?)?;
+    events.push(said(1, PACKET)?)?;
+    Ok(events)
+}
+
+#[test]
+fn passes_on_what_fits_a_line(rt: HostRuntime) -> Result<(), Fail> {
+    let alloc = rt.alloc();
+    let cases: [(&[u8], usize, usize); 4] = [
+        (b"N0CALL>APRS:", 492, 601),
+        (b"N0CALL>APRS:", 493, 89),
+        (b"N0CALL>APRS,WIDE1-1*,WIDE2-1*:", 510, 601),
+        (b"N0CALL>APRS,WIDE1-1*,WIDE2-1*:", 511, 89),
+    ];
+    for (before, length, want) in cases {
+        let left = run_over(
+            &rt,
+            alloc,
+            CONF,
+            long_line(alloc, before, length)?,
+            Outside::well(alloc),
+        )?;
+        assert!(rt; left.taken(alloc, 2)?.len() == want);
+    }
+    Ok(())
+}
