@@ -1,5 +1,6 @@
 -- Small histories, and what the definitions say of them.
-use Rattle.std.proofs.Common.{◌≡◌, refl, ℕ, List, [], ◌∷◌, ◌++◌, codes}
+use Rattle.std.proofs.Common.{◌≡◌, refl, ℕ, List, [], ◌∷◌, ◌++◌, ◌+◌, codes, map, Bool, true, false, Option, Some, None}
+use Rattle.aprs_base.specs.PacketSeen.{PacketSeen}
 use Rattle.aprs_base.specs.declared.packets.PortKind.TheVariants as kind
 use Rattle.aprs_base.specs.declared.texts.Addr.{Addr}
 use Rattle.aprs_base.specs.declared.events.Event.TheVariants as event
@@ -11,6 +12,16 @@ use Rattle.aprs_history.specs.Texts.{lines_of, banner}
 use Rattle.aprs_history.specs.Acts.{Offers, Closes, Listens, due}
 use Rattle.tnc2_line.specs.Packet.{parts_of, text_of, via_of, head_of}
 use Rattle.login_pass.specs.Login.{login_of}
+use Rattle.q_construct.specs.Rule.{process_of, given_drops, built_drops, built_row, rows}
+use Rattle.q_construct.specs.declared.drops.QDrop.TheVariants as drop_for
+use Rattle.aprs_body.specs.Bodies.{body_of}
+use Rattle.login_pass.specs.declared.login_line.LoginFault.TheVariants as fault
+use Rattle.aprs_base.specs.declared.cutting.Cut.TheVariants as cut
+use Rattle.aprs_history.specs.Verdicts.{Scene, verdict_of, is_duplicate}
+use Rattle.aprs_history.specs.Scenes.{accepted_by, accepted_of, scene_of}
+use Rattle.aprs_history.specs.declared.verdicts.Verdict.{Verdict}
+use Rattle.aprs_history.specs.declared.verdicts.Verdict.TheVariants.{PassedOver, Refused, LoggedIn, Accepted}
+use Rattle.aprs_history.specs.declared.verdicts.Refusal.TheVariants as refusal
 use Rattle.login_pass.specs.Passcode.{passcode_of}
 
 setting : Setting
@@ -25,10 +36,9 @@ client = record { ip = 10 ∷ 0 ∷ 0 ∷ 7 ∷ []; port = 4000 }
 listening : History
 listening = did.Listen 0 ∷ []
 
-two_clients : History
-two_clients =
-    did.Event event.Stop
-    ∷ did.Event (event.Bytes 1 (codes "N0CALL>APRS,WIDE1-1:>hi" ++ crlf))
+two_serving : History
+two_serving =
+    did.Event (event.Bytes 1 (codes "N0CALL>APRS,WIDE1-1:>hi" ++ crlf))
     ∷ did.Event (event.Bytes 2 (codes "user K1ABC pass 14993 vers t 1" ++ crlf))
     ∷ did.Event (event.Bytes 1 (codes "user N0CALL pass 13023 vers t 1" ++ crlf))
     ∷ did.Event (event.Opened 0 2 client)
@@ -36,13 +46,16 @@ two_clients =
     ∷ did.Event (event.Tick 1000)
     ∷ listening
 
+two_clients : History
+two_clients = did.Event event.Stop ∷ two_serving
+
 first_due : due setting [] ≡ Listens 0 ∷ []
 unfolding due setting
 first_due = refl
 
 text_of_second : lines_of setting (trace_of setting two_clients) 2
     ≡ banner ∷ codes "# logresp K1ABC verified, server T2TEST" ∷ codes "N0CALL>APRS,TCPIP*,qAC,T2TEST:>hi" ∷ []
-unfolding trace_of setting two_clients listening client crlf parts_of text_of via_of head_of login_of passcode_of
+unfolding trace_of setting two_clients two_serving listening client crlf parts_of text_of via_of head_of login_of passcode_of process_of given_drops built_drops built_row rows body_of
 text_of_second = refl
 
 -- at a stop each link is offered its whole text and is closed
@@ -50,7 +63,7 @@ due_at_stop : due setting two_clients
     ≡ Offers 1 (codes "# aprsc 1.0" ++ crlf ++ codes "# logresp N0CALL verified, server T2TEST" ++ crlf)
     ∷ Offers 2 (codes "# aprsc 1.0" ++ crlf ++ codes "# logresp K1ABC verified, server T2TEST" ++ crlf ++ codes "N0CALL>APRS,TCPIP*,qAC,T2TEST:>hi" ++ crlf)
     ∷ Closes 1 ∷ Closes 2 ∷ []
-unfolding due trace_of setting two_clients listening client crlf parts_of text_of via_of head_of login_of passcode_of
+unfolding due trace_of setting two_clients two_serving listening client crlf parts_of text_of via_of head_of login_of passcode_of process_of given_drops built_drops built_row rows body_of
 due_at_stop = refl
 
 -- a part is taken, and the link is blocked until it has room
@@ -94,5 +107,123 @@ two_slow_clients =
     ∷ listening)))
 
 same_when_slow : due setting two_slow_clients ≡ due setting two_clients
-unfolding due trace_of setting two_clients two_slow_clients listening client crlf parts_of text_of via_of head_of login_of passcode_of
+unfolding due trace_of setting two_clients two_serving two_slow_clients listening client crlf parts_of text_of via_of head_of login_of passcode_of process_of given_drops built_drops built_row rows body_of
 same_when_slow = refl
+
+-- ---- single lines
+
+abbrev link_of : List ℕ → Bool → Bool → List (List ℕ) → Scene
+link_of login verified only others = record {
+  server = codes "T2TEST";
+  only = only;
+  session = Some (record { call = login; verified = verified });
+  others = others;
+  moment = 1000;
+  accepted = [];
+}
+
+abbrev stranger : Scene
+stranger = record { server = codes "T2TEST"; only = false; session = None; others = []; moment = 1000; accepted = [] }
+
+abbrev verdict_on : Scene → List ℕ → Verdict
+verdict_on scene text = verdict_of scene (cut.Line text)
+
+abbrev sent_on : Verdict → Option (List ℕ)
+sent_on PassedOver = None
+sent_on (Refused why) = None
+sent_on (LoggedIn session) = None
+sent_on (Accepted parts line) = Some line
+
+logged_in : verdict_on stranger (codes "user N0CALL pass 13023 vers t 1") ≡ LoggedIn (record { call = codes "N0CALL"; verified = true })
+unfolding login_of passcode_of
+logged_in = refl
+
+other_code : verdict_on stranger (codes "user N0CALL pass 13024 vers t 1") ≡ LoggedIn (record { call = codes "N0CALL"; verified = false })
+unfolding login_of passcode_of
+other_code = refl
+
+no_code : verdict_on stranger (codes "USER N0CALL PASS -1") ≡ LoggedIn (record { call = codes "N0CALL"; verified = false })
+unfolding login_of passcode_of
+no_code = refl
+
+no_pass : verdict_on stranger (codes "user N0CALL") ≡ Refused (refusal.Login fault.NoPass)
+unfolding login_of
+no_pass = refl
+
+own_name : verdict_on stranger (codes "user T2TEST pass 8385") ≡ Refused refusal.OwnName
+unfolding login_of passcode_of
+own_name = refl
+
+unverified_own : sent_on (verdict_on (link_of (codes "N0CALL") false false []) (codes "N0CALL>APRS,WIDE1-1:>hi")) ≡ Some (codes "N0CALL>APRS,TCPXX*,qAX,T2TEST:>hi")
+unfolding parts_of text_of via_of head_of process_of given_drops built_drops built_row rows
+unverified_own = refl
+
+unverified_other : verdict_on (link_of (codes "N0CALL") false false []) (codes "K1XYZ>APRS:>hi") ≡ Refused (refusal.Path drop_for.Unverified)
+unfolding parts_of text_of via_of head_of process_of given_drops built_drops built_row rows
+unverified_other = refl
+
+received : sent_on (verdict_on (link_of (codes "OH7LZB") true false []) (codes "K1ABC>APRS,DIG*,OH7LZB,I:>x")) ≡ Some (codes "K1ABC>APRS,DIG*,qAR,OH7LZB:>x")
+unfolding parts_of text_of via_of head_of process_of given_drops built_drops built_row rows
+received = refl
+
+received_by_another : sent_on (verdict_on (link_of (codes "K1XYZ") true false []) (codes "K1ABC>APRS,DIG*,OH7LZB,I:>x")) ≡ Some (codes "K1ABC>APRS,DIG*,qAr,OH7LZB:>x")
+unfolding parts_of text_of via_of head_of process_of given_drops built_drops built_row rows
+received_by_another = refl
+
+other_is_here : verdict_on (link_of (codes "K1XYZ") true false (codes "OH7LZB" ∷ [])) (codes "K1ABC>APRS,DIG*,OH7LZB,I:>x") ≡ Refused (refusal.Path (drop_for.OtherLogin (codes "OH7LZB")))
+unfolding parts_of text_of via_of head_of process_of given_drops built_drops built_row rows
+other_is_here = refl
+
+on_a_client_port : sent_on (verdict_on (link_of (codes "OH7LZB") true true []) (codes "K1ABC>APRS,DIG*,OH7LZB,I:>x")) ≡ Some (codes "K1ABC>APRS,DIG*,qAo,OH7LZB:>x")
+unfolding parts_of text_of via_of head_of process_of given_drops built_drops built_row rows
+on_a_client_port = refl
+
+without_a_gate : sent_on (verdict_on (link_of (codes "OH7LZB") true true []) (codes "K1ABC>APRS,DIG*:>x")) ≡ Some (codes "K1ABC>APRS,DIG*,qAO,OH7LZB:>x")
+unfolding parts_of text_of via_of head_of process_of given_drops built_drops built_row rows
+without_a_gate = refl
+
+on_a_full_port : sent_on (verdict_on (link_of (codes "OH7LZB") true false []) (codes "K1ABC>APRS,DIG*:>x")) ≡ Some (codes "K1ABC>APRS,DIG*,qAS,OH7LZB:>x")
+unfolding parts_of text_of via_of head_of process_of given_drops built_drops built_row rows
+on_a_full_port = refl
+
+-- ---- duplicates
+
+-- the verdict on a line, some seconds after the packet of the same link was accepted
+abbrev later_on : ℕ → List ℕ → Verdict
+later_on seconds text =
+    let first = link_of (codes "N0CALL") true false [] in
+    verdict_on (record first { moment = 1000 + seconds; accepted = accepted_by 1 1000 (verdict_on first (codes "N0CALL>APRS,WIDE1-1:>hi")) }) text
+
+again_by_another_path : later_on 5 (codes "N0CALL>APRS,WIDE2-2:>hi") ≡ Refused refusal.Duplicate
+unfolding parts_of text_of via_of head_of process_of given_drops built_drops built_row rows
+again_by_another_path = refl
+
+again_after_29_seconds : later_on 29 (codes "N0CALL>APRS,WIDE1-1:>hi") ≡ Refused refusal.Duplicate
+unfolding parts_of text_of via_of head_of process_of given_drops built_drops built_row rows
+again_after_29_seconds = refl
+
+again_after_30_seconds : sent_on (later_on 30 (codes "N0CALL>APRS,WIDE1-1:>hi")) ≡ Some (codes "N0CALL>APRS,TCPIP*,qAC,T2TEST:>hi")
+unfolding parts_of text_of via_of head_of process_of given_drops built_drops built_row rows
+again_after_30_seconds = refl
+
+again_with_an_ssid : later_on 5 (codes "N0CALL>APRS-4,WIDE1-1:>hi") ≡ Refused refusal.Duplicate
+unfolding parts_of text_of via_of head_of process_of given_drops built_drops built_row rows
+again_with_an_ssid = refl
+
+again_with_blanks : later_on 5 (codes "N0CALL>APRS,WIDE1-1:>hi  ") ≡ Refused refusal.Duplicate
+unfolding parts_of text_of via_of head_of process_of given_drops built_drops built_row rows
+again_with_blanks = refl
+
+-- ---- what a line meets in a history
+
+-- each link meets the login of the other, and the packet that was accepted, with its body's class
+others_of_first : (scene_of setting (trace_of setting two_serving) 1).others ≡ codes "K1ABC" ∷ []
+unfolding trace_of setting two_clients two_serving listening client crlf parts_of text_of via_of head_of login_of passcode_of process_of given_drops built_drops built_row rows body_of
+others_of_first = refl
+
+abbrev seen : List PacketSeen → List (ℕ × ℕ × List ℕ)
+seen packets = map (λ packet. (packet.moment, packet.body.class, packet.line)) packets
+
+accepted_in_order : seen (accepted_of (trace_of setting two_serving)) ≡ (1000, 32, codes "N0CALL>APRS,TCPIP*,qAC,T2TEST:>hi") ∷ []
+unfolding trace_of setting two_clients two_serving listening client crlf parts_of text_of via_of head_of login_of passcode_of process_of given_drops built_drops built_row rows body_of
+accepted_in_order = refl

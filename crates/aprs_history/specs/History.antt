@@ -12,7 +12,8 @@ use Rattle.aprs_base.specs.declared.events.Happening.TheVariants as did
 use Rattle.aprs_history.specs.Setting.{Setting, kind_at}
 use Rattle.aprs_history.specs.Verdicts.{verdict_of}
 use Rattle.aprs_history.specs.Trace.{Trace, Entry, EndReason, ByPeer, FoundGone, ByStop, Ticked, Opened, Brought, Said, Roomed, Took, Lost, Ended, live_links, is_live}
-use Rattle.aprs_history.specs.Links.{brought_by, session_of, gone_links}
+use Rattle.aprs_history.specs.Links.{brought_by, gone_links}
+use Rattle.aprs_history.specs.Scenes.{scene_of}
 
 abbrev pub History : Type 0
 History = List Happening
@@ -78,7 +79,7 @@ end_all reason (link ∷ links) trace = end_all reason links (Ended link reason 
 -- a link says these lines, one after another; each is judged by what came before it
 abbrev pub say_all : Setting → ℕ → List Cut → Trace → Trace
 say_all setting link [] trace = trace
-say_all setting link (cut ∷ cuts) trace = say_all setting link cuts (Said link cut (verdict_of setting.server (session_of trace link) cut) ∷ trace)
+say_all setting link (cut ∷ cuts) trace = say_all setting link cuts (Said link cut (verdict_of (scene_of setting trace link) cut) ∷ trace)
 
 -- what begins a round: the links that were found gone end
 abbrev pub begin_round : Trace → Trace

@@ -1,8 +1,10 @@
 pub mod Acts
 pub mod History
+pub mod Keys
 pub mod Links
 pub mod Rounds
 pub mod Runs
+pub mod Scenes
 pub mod Setting
 pub mod Stands
 pub mod Texts

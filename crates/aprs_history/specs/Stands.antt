@@ -1,10 +1,12 @@
 -- What it is that a core stands for a history.
 use Rattle.std.specs.Prelude.{◌≡◌, ℕ, ◌≤◌, Bool, List, length, map, Option}
 use Rattle.aprs_base.specs.Held.{Held, held_after}
+use Rattle.aprs_base.specs.PacketSeen.{PacketSeen}
 use Rattle.aprs_history.specs.Setting.{Setting}
 use Rattle.aprs_history.specs.declared.verdicts.Session.{Session}
 use Rattle.aprs_history.specs.Trace.{Trace, moment_of, served_links}
 use Rattle.aprs_history.specs.Links.{Opening, opening_of, last_heard, brought_by, session_of, taken_by, is_blocked, is_gone}
+use Rattle.aprs_history.specs.Scenes.{accepted_of}
 use Rattle.aprs_history.specs.Texts.{Queued, queued, lines_of, text_bytes}
 use Rattle.aprs_history.specs.History.{History, open_events, is_stopped, greatest_link, trace_of}
 
@@ -23,6 +25,7 @@ pub record LinkSeen : Type 0 where
 pub record CoreSeen : Type 0 where
   pub moment : ℕ
   pub links : List LinkSeen
+  pub accepted : List PacketSeen
   pub greatest : ℕ
   pub stopped : Bool
 
@@ -48,6 +51,7 @@ TookNoMore setting trace = (link : ℕ) → taken_by trace link ≤ length (text
 pub record Follows (setting : Setting) (core : CoreSeen) (trace : Trace) : Type 0 where
   pub moment : core.moment ≡ moment_of trace
   pub links : core.links ≡ map (link_seen setting trace) (served_links trace)
+  pub accepted : core.accepted ≡ accepted_of trace
   pub took : TookNoMore setting trace
 
 -- a core stands for a history whose rounds are finished

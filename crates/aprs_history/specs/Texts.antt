@@ -4,7 +4,11 @@ use Rattle.std.specs.List.{flat_map}
 use Rattle.aprs_base.specs.declared.packets.PortKind.{PortKind}
 use Rattle.aprs_base.specs.declared.packets.PortKind.TheVariants as kind
 use Rattle.aprs_history.specs.Setting.{Setting}
+use Rattle.login_pass.specs.declared.login_line.LoginFault.{LoginFault}
+use Rattle.login_pass.specs.declared.login_line.LoginFault.TheVariants as fault
 use Rattle.aprs_history.specs.declared.verdicts.Session.{Session}
+use Rattle.aprs_history.specs.declared.verdicts.Refusal.{Refusal}
+use Rattle.aprs_history.specs.declared.verdicts.Refusal.TheVariants as refusal
 use Rattle.aprs_history.specs.declared.verdicts.Verdict.{Verdict}
 use Rattle.aprs_history.specs.declared.verdicts.Verdict.TheVariants.{PassedOver, Refused, LoggedIn, Accepted}
 use Rattle.aprs_history.specs.Trace.{Trace, Opened, Said, is_live}
@@ -27,6 +31,29 @@ verified_word false = codes " unverified, server "
 -- the reply to a login
 abbrev pub login_reply : List ℕ → Session → List ℕ
 login_reply server session = codes "# logresp " ++ (session.call ++ (verified_word session.verified ++ server))
+
+-- what a login that is refused is told
+abbrev pub fault_word : LoginFault → List ℕ
+fault_word fault.NotUser = codes "no user"
+fault_word fault.BadCall = codes "bad call"
+fault_word fault.NoPass = codes "no pass"
+fault_word fault.BadPass = codes "bad pass"
+
+abbrev pub refused_login : List ℕ → List ℕ
+refused_login word = codes "# login refused, " ++ word
+
+-- the reply to a line that is refused, where there is one
+abbrev pub refusal_reply : Refusal → Option (List ℕ)
+refusal_reply (refusal.Login why) = Some (refused_login (fault_word why))
+refusal_reply refusal.OwnName = Some (refused_login (codes "own name"))
+refusal_reply refusal.Long = None
+refusal_reply (refusal.Packet why) = None
+refusal_reply (refusal.Path why) = None
+refusal_reply refusal.Duplicate = None
+
+abbrev pub reply_lines : Option (List ℕ) → List (List ℕ)
+reply_lines None = []
+reply_lines (Some line) = line ∷ []
 
 abbrev pub banner_of : Option PortKind → List (List ℕ)
 banner_of None = []
@@ -52,7 +79,7 @@ wants trace from link = not (from == link) && is_live trace link && is_some (ses
 -- what a verdict on a line of one link adds to the text of another or of the same
 abbrev pub added_by : Setting → Trace → ℕ → Verdict → ℕ → List (List ℕ)
 added_by setting earlier from PassedOver link = []
-added_by setting earlier from (Refused refusal) link = []
+added_by setting earlier from (Refused why) link = if link == from then reply_lines (refusal_reply why) else []
 added_by setting earlier from (LoggedIn session) link = if link == from then login_reply setting.server session ∷ [] else []
 added_by setting earlier from (Accepted parts line) link = if wants earlier from link then line ∷ [] else []
 

@@ -1,78 +1,76 @@
 -- What becomes of a line: each line has one verdict (aprs-is.net, Connecting, and q Construct).
-use Rattle.std.specs.Prelude.{ℕ, ◌-◌, slice_get, ◌==◌, ◌&&◌, ◌||◌, Bool, true, false, not, nat_lt, is_none, List, [], ◌∷◌, length, codes, Option, Some, None, Result, Ok, Err, if◌then◌else◌}
+use Rattle.std.specs.Prelude.{ℕ, ◌-◌, ◌==◌, ◌&&◌, Bool, nat_lt, List, codes, Option, Some, None, Result, Ok, Err, if◌then◌else◌}
 use Rattle.std.specs.List.{list_any, starts_with}
-use Rattle.std.specs.Cmp.Lexicographic.{pointwise}
+use Rattle.aprs_base.specs.PacketSeen.{PacketSeen}
 use Rattle.aprs_base.specs.declared.packets.Parts.{Parts}
-use Rattle.aprs_base.specs.declared.packets.Via.{Via}
 use Rattle.aprs_base.specs.declared.cutting.Cut.{Cut}
 use Rattle.aprs_base.specs.declared.cutting.Cut.TheVariants as cut
-use Rattle.tnc2_line.specs.Packet.{parts_of, text_of, construct_at}
+use Rattle.tnc2_line.specs.Packet.{parts_of, text_of}
 use Rattle.tnc2_line.specs.declared.reading.LineFault.{LineFault}
 use Rattle.login_pass.specs.Login.{login_of, is_verified}
 use Rattle.login_pass.specs.declared.login_line.Login.{Login}
 use Rattle.login_pass.specs.declared.login_line.LoginFault.{LoginFault}
+use Rattle.q_construct.specs.Rule.{process_of}
+use Rattle.q_construct.specs.declared.origins.Origin.{Origin}
+use Rattle.q_construct.specs.declared.origins.Origin.TheVariants as origin
+use Rattle.q_construct.specs.declared.drops.QDrop.{QDrop}
+use Rattle.aprs_history.specs.Keys.{Key, key_of, is_same_key, is_text}
 use Rattle.aprs_history.specs.declared.verdicts.Session.{Session}
-use Rattle.aprs_history.specs.declared.verdicts.Refusal.TheVariants.{Long, NotBuilt, TooLong}
+use Rattle.aprs_history.specs.declared.verdicts.Refusal.{Refusal}
+use Rattle.aprs_history.specs.declared.verdicts.Refusal.TheVariants as refusal
 use Rattle.aprs_history.specs.declared.verdicts.Verdict.{Verdict}
 use Rattle.aprs_history.specs.declared.verdicts.Verdict.TheVariants.{PassedOver, Refused, LoggedIn, Accepted}
 
-abbrev pub is_text : List ℕ → List ℕ → Bool
-is_text a b = pointwise ◌==◌ a b
+-- what a line meets: the server's call; whether the link's port is for clients alone; the link's login, and those of the other
+-- verified links; and the packets that were accepted before, up to this moment
+pub record Scene : Type 0 where
+  pub server : List ℕ
+  pub only : Bool
+  pub session : Option Session
+  pub others : List (List ℕ)
+  pub moment : ℕ
+  pub accepted : List PacketSeen
 
 -- a comment or command line
 abbrev pub is_comment : List ℕ → Bool
 is_comment text = starts_with ◌==◌ text (codes "#")
 
--- a login that is verified, asks for no filter, and isn't the server's own call
+-- a login is good where it isn't the server's own call
 abbrev pub login_verdict : List ℕ → Result Login LoginFault → Verdict
-login_verdict server (Err fault) = Refused NotBuilt
+login_verdict server (Err fault) = Refused (refusal.Login fault)
 login_verdict server (Ok login) =
-    if is_verified login && is_none login.filter && not (is_text login.call server)
-    then LoggedIn (record { call = login.call; verified = true }) else Refused NotBuilt
+    if is_text login.call server then Refused refusal.OwnName else LoggedIn (record { call = login.call; verified = is_verified login })
 
--- an element that keeps a packet off the network
-abbrev pub is_no_gate : Via → Bool
-is_no_gate via = is_text via.call (codes "NOGATE") || is_text via.call (codes "RFONLY") || is_text via.call (codes "TCPXX")
+abbrev pub client_origin : Bool → Session → Origin
+client_origin only session = origin.Client session.call session.verified only
 
--- the element `I` at the path's end
-abbrev pub is_element_i : Option Via → Bool
-is_element_i None = false
-is_element_i (Some via) = is_text via.call (codes "I") && not via.star
+-- the packet as the q construct rule sends it on
+abbrev pub routed : Result Parts QDrop → Result Parts Refusal
+routed (Err drop') = Err (refusal.Path drop')
+routed (Ok parts) = Ok parts
 
-abbrev pub ends_in_i : List Via → Bool
-ends_in_i vias = is_element_i (slice_get vias (length vias - 1))
+abbrev pub read_and_routed : List ℕ → Origin → List (List ℕ) → Result Parts LineFault → Result Parts Refusal
+read_and_routed server from others (Err fault) = Err (refusal.Packet fault)
+read_and_routed server from others (Ok parts) = routed (process_of parts from server others)
 
--- a third-party packet or a query
-abbrev pub is_not_for_others : List ℕ → Bool
-is_not_for_others body = starts_with ◌==◌ body (codes "}") || starts_with ◌==◌ body (codes "?")
+-- a packet with this key was accepted less than 30 seconds before
+abbrev pub is_repeat : ℕ → Key → PacketSeen → Bool
+is_repeat now key packet = nat_lt (now - packet.moment) 30 && is_same_key key (key_of packet.parts)
 
--- the link's own packet, with no construct and nothing that keeps it off the network
-abbrev pub is_own_packet : List ℕ → Parts → Bool
-is_own_packet login parts =
-    is_text parts.source login && is_none (construct_at parts) && not (ends_in_i parts.vias.items)
-    && not (list_any is_no_gate parts.vias.items) && not (is_not_for_others parts.body.items)
+abbrev pub is_duplicate : ℕ → List PacketSeen → Parts → Bool
+is_duplicate now accepted parts = list_any (is_repeat now (key_of parts)) accepted
 
--- the path of a verified client's own packet: `TCPIP*,qAC,SERVER`
-abbrev pub client_path : List ℕ → List Via
-client_path server = record { call = codes "TCPIP"; star = true } ∷ record { call = codes "qAC"; star = false } ∷ record { call = server; star = false } ∷ []
+abbrev pub packet_verdict : ℕ → List PacketSeen → Result Parts Refusal → Verdict
+packet_verdict now accepted (Err why) = Refused why
+packet_verdict now accepted (Ok parts) = if is_duplicate now accepted parts then Refused refusal.Duplicate else Accepted parts (text_of parts)
 
-abbrev pub with_client_path : List ℕ → Parts → Parts
-with_client_path server parts = record parts { vias = record { items = client_path server } }
-
--- sent on, where its line has 510 bytes at most
-abbrev pub fitting : Parts → Verdict
-fitting parts = if nat_lt 510 (length (text_of parts)) then Refused TooLong else Accepted parts (text_of parts)
-
-abbrev pub packet_verdict : List ℕ → List ℕ → Result Parts LineFault → Verdict
-packet_verdict server login (Err fault) = Refused NotBuilt
-packet_verdict server login (Ok parts) = if is_own_packet login parts then fitting (with_client_path server parts) else Refused NotBuilt
-
--- what a line that is no comment is: before the login a login, after it a packet
-abbrev pub line_verdict : List ℕ → Option Session → List ℕ → Verdict
-line_verdict server None text = login_verdict server (login_of text)
-line_verdict server (Some session) text = packet_verdict server session.call (parts_of text)
+-- the verdict on a line that is no comment: before the login it is a login, after it a packet
+abbrev pub line_verdict : Scene → Option Session → List ℕ → Verdict
+line_verdict scene None text = login_verdict scene.server (login_of text)
+line_verdict scene (Some session) text =
+    packet_verdict scene.moment scene.accepted (read_and_routed scene.server (client_origin scene.only session) scene.others (parts_of text))
 
 -- the verdict on what a link said
-abbrev pub verdict_of : List ℕ → Option Session → Cut → Verdict
-verdict_of server session cut.Long = Refused Long
-verdict_of server session (cut.Line text) = if is_comment text then PassedOver else line_verdict server session text
+abbrev pub verdict_of : Scene → Cut → Verdict
+verdict_of scene cut.Long = Refused refusal.Long
+verdict_of scene (cut.Line text) = if is_comment text then PassedOver else line_verdict scene scene.session text

@@ -2,6 +2,9 @@
 ghost use Rattle.std.specs.Prelude.{◌≡◌};
 
 use aprs_base::{Call, Line, Parts};
+use login_pass::LoginFault;
+use q_construct::QDrop;
+use tnc2_line::LineFault;
 
 /// Who a link has logged in as.
 #[derive(Clone, PartialEq, Eq, Debug, Drop)]
@@ -11,14 +14,20 @@ pub struct Session {
 }
 
 /// Why a line is refused.
-#[derive(Clone, Copy, PartialEq, Eq, Debug)]
+#[derive(Clone, PartialEq, Eq, Debug, Drop)]
 pub enum Refusal {
     /// It has more than 510 bytes.
     Long,
-    /// It asks for what isn't built.
-    NotBuilt,
-    /// As it would be sent on it has more than 510 bytes.
-    TooLong,
+    /// The link hasn't logged in, and the line is no login.
+    Login(LoginFault),
+    /// It logs in with the server's own call.
+    OwnName,
+    /// It is no packet.
+    Packet(LineFault),
+    /// The q construct rule drops the packet.
+    Path(QDrop),
+    /// The same packet was accepted less than 30 seconds before.
+    Duplicate,
 }
 
 /// What a line is: each has one verdict.
