@@ -1,6 +1,6 @@
 -- The steps of the core, and the trace that it follows.
 use Rattle.std.proofs.Common.{◌≡◌, ℕ, ◌<◌, ◌≤◌, ◌==◌, ◌∷◌, ◌++◌, [], List, map, filter, refl, sym, ap, ◌∙◌, subst, true, false, Bool, Option, Some, None, IsTrue, max, min, append-nil, arith, ⊎_elim, ◌||◌, if◌then◌else◌, not, cond, ◌^◌, IfOk, Result, Ok, Err, Vec, Global}
-use Rattle.std.specs.List.{list_any}
+use Rattle.std.specs.List.{list_any, flat_map}
 use Rattle.std.proofs.lemmas.Bool.{true≢false, eqb-true, cases_Bool}
 use Rattle.aprs_base.specs.Held.{held_after}
 use Rattle.aprs_base.specs.Cuts.{cuts_by}
@@ -13,18 +13,19 @@ use Rattle.aprs_history.specs.declared.verdicts.Refusal.{Refusal}
 use Rattle.aprs_history.specs.declared.verdicts.Verdict.{Verdict}
 use Rattle.aprs_history.specs.declared.verdicts.Verdict.TheVariants.{PassedOver, Refused, LoggedIn, Accepted}
 use Rattle.aprs_history.specs.Setting.{Setting, kind_at}
-use Rattle.aprs_history.specs.Verdicts.{verdict_of}
-use Rattle.aprs_history.specs.Trace.{Trace, Entry, Ticked, Opened, Brought, Said, Roomed, Ended, ByPeer, ByStop, is_live, is_member, live_links, stopped_links, served_links, last_moment}
-use Rattle.aprs_history.specs.Links.{session_of, brought_by, gone_links}
+use Rattle.aprs_history.specs.Scenes.{is_only, others_of, scene_of, verified_login}
+use Rattle.aprs_history.specs.Verdicts.{Scene, verdict_of}
+use Rattle.aprs_history.specs.Trace.{Trace, Entry, Ticked, Opened, Brought, Said, Roomed, Ended, ByPeer, ByStop, is_live, is_member, is_other, live_links, stopped_links, served_links, last_moment}
+use Rattle.aprs_history.specs.Links.{session_of, opening_of, brought_by, gone_links}
 use Rattle.aprs_history.specs.Texts.{login_reply}
 use Rattle.aprs_history.specs.History.{begin_round, end_all}
 use Rattle.aprs_history.specs.Stands.{LinkSeen, CoreSeen, link_seen, Follows}
-use Rattle.server_core.specs.LinkSteps.{at_link, has_that, has_number, is_there, is_another, with_session, with_packet, with_room, with_bytes, new_link_seen, numbers, Rises, session_at, held_at, picked_at, session_kept, held_kept, after_verdict, after_line}
+use Rattle.server_core.specs.LinkSteps.{at_link, has_that, has_number, is_there, is_another, with_session, with_packet, with_room, with_bytes, new_link_seen, numbers, Rises, session_at, held_at, picked_at, session_kept, held_kept, only_at, only_kept, others_at}
 use Rattle.server_core.specs.Meaning.{CoreMeaning, ConfSeen, setting_of}
 use Rattle.server_core.specs.Kept.{IsKept}
-use Rattle.server_core.specs.Steps.{Walks, saying}
+use Rattle.server_core.specs.Steps.{SameRest, Walks, saying, scene_at, with_verdict}
 use Rattle.server_core.proofs.LinkLemmas.{changed_none, rises_to, rises_push}
-use Rattle.server_core.proofs.WalkLemmas.{with_links, with_moment, follows_begun, going_after, follows_passed, follows_refused, follows_login, follows_accepted, follows_roomed, follows_ticked, follows_brought, follows_opened, follows_unserved, follows_ended, follows_stopped}
+use Rattle.server_core.proofs.WalkLemmas.{with_links, with_moment, follows_begun, going_after, follows_said, follows_roomed, follows_ticked, follows_brought, follows_opened, follows_unserved, follows_ended, follows_stopped}
 
 -- the core with other links
 abbrev pub relinked : List LinkSeen → CoreMeaning → CoreMeaning
@@ -62,6 +63,18 @@ picked_missing pick none s t number (k ∷ ks) member =
     ∙ picked_missing pick none s t number ks (sym (ap (λ b. b || is_member number ks) other) ∙ member))
     (cases_Bool (k == number))
 
+-- the logins of others, as they are kept and as the trace has them
+others_seen : (s : Setting) (t : Trace) (number : ℕ) (ks : List ℕ)
+    → others_at number (map (link_seen s t) ks) ≡ flat_map (λ other. verified_login (session_of t other)) (filter (is_other number) ks)
+unfolding link_seen
+others_seen s t number [] = refl
+others_seen s t number (k ∷ ks) =
+    let rest = others_seen s t number ks in
+    ⊎_elim
+    (λ kept. rw kept (ap (λ calls. verified_login (session_of t k) ++ calls) rest))
+    (λ left. rw left rest)
+    (cases_Bool (is_other number k))
+
 module _ (core : CoreMeaning) (t : Trace) (walks : Walks core t) where
   live_now : core.seen.links ≡ map (link_seen (setting_of core.conf) t) (live_links t)
   live_now = walks.follows.links ∙ ap (λ stopped. map (link_seen (setting_of core.conf) t) (stopped ++ live_links t)) walks.going
@@ -77,45 +90,21 @@ module _ (core : CoreMeaning) (t : Trace) (walks : Walks core t) where
   pub held_never : (number : ℕ) → is_live t number ≡ false → held_at number core.seen.links ≡ None
   held_never number dead = ap (held_at number) live_now ∙ picked_missing held_kept None (setting_of core.conf) t number (live_links t) dead
 
-  verdict_now : (number : ℕ) (cut : Cut) (verdict : Verdict) → is_live t number ≡ true → verdict ≡ verdict_of core.conf.server (session_at number core.seen.links) cut
-      → verdict ≡ verdict_of core.conf.server (session_of t number) cut
-  verdict_now number cut verdict live is = is ∙ ap (λ session. verdict_of core.conf.server session cut) (session_now number live)
+  only_now : (number : ℕ) → is_live t number ≡ true → only_at number core.seen.links ≡ is_only (opening_of t number)
+  unfolding link_seen
+  only_now number live = ap (only_at number) live_now ∙ picked_seen only_kept false (setting_of core.conf) t number (live_links t) live
 
-  pub walks_passed : (number : ℕ) (cut : Cut) → is_live t number ≡ true → PassedOver ≡ verdict_of core.conf.server (session_at number core.seen.links) cut
-      → Walks core (saying (setting_of core.conf) number cut t)
-  walks_passed number cut live is =
-      subst (λ verdict. Walks core (Said number cut verdict ∷ t)) (verdict_now number cut PassedOver live is)
-      (record { follows = follows_passed (setting_of core.conf) core.seen t walks.follows number cut; going = walks.going })
+  others_now : (number : ℕ) → others_at number core.seen.links ≡ others_of t number
+  others_now number = ap (others_at number) live_now ∙ others_seen (setting_of core.conf) t number (live_links t)
 
-  pub walks_refused : (number : ℕ) (cut : Cut) (refusal : Refusal) → is_live t number ≡ true → Refused refusal ≡ verdict_of core.conf.server (session_at number core.seen.links) cut
-      → Walks core (saying (setting_of core.conf) number cut t)
-  walks_refused number cut refusal live is =
-      subst (λ verdict. Walks core (Said number cut verdict ∷ t)) (verdict_now number cut (Refused refusal) live is)
-      (record { follows = follows_refused (setting_of core.conf) core.seen t walks.follows number cut refusal; going = walks.going })
-
-  pub walks_login : (number : ℕ) (cut : Cut) (session : Session) (links : List LinkSeen) → is_live t number ≡ true
-      → LoggedIn session ≡ verdict_of core.conf.server (session_at number core.seen.links) cut
-      → links ≡ map (at_link number (with_session session (login_reply core.conf.server session))) core.seen.links
-      → Walks (relinked links core) (saying (setting_of core.conf) number cut t)
-  walks_login number cut session links live is new =
-      subst (λ verdict. Walks (relinked links core) (Said number cut verdict ∷ t)) (verdict_now number cut (LoggedIn session) live is)
-      (record {
-        follows = subst (λ ls. Follows (setting_of core.conf) (with_links ls core.seen) (Said number cut (LoggedIn session) ∷ t)) (sym new)
-            (follows_login (setting_of core.conf) core.seen t walks.follows number cut session);
-        going = walks.going;
-      })
-
-  pub walks_accepted : (number : ℕ) (cut : Cut) (parts : Parts) (line : List ℕ) (links : List LinkSeen) → is_live t number ≡ true
-      → Accepted parts line ≡ verdict_of core.conf.server (session_at number core.seen.links) cut
-      → links ≡ map (with_packet number line) core.seen.links
-      → Walks (relinked links core) (saying (setting_of core.conf) number cut t)
-  walks_accepted number cut parts line links live is new =
-      subst (λ verdict. Walks (relinked links core) (Said number cut verdict ∷ t)) (verdict_now number cut (Accepted parts line) live is)
-      (record {
-        follows = subst (λ ls. Follows (setting_of core.conf) (with_links ls core.seen) (Said number cut (Accepted parts line) ∷ t)) (sym new)
-            (follows_accepted (setting_of core.conf) core.seen t walks.follows walks.going number cut parts line);
-        going = walks.going;
-      })
+  -- a line of a link that lives meets what the trace says
+  scene_now : (number : ℕ) → is_live t number ≡ true → scene_at core number ≡ scene_of (setting_of core.conf) t number
+  scene_now number live =
+      ap (λ only. record (scene_at core number) { only = only }) (only_now number live)
+      ∙ ap (λ session. record (scene_at core number) { only = is_only (opening_of t number); session = session }) (session_now number live)
+      ∙ ap (λ others. record (scene_of (setting_of core.conf) t number) { others = others; moment = core.seen.moment; accepted = core.seen.accepted }) (others_now number)
+      ∙ ap (λ moment. record (scene_of (setting_of core.conf) t number) { moment = moment; accepted = core.seen.accepted }) walks.follows.moment
+      ∙ ap (λ accepted. record (scene_of (setting_of core.conf) t number) { accepted = accepted }) walks.follows.accepted
 
   pub walks_roomed : (number : ℕ) (links : List LinkSeen) → links ≡ map (at_link number with_room) core.seen.links → Walks (relinked links core) (Roomed number ∷ t)
   walks_roomed number links new = record {
@@ -140,22 +129,21 @@ module _ (core : CoreMeaning) (t : Trace) (walks : Walks core t) where
     going = append-nil (stopped_links t) ∙ walks.going;
   }
 
-heard_by : (core : CoreMeaning) (t : Trace) → Walks core t → (number : ℕ) (cut : Cut) (links : List LinkSeen) (verdict : Verdict) → is_live t number ≡ true
-    → verdict ≡ verdict_of core.conf.server (session_at number core.seen.links) cut → links ≡ after_verdict core.conf.server number verdict core.seen.links
-    → Walks (relinked links core) (saying (setting_of core.conf) number cut t)
-heard_by core t walks number cut links PassedOver live is new =
-    subst (λ ls. Walks (relinked ls core) (saying (setting_of core.conf) number cut t)) (sym new) (walks_passed core t walks number cut live is)
-heard_by core t walks number cut links (Refused refusal) live is new =
-    subst (λ ls. Walks (relinked ls core) (saying (setting_of core.conf) number cut t)) (sym new) (walks_refused core t walks number cut refusal live is)
-heard_by core t walks number cut links (LoggedIn session) live is new = walks_login core t walks number cut session links live is new
-heard_by core t walks number cut links (Accepted parts line) live is new = walks_accepted core t walks number cut parts line links live is new
-
 -- a line that a link said
-pub walks_heard : (core : CoreMeaning) (conf : ConfSeen) (t : Trace) → Walks core t → core.conf ≡ conf → (number : ℕ) (cut : Cut) (links : List LinkSeen) → is_live t number ≡ true
-    → links ≡ after_line core.conf.server number cut core.seen.links → Walks (relinked links core) (saying (setting_of conf) number cut t)
-walks_heard core conf t walks same number cut links live new =
-    subst (λ c. Walks (relinked links core) (saying (setting_of c) number cut t)) same
-    (heard_by core t walks number cut links (verdict_of core.conf.server (session_at number core.seen.links) cut) live refl new)
+pub walks_heard : (core : CoreMeaning) (t : Trace) → Walks core t → (number : ℕ) (cut : Cut) → is_live t number ≡ true
+    → Walks (with_verdict number (verdict_of (scene_at core number) cut) core) (saying (setting_of core.conf) number cut t)
+walks_heard core t walks number cut live =
+    let verdict = verdict_of (scene_at core number) cut in
+    let same : verdict ≡ verdict_of (scene_of (setting_of core.conf) t number) cut = ap (λ scene. verdict_of scene cut) (scene_now core t walks number live) in
+    subst (λ judged. Walks (with_verdict number verdict core) (Said number cut judged ∷ t)) same
+    (record { follows = follows_said (setting_of core.conf) core.seen t walks.follows walks.going number cut verdict; going = walks.going })
+
+-- what a verdict leaves as it is
+pub rest_kept : (core : CoreMeaning) (number : ℕ) (verdict : Verdict) → SameRest core (with_verdict number verdict core)
+rest_kept core number PassedOver = record { conf = refl; greatest = refl; stopped = refl }
+rest_kept core number (Refused why) = record { conf = refl; greatest = refl; stopped = refl }
+rest_kept core number (LoggedIn session) = record { conf = refl; greatest = refl; stopped = refl }
+rest_kept core number (Accepted parts line) = record { conf = refl; greatest = refl; stopped = refl }
 
 -- a link that a listener for clients opens, and one that comes elsewhere
 pub walks_served : (core : CoreMeaning) (conf : ConfSeen) (t : Trace) → Walks core t → core.conf ≡ conf → (listener k : ℕ) (kind : PortKind) (from : Addr) (links : List LinkSeen) (served : Option PortKind)
@@ -166,7 +154,7 @@ walks_served core conf t walks same listener k kind from links served some at ke
     let follows = follows_opened (setting_of core.conf) core.seen t walks.follows kind k core.seen.greatest from kept.rising above in
     let serves : Some kind ≡ kind_at (setting_of conf) listener = sym some ∙ at ∙ ap (λ c. kind_at (setting_of c) listener) same in
     subst (λ kinds. Walks (record core { seen = record core.seen { links = links; greatest = k } }) (Opened kinds k from ∷ t)) serves (record {
-      follows = record { moment = follows.moment; links = new ∙ follows.links; took = follows.took };
+      follows = record { moment = follows.moment; links = new ∙ follows.links; accepted = follows.accepted; took = follows.took };
       going = walks.going;
     })
 
@@ -177,7 +165,7 @@ walks_unserved core conf t walks same listener k from served none at kept above 
     let follows = follows_unserved (setting_of core.conf) core.seen t walks.follows k core.seen.greatest from kept.rising above in
     let serves : None ≡ kind_at (setting_of conf) listener = sym none ∙ at ∙ ap (λ c. kind_at (setting_of c) listener) same in
     subst (λ kinds. Walks (record core { seen = record core.seen { greatest = k } }) (Opened kinds k from ∷ t)) serves (record {
-      follows = record { moment = follows.moment; links = follows.links; took = follows.took };
+      follows = record { moment = follows.moment; links = follows.links; accepted = follows.accepted; took = follows.took };
       going = walks.going;
     })
 
@@ -247,4 +235,4 @@ pub follows_stop : (core : CoreMeaning) (conf : ConfSeen) (t : Trace) → Walks 
 follows_stop core conf t walks same =
     let follows = follows_stopped (setting_of core.conf) core.seen t walks.follows walks.going in
     subst (λ c. Follows (setting_of c) (record core.seen { stopped = true }) (end_all ByStop (live_links t) t)) same
-    (record { moment = follows.moment; links = follows.links; took = follows.took })
+    (record { moment = follows.moment; links = follows.links; accepted = follows.accepted; took = follows.took })

@@ -16,7 +16,7 @@ use Rattle.aprs_history.specs.declared.verdicts.Verdict.TheVariants.{PassedOver,
 use Rattle.aprs_history.specs.Setting.{Setting}
 use Rattle.aprs_history.specs.Trace.{moment_of, Trace, Entry, Ticked, Opened, Brought, Said, Roomed, Took, Lost, Ended, EndReason, FoundGone, ByPeer, ByStop, live_links, stopped_links, served_links, is_live, is_other}
 use Rattle.aprs_history.specs.Links.{brought_by, taken_by, session_of, opening_of, is_gone, gone_links}
-use Rattle.aprs_history.specs.Texts.{Queued, queued, lines_of, text_bytes, ended_line, wants, added_by, login_reply, banner, kind_wants}
+use Rattle.aprs_history.specs.Texts.{Queued, queued, lines_of, text_bytes, ended_line, wants, added_by, login_reply, refusal_reply, reply_lines, banner, kind_wants}
 use Rattle.aprs_history.specs.Stands.{LinkSeen, CoreSeen, link_seen, TookNoMore, Follows}
 use Rattle.server_core.specs.Pending.{with_line, without_bytes, pending_bytes}
 use Rattle.server_core.specs.LinkSteps.{at_link, has_that, has_number, with_room, when_gone, with_taken, with_bytes, with_text, with_session, with_packet, wants_packet, new_link_seen, numbers, number_of, is_there, is_another, is_ready}
@@ -114,6 +114,11 @@ packet_shape base lines taken line true false is le =
 packet_shape base lines taken line false false is le =
     ap (λ (q : Queued). record base { queue = q }) (ap (λ ls. queued ls taken) (append-nil lines) ∙ sym is)
 
+quiet_shape : (base : LinkSeen) (lines : List (List ℕ)) (taken : ℕ) (own : Bool) → base.queue ≡ queued lines taken
+    → record base { session = if own then base.session else base.session; queue = queued (lines ++ (if own then [] else [])) taken } ≡ base
+quiet_shape base lines taken true is = ap (λ (q : Queued). record base { queue = q }) (ap (λ ls. queued ls taken) (append-nil lines) ∙ sym is)
+quiet_shape base lines taken false is = ap (λ (q : Queued). record base { queue = q }) (ap (λ ls. queued ls taken) (append-nil lines) ∙ sym is)
+
 -- ---- what there is to keep of each link, one entry later
 
 module _ (s : Setting) where
@@ -141,14 +146,21 @@ module _ (s : Setting) where
       (λ here. let same : j ≡ k = eqb-true j k here in rw here (ap (λ i. record (link_seen s t j) { last = moment_of t; held = held_after (brought_by t i ++ bytes) }) same))
       (λ other. rw other refl) (cases_Bool (j == k))
 
-  -- a line that nothing comes of
-  pub refused_seen : (t : Trace) (k : ℕ) (cut : Cut) (refusal : Refusal) (j : ℕ) → link_seen s (Said k cut (Refused refusal) ∷ t) j ≡ link_seen s t j
+  -- a line that is refused without a reply, and one with a reply
+  pub refused_seen : (t : Trace) (k : ℕ) (cut : Cut) (why : Refusal) (j : ℕ) → None ≡ refusal_reply why → link_seen s (Said k cut (Refused why) ∷ t) j ≡ link_seen s t j
   unfolding link_seen
-  refused_seen t k cut refusal j =
-      let lines = ap (λ ls. queued ls (taken_by t j)) (append-nil (lines_of s t j)) in
-      ⊎_elim
-      (λ here. rw here (ap (λ (q : Queued). record (link_seen s t j) { queue = q }) lines))
-      (λ other. rw other (ap (λ (q : Queued). record (link_seen s t j) { queue = q }) lines)) (cases_Bool (j == k))
+  refused_seen t k cut why j none =
+      let base = link_seen s t j in
+      ap (λ reply. record base { session = if j == k then base.session else base.session; queue = queued (lines_of s t j ++ (if j == k then reply_lines reply else [])) (taken_by t j) }) (sym none)
+      ∙ quiet_shape base (lines_of s t j) (taken_by t j) (j == k) refl
+
+  pub replied_seen : (t : Trace) → TookNoMore s t → (k : ℕ) (cut : Cut) (why : Refusal) (line : List ℕ) (j : ℕ) → Some line ≡ refusal_reply why
+      → link_seen s (Said k cut (Refused why) ∷ t) j ≡ at_link k (with_text line) (link_seen s t j)
+  unfolding link_seen
+  replied_seen t took k cut why line j some =
+      let base = link_seen s t j in
+      ap (λ reply. record base { session = if j == k then base.session else base.session; queue = queued (lines_of s t j ++ (if j == k then reply_lines reply else [])) (taken_by t j) }) (sym some)
+      ∙ packet_shape base (lines_of s t j) (taken_by t j) line (j == k) (j == k) refl (took j)
 
   pub passed_seen : (t : Trace) (k : ℕ) (cut : Cut) (j : ℕ) → link_seen s (Said k cut PassedOver ∷ t) j ≡ link_seen s t j
   unfolding link_seen

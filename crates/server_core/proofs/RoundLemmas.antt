@@ -13,6 +13,7 @@ use Rattle.aprs_base.specs.declared.events.Happening.{Happening}
 use Rattle.aprs_base.specs.declared.events.Happening.TheVariants as did
 use Rattle.aprs_base.specs.declared.packets.ListenSpec.{ListenSpec}
 use Rattle.aprs_history.specs.Setting.{Setting}
+use Rattle.aprs_history.specs.Scenes.{scene_of}
 use Rattle.aprs_history.specs.Verdicts.{verdict_of}
 use Rattle.aprs_history.specs.Trace.{Trace, Entry, Said, Brought, Roomed, Ended, ByPeer, live_links, stopped_links, served_links, is_live, FoundGone, ByStop}
 use Rattle.aprs_history.specs.Links.{brought_by, session_of, gone_links, is_blocked, taken_by}
@@ -84,7 +85,7 @@ due_whole s n (e ∷ next ∷ events) h whole open_is =
 
 said_going : (s : Setting) (k : ℕ) (cuts : List Cut) (t : Trace) → stopped_links (say_all s k cuts t) ≡ stopped_links t
 said_going s k [] t = refl
-said_going s k (cut ∷ cuts) t = said_going s k cuts (Said k cut (verdict_of s.server (session_of t k) cut) ∷ t)
+said_going s k (cut ∷ cuts) t = said_going s k cuts (Said k cut (verdict_of (scene_of s t k) cut) ∷ t)
 
 if_going : (b : Bool) (t u : Trace) → stopped_links t ≡ stopped_links u → stopped_links (if b then t else u) ≡ stopped_links u
 if_going true t u same = same

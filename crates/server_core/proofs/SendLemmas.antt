@@ -56,6 +56,7 @@ stands_took core links k offered n bytes h size stands part pending new =
       follows = record {
         moment = follows.moment;
         links = new ∙ ap (λ m. map (at_link k (with_taken m n)) core.seen.links) (sym size) ∙ follows.links;
+        accepted = follows.accepted;
         took = follows.took;
       };
       greatest = stands.greatest;
@@ -70,7 +71,7 @@ stands_gone core links k bytes h stands new =
     let follows = follows_lost s core.seen (trace_of s h) stands.follows k in
     record {
       finished = stands.finished;
-      follows = record { moment = follows.moment; links = new ∙ follows.links; took = follows.took };
+      follows = record { moment = follows.moment; links = new ∙ follows.links; accepted = follows.accepted; took = follows.took };
       greatest = stands.greatest;
       stopped = stands.stopped;
     }
@@ -87,11 +88,11 @@ stands_listening s core (spec ∷ specs) n h stands = stands_listening s core sp
 })
 
 -- nothing has happened
-pub stands_new : (s : Setting) (core : CoreSeen) → core.moment ≡ 0 → core.links ≡ [] → core.greatest ≡ 0 → core.stopped ≡ false → StandsFor s core []
+pub stands_new : (s : Setting) (core : CoreSeen) → core.moment ≡ 0 → core.links ≡ [] → core.accepted ≡ [] → core.greatest ≡ 0 → core.stopped ≡ false → StandsFor s core []
 unfolding trace_of
-stands_new s core moment links greatest stopped = record {
+stands_new s core moment links accepted greatest stopped = record {
   finished = refl;
-  follows = record { moment = moment; links = links; took = λ k. omega arith };
+  follows = record { moment = moment; links = links; accepted = accepted; took = λ k. omega arith };
   greatest = greatest;
   stopped = stopped;
 }

@@ -15,11 +15,12 @@ use Rattle.aprs_history.specs.declared.verdicts.Verdict.TheVariants.{PassedOver,
 use Rattle.aprs_history.specs.Setting.{Setting}
 use Rattle.aprs_history.specs.Trace.{Trace, Entry, Ticked, Opened, Brought, Said, Roomed, Took, Lost, Ended, EndReason, FoundGone, ByPeer, ByStop, live_links, stopped_links, served_links, is_live, is_member, is_other, moment_of, last_moment}
 use Rattle.aprs_history.specs.Links.{brought_by, taken_by, session_of, opening_of, is_gone, gone_links}
-use Rattle.aprs_history.specs.Texts.{Queued, queued, lines_of, text_bytes, ended_line, wants, added_by, login_reply, banner, kind_wants}
+use Rattle.aprs_history.specs.Scenes.{accepted_of, accepted_by}
+use Rattle.aprs_history.specs.Texts.{Queued, queued, lines_of, text_bytes, ended_line, wants, added_by, login_reply, refusal_reply, banner, kind_wants}
 use Rattle.aprs_history.specs.Stands.{LinkSeen, CoreSeen, link_seen, TookNoMore, Follows}
 use Rattle.aprs_history.specs.History.{end_all, begin_round}
-use Rattle.server_core.specs.LinkSteps.{at_link, has_that, has_number, with_room, when_gone, with_taken, with_bytes, with_text, with_session, with_packet, new_link_seen, numbers, number_of, is_there, is_another, Rises}
-use Rattle.server_core.proofs.FollowLemmas.{map_through, seen-number, roomed_seen, lost_seen, took_seen, brought_seen, refused_seen, passed_seen, login_seen, accepted_seen, opened_seen, new_seen, text_size}
+use Rattle.server_core.specs.LinkSteps.{after_verdict, with_reply, at_link, has_that, has_number, with_room, when_gone, with_taken, with_bytes, with_text, with_session, with_packet, new_link_seen, numbers, number_of, is_there, is_another, Rises}
+use Rattle.server_core.proofs.FollowLemmas.{map_through, seen-number, roomed_seen, lost_seen, took_seen, brought_seen, refused_seen, replied_seen, passed_seen, login_seen, accepted_seen, opened_seen, new_seen, text_size}
 
 -- ---- lists of numbers
 
@@ -103,12 +104,13 @@ with_moment moment core = record core { moment = moment }
 module _ (s : Setting) (core : CoreSeen) (t : Trace) (follows : Follows s core t) where
   pub follows_ticked : (m : ℕ) → Follows s (with_moment (max (min m last_moment) core.moment) core) (Ticked m ∷ t)
   unfolding link_seen
-  follows_ticked m = record { moment = ap (max (min m last_moment)) follows.moment; links = follows.links; took = follows.took }
+  follows_ticked m = record { moment = ap (max (min m last_moment)) follows.moment; links = follows.links; accepted = follows.accepted; took = follows.took }
 
   pub follows_roomed : (k : ℕ) → Follows s (with_links (map (at_link k with_room) core.links) core) (Roomed k ∷ t)
   follows_roomed k = record {
     moment = follows.moment;
     links = ap (map (at_link k with_room)) follows.links ∙ sym (map_through (link_seen s (Roomed k ∷ t)) (at_link k with_room) (link_seen s t) (roomed_seen s t k) (served_links t));
+    accepted = follows.accepted;
     took = follows.took;
   }
 
@@ -116,6 +118,7 @@ module _ (s : Setting) (core : CoreSeen) (t : Trace) (follows : Follows s core t
   follows_lost k = record {
     moment = follows.moment;
     links = ap (map (at_link k when_gone)) follows.links ∙ sym (map_through (link_seen s (Lost k ∷ t)) (at_link k when_gone) (link_seen s t) (lost_seen s t k) (served_links t));
+    accepted = follows.accepted;
     took = follows.took;
   }
 
@@ -125,6 +128,7 @@ module _ (s : Setting) (core : CoreSeen) (t : Trace) (follows : Follows s core t
     moment = follows.moment;
     links = ap (map (at_link k (with_taken offered n))) follows.links
         ∙ sym (map_through (link_seen s (Took k offered n ∷ t)) (at_link k (with_taken offered n)) (link_seen s t) (took_seen s t k offered n) (served_links t));
+    accepted = follows.accepted;
     took = took_took s t follows.took k offered n le;
   }
 
@@ -136,43 +140,68 @@ module _ (s : Setting) (core : CoreSeen) (t : Trace) (follows : Follows s core t
         ∙ ap (map (at_link k (with_bytes (moment_of t) (held_after (brought_by t k ++ bytes))))) follows.links
         ∙ sym (map_through (link_seen s (Brought k bytes ∷ t)) (at_link k (with_bytes (moment_of t) (held_after (brought_by t k ++ bytes)))) (link_seen s t)
         (brought_seen s t k bytes) (served_links t));
+    accepted = follows.accepted;
     took = follows.took;
   }
 
-  pub follows_passed : (k : ℕ) (cut : Cut) → Follows s core (Said k cut PassedOver ∷ t)
+  follows_passed : (k : ℕ) (cut : Cut) → Follows s core (Said k cut PassedOver ∷ t)
   follows_passed k cut = record {
     moment = follows.moment;
     links = follows.links ∙ sym (map_on (link_seen s (Said k cut PassedOver ∷ t)) (link_seen s t) (served_links t) (λ j member. passed_seen s t k cut j));
+    accepted = follows.accepted ∙ sym (append-nil (accepted_of t));
     took = took_said s t follows.took k cut PassedOver;
   }
 
-  pub follows_refused : (k : ℕ) (cut : Cut) (refusal : Refusal) → Follows s core (Said k cut (Refused refusal) ∷ t)
-  follows_refused k cut refusal = record {
+  follows_told : (k : ℕ) (cut : Cut) (why : Refusal) (reply : Option (List ℕ)) → reply ≡ refusal_reply why
+      → Follows s (with_links (with_reply k reply core.links) core) (Said k cut (Refused why) ∷ t)
+  follows_told k cut why None none = record {
     moment = follows.moment;
-    links = follows.links ∙ sym (map_on (link_seen s (Said k cut (Refused refusal) ∷ t)) (link_seen s t) (served_links t) (λ j member. refused_seen s t k cut refusal j));
-    took = took_said s t follows.took k cut (Refused refusal);
+    links = follows.links ∙ sym (map_on (link_seen s (Said k cut (Refused why) ∷ t)) (link_seen s t) (served_links t) (λ j member. refused_seen s t k cut why j none));
+    accepted = follows.accepted ∙ sym (append-nil (accepted_of t));
+    took = took_said s t follows.took k cut (Refused why);
+  }
+  follows_told k cut why (Some line) some = record {
+    moment = follows.moment;
+    links = ap (map (at_link k (with_text line))) follows.links
+        ∙ sym (map_through (link_seen s (Said k cut (Refused why) ∷ t)) (at_link k (with_text line)) (link_seen s t)
+        (λ j. replied_seen s t follows.took k cut why line j some) (served_links t));
+    accepted = follows.accepted ∙ sym (append-nil (accepted_of t));
+    took = took_said s t follows.took k cut (Refused why);
   }
 
-  pub follows_login : (k : ℕ) (cut : Cut) (session : Session)
+  follows_refused : (k : ℕ) (cut : Cut) (why : Refusal) → Follows s (with_links (with_reply k (refusal_reply why) core.links) core) (Said k cut (Refused why) ∷ t)
+  follows_refused k cut why = follows_told k cut why (refusal_reply why) refl
+
+  follows_login : (k : ℕ) (cut : Cut) (session : Session)
       → Follows s (with_links (map (at_link k (with_session session (login_reply s.server session))) core.links) core) (Said k cut (LoggedIn session) ∷ t)
   follows_login k cut session = record {
     moment = follows.moment;
     links = ap (map (at_link k (with_session session (login_reply s.server session)))) follows.links
         ∙ sym (map_through (link_seen s (Said k cut (LoggedIn session) ∷ t)) (at_link k (with_session session (login_reply s.server session))) (link_seen s t)
         (login_seen s t follows.took k cut session) (served_links t));
+    accepted = follows.accepted ∙ sym (append-nil (accepted_of t));
     took = took_said s t follows.took k cut (LoggedIn session);
   }
 
-  pub follows_accepted : stopped_links t ≡ [] → (k : ℕ) (cut : Cut) (parts : Parts) (line : List ℕ)
-      → Follows s (with_links (map (with_packet k line) core.links) core) (Said k cut (Accepted parts line) ∷ t)
+  follows_accepted : stopped_links t ≡ [] → (k : ℕ) (cut : Cut) (parts : Parts) (line : List ℕ)
+      → Follows s (after_verdict s.server k (Accepted parts line) core) (Said k cut (Accepted parts line) ∷ t)
   follows_accepted going k cut parts line = record {
     moment = follows.moment;
     links = ap (map (with_packet k line)) follows.links
         ∙ map_twice (with_packet k line) (link_seen s t) (served_links t)
         ∙ sym (map_on (link_seen s (Said k cut (Accepted parts line) ∷ t)) (λ j. with_packet k line (link_seen s t j)) (served_links t)
         (λ j member. accepted_seen s t follows.took k cut parts line j (subst (λ stopped. is_member j (stopped ++ live_links t) ≡ true) going member)));
+    accepted = ap (λ m. core.accepted ++ accepted_by k m (Accepted parts line)) follows.moment
+        ∙ ap (λ packets. packets ++ accepted_by k (moment_of t) (Accepted parts line)) follows.accepted;
     took = took_said s t follows.took k cut (Accepted parts line);
   }
+
+  -- whatever becomes of a line
+  pub follows_said : stopped_links t ≡ [] → (k : ℕ) (cut : Cut) (verdict : Verdict) → Follows s (after_verdict s.server k verdict core) (Said k cut verdict ∷ t)
+  follows_said going k cut PassedOver = follows_passed k cut
+  follows_said going k cut (Refused why) = follows_refused k cut why
+  follows_said going k cut (LoggedIn session) = follows_login k cut session
+  follows_said going k cut (Accepted parts line) = follows_accepted going k cut parts line
 
   numbers_are : numbers core.links ≡ served_links t
   numbers_are = ap numbers follows.links ∙ numbers_seen s t (served_links t)
@@ -196,6 +225,7 @@ module _ (s : Setting) (core : CoreSeen) (t : Trace) (follows : Follows s core t
             ∙ ap (λ l. map seen (served_links t) ++ l ∷ []) (sym (new_seen s t kind k from))
             ∙ sym (map_push seen (served_links t) k)
             ∙ ap (map seen) (append_assoc (stopped_links t) (live_links t) (k ∷ []));
+        accepted = follows.accepted;
         took = took_opened s t follows.took (Some kind) k from;
       }
 
@@ -204,6 +234,7 @@ module _ (s : Setting) (core : CoreSeen) (t : Trace) (follows : Follows s core t
   follows_unserved k high from rises above = record {
     moment = follows.moment;
     links = follows.links ∙ opened_kept None k high from rises above ∙ ap (λ ks. map (link_seen s (Opened None k from ∷ t)) (stopped_links t ++ ks)) (sym (append-nil (live_links t)));
+    accepted = follows.accepted;
     took = took_opened s t follows.took None k from;
   }
 
@@ -235,6 +266,7 @@ module _ (s : Setting) (core : CoreSeen) (t : Trace) (follows : Follows s core t
         ∙ filter_seen (is_another k) (is_other k) (live_links t) (another_seen k)
         ∙ sym (ended_seen k ByPeer (filter (is_other k) (live_links t)))
         ∙ ap (λ stopped. map (link_seen s (Ended k ByPeer ∷ t)) (stopped ++ filter (is_other k) (live_links t))) (sym (append-nil (stopped_links t) ∙ going));
+    accepted = follows.accepted;
     took = follows.took;
   }
 
@@ -257,6 +289,9 @@ same_after f same reason (k ∷ ks) t = same_after f same reason ks (Ended k rea
 
 pub moment_after : (reason : EndReason) (ks : List ℕ) (t : Trace) → moment_of (end_all reason ks t) ≡ moment_of t
 moment_after = same_after moment_of (λ k reason t. refl)
+
+accepted_after : (reason : EndReason) (ks : List ℕ) (t : Trace) → accepted_of (end_all reason ks t) ≡ accepted_of t
+accepted_after = same_after accepted_of (λ k reason t. refl)
 
 pub seen_after : (s : Setting) (reason : EndReason) (ks : List ℕ) (t : Trace) (j : ℕ) → link_seen s (end_all reason ks t) j ≡ link_seen s t j
 unfolding link_seen
@@ -369,6 +404,7 @@ module _ (s : Setting) (core : CoreSeen) (t : Trace) (follows : Follows s core t
         ∙ sym (map_on (link_seen s (begin_round t)) (link_seen s t) (filter (λ j. not (is_gone t j)) (live_links t)) (λ j member. seen_after s FoundGone (gone_links t) t j))
         ∙ ap (map (link_seen s (begin_round t))) (sym (live_after FoundGone (gone_links t) t ∙ left_failing (is_gone t) (live_links t)))
         ∙ ap (λ stopped. map (link_seen s (begin_round t)) (stopped ++ live_links (begin_round t))) (sym (going_after (gone_links t) t ∙ going));
+    accepted = follows.accepted ∙ sym (accepted_after FoundGone (gone_links t) t);
     took = took_after s FoundGone (gone_links t) t follows.took;
   }
 
@@ -383,5 +419,6 @@ module _ (s : Setting) (core : CoreSeen) (t : Trace) (follows : Follows s core t
         ap (λ stopped. stopped ++ live_links (end_all ByStop (live_links t) t)) (stopped_after (live_links t) t)
         ∙ ap (λ live. (stopped_links t ++ live_links t) ++ live) (live_after ByStop (live_links t) t ∙ left_none (live_links t))
         ∙ append-nil (stopped_links t ++ live_links t)));
+    accepted = follows.accepted ∙ sym (accepted_after ByStop (live_links t) t);
     took = took_after s ByStop (live_links t) t follows.took;
   }

@@ -1,16 +1,18 @@
 -- What each happening changes of a link.
-use Rattle.std.specs.Prelude.{◌≡◌, ℕ, ◌+◌, ◌<◌, ◌==◌, ◌≤◌, Bool, true, false, nat_lt, List, [], ◌∷◌, length, map, not, ◌&&◌, is_some, Option, Some, None, if◌then◌else◌}
-use Rattle.std.specs.List.{list_any}
+use Rattle.std.specs.Prelude.{◌≡◌, ℕ, ◌+◌, ◌<◌, ◌==◌, ◌≤◌, Bool, true, false, nat_lt, List, [], ◌∷◌, ◌++◌, length, map, filter, not, ◌&&◌, is_some, Option, Some, None, if◌then◌else◌}
+use Rattle.std.specs.List.{list_any, flat_map}
+use Rattle.std.specs.Option.{option_map}
+use Rattle.aprs_base.specs.PacketSeen.{PacketSeen}
+use Rattle.aprs_base.specs.Bytes.{is_station}
 use Rattle.aprs_base.specs.Held.{Held, held_after}
 use Rattle.aprs_history.specs.declared.verdicts.Session.{Session}
-use Rattle.aprs_history.specs.Stands.{LinkSeen}
+use Rattle.aprs_history.specs.Stands.{LinkSeen, CoreSeen}
 use Rattle.aprs_history.specs.Trace.{is_member}
 use Rattle.aprs_history.specs.Links.{Opening}
-use Rattle.aprs_base.specs.declared.cutting.Cut.{Cut}
 use Rattle.aprs_history.specs.declared.verdicts.Verdict.{Verdict}
 use Rattle.aprs_history.specs.declared.verdicts.Verdict.TheVariants.{PassedOver, Refused, LoggedIn, Accepted}
-use Rattle.aprs_history.specs.Verdicts.{verdict_of}
-use Rattle.aprs_history.specs.Texts.{kind_wants, banner, login_reply}
+use Rattle.aprs_history.specs.Scenes.{accepted_by, is_only, verified_login}
+use Rattle.aprs_history.specs.Texts.{kind_wants, banner, login_reply, refusal_reply}
 use Rattle.server_core.specs.Pending.{with_line, without_bytes, pending_bytes}
 
 abbrev pub has_that : ℕ → LinkSeen → Bool
@@ -108,16 +110,42 @@ is_there link = not link.gone
 abbrev pub is_another : ℕ → LinkSeen → Bool
 is_another number link = not (link.link == number)
 
--- the links after a verdict on what one of them said
-abbrev pub after_verdict : List ℕ → ℕ → Verdict → List LinkSeen → List LinkSeen
-after_verdict server number PassedOver links = links
-after_verdict server number (Refused refusal) links = links
-after_verdict server number (LoggedIn session) links = map (at_link number (with_session session (login_reply server session))) links
-after_verdict server number (Accepted parts line) links = map (with_packet number line) links
+-- whether it serves clients alone
+abbrev pub only_kept : LinkSeen → Bool
+only_kept link = is_only link.opening
 
--- the links after one of them said a line
-abbrev pub after_line : List ℕ → ℕ → Cut → List LinkSeen → List LinkSeen
-after_line server number cut links = after_verdict server number (verdict_of server (session_at number links) cut) links
+abbrev pub only_at : ℕ → List LinkSeen → Bool
+only_at number links = picked_at only_kept false number links
+
+-- a login is a station's call
+abbrev pub is_login : Option Session → Bool
+is_login None = true
+is_login (Some session) = is_station session.call
+
+abbrev pub list_of : {X : Type 0} → Option X → List X
+list_of None = []
+list_of (Some x) = x ∷ []
+
+-- the logins of the verified links, but of that number
+abbrev pub other_login : ℕ → LinkSeen → List (List ℕ)
+other_login number link = if is_another number link then verified_login link.session else []
+
+abbrev pub others_at : ℕ → List LinkSeen → List (List ℕ)
+others_at number links = flat_map (other_login number) links
+
+-- the links after a reply to one of them, where there is one
+abbrev pub with_reply : ℕ → Option (List ℕ) → List LinkSeen → List LinkSeen
+with_reply number None links = links
+with_reply number (Some line) links = map (at_link number (with_text line)) links
+
+-- what is kept after a verdict on what a link said
+abbrev pub after_verdict : List ℕ → ℕ → Verdict → CoreSeen → CoreSeen
+after_verdict server number PassedOver core = core
+after_verdict server number (Refused why) core = record core { links = with_reply number (refusal_reply why) core.links }
+after_verdict server number (LoggedIn session) core =
+    record core { links = map (at_link number (with_session session (login_reply server session))) core.links }
+after_verdict server number (Accepted parts line) core =
+    record core { links = map (with_packet number line) core.links; accepted = core.accepted ++ accepted_by number core.moment (Accepted parts line) }
 
 -- each of these numbers is a link's
 abbrev pub AreServed : List ℕ → List LinkSeen → Type 0

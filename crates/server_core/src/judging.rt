@@ -1,147 +1,128 @@
 //! The verdict on a line.
-ghost use Rattle.std.specs.Prelude.{◌≡◌, List, ℕ, IsTrue, option_map};
-ghost use Rattle.std.specs.List.{list_any};
-ghost use Rattle.aprs_base.specs.Bytes.{IsCall, is_station};
-ghost use Rattle.aprs_base.specs.declared.cutting.Cut.{Cut};
-ghost use Rattle.aprs_history.specs.Verdicts.{client_path, ends_in_i, fitting, is_no_gate, is_not_for_others, is_own_packet, line_verdict, login_verdict, packet_verdict, verdict_of, with_client_path};
+ghost use Rattle.std.specs.Prelude.{◌≡◌, ◌-◌, ◌≤◌, ◌&&◌, List, ℕ, IsTrue, IfOk, Result, length, take, nat_lt};
+ghost use Rattle.std.specs.List.{list_any, suffix_len};
+ghost use Rattle.aprs_base.specs.Bytes.{is_blank, is_station};
+ghost use Rattle.aprs_history.specs.Keys.{Key, is_same_key, is_text, key_of, without_last_blanks};
+ghost use Rattle.aprs_history.specs.Verdicts.{is_comment, is_duplicate, is_repeat, login_verdict, packet_verdict, read_and_routed, routed};
 ghost use Rattle.login_pass.specs.Login.{login_of};
-ghost use Rattle.tnc2_line.specs.Packet.{IsParts, parts_of};
+ghost use Rattle.q_construct.specs.Rule.{has_station, process_of};
+ghost use Rattle.tnc2_line.specs.Packet.{IsParts, parts_of, text_of};
 
-use aprs_base::{Call, Cut, Line, Parts, Via, copy_call};
+use aprs_base::{Call, Line, Packet, Parts};
 use aprs_history::{Refusal, Session, Verdict};
-use arrayvec::ArrayVec;
 use login_pass::read_login;
-use tnc2_line::{construct, read, write};
+use q_construct::{Origin, process};
+use tnc2_line::{read, write};
 
-/// The verdict on what a link said.
-pub(crate) fn judge(server: &Call, session: Option<&Session>, cut: &Cut) -> Verdict
-    requires { IsTrue (is_station server.now) }
-    ensures { result ≡ verdict_of server.now (option_map (λ s. s.now) session.entry) cut.now }
+/// For how many seconds a packet is taken as a copy of one that was accepted.
+const DUPLICATE_SECONDS: u64 = 30;
+
+/// Whether a line is a comment or a command.
+pub(crate) fn is_comment_line(line: &Line) -> bool
+    ensures { result ≡ is_comment line.now }
 {
-    match cut {
-        Cut::Long => Verdict::Refused(Refusal::Long),
-        Cut::Line(line) => judge_line(server, session, line),
-    }
+    line.bytes().starts_with(b"#")
 }
 
-fn judge_line(server: &Call, session: Option<&Session>, line: &Line) -> Verdict
-    requires { IsTrue (is_station server.now) }
-    ensures { result ≡ verdict_of server.now (option_map (λ s. s.now) session.entry) (Cut.Line line.now) }
-{
-    if line.bytes().starts_with(b"#") {
-        return Verdict::PassedOver;
-    }
-    match session {
-        None => judge_login(server, line),
-        Some(session) => judge_packet(server, &session.call, line),
-    }
-}
-
-/// A login is good where it is verified, asks for no filter, and isn't the server's own.
-fn judge_login(server: &Call, line: &Line) -> Verdict
+/// The verdict on a login, which is good where it isn't the server's own call.
+pub(crate) fn judge_login(server: &Call, line: &Line) -> Verdict
     ensures { result ≡ login_verdict server.now (login_of line.now) }
 {
-    let Ok(login) = read_login(line) else {
-        return Verdict::Refused(Refusal::NotBuilt);
-    };
-    if !login.verified() || login.filter.is_some() || login.call == *server {
-        return Verdict::Refused(Refusal::NotBuilt);
-    }
-    Verdict::LoggedIn(Session {
-        call: login.call,
-        verified: true,
-    })
-}
-
-/// A packet is good where it is the link's own and nothing keeps it off the network.
-fn judge_packet(server: &Call, login: &Call, line: &Line) -> Verdict
-    requires { IsTrue (is_station server.now) }
-    ensures { result ≡ packet_verdict server.now login.now (parts_of line.now) }
-{
-    let Ok(parts) = read(line) else {
-        return Verdict::Refused(Refusal::NotBuilt);
-    };
-    if !is_own(login, &parts) {
-        return Verdict::Refused(Refusal::NotBuilt);
-    }
-    send_on(on_client_path(server, parts))
-}
-
-fn is_own(login: &Call, parts: &Parts) -> bool
-    ensures { result ≡ is_own_packet login.now parts.now }
-{
-    parts.source == *login
-        && construct(parts).is_none()
-        && !ends_in_element_i(parts.vias.as_slice())
-        && !has_no_gate(parts.vias.as_slice())
-        && !is_for_nobody(parts.body.as_slice())
-}
-
-fn ends_in_element_i(vias: &[Via]) -> bool
-    ensures { result ≡ ends_in_i vias.now }
-{
-    match vias.last() {
-        Some(via) => via.call.bytes() == b"I".as_slice() && !via.star,
-        None => false,
+    match read_login(line) {
+        Err(fault) => Verdict::Refused(Refusal::Login(fault)),
+        Ok(login) if login.call == *server => Verdict::Refused(Refusal::OwnName),
+        Ok(login) => {
+            let verified = login.verified();
+            Verdict::LoggedIn(Session {
+                call: login.call,
+                verified,
+            })
+        }
     }
 }
 
-/// Whether an element keeps the packet off the network.
-fn keeps_off(via: &Via) -> bool
-    ensures { result ≡ is_no_gate via.now }
+/// The packet that a line is, as it goes on from this server.
+fn route(server: &Call, origin: &Origin, others: &[Call], line: &Line) -> Result<Parts, Refusal>
+    requires server { IsTrue (is_station server.now) }
+    requires origin { IsTrue (has_station origin.now) }
+    ensures exact { result ≡ read_and_routed server.now origin.now others.now (parts_of line.now) }
+    ensures sound { IfOk result (λ parts. IsParts parts × (length (text_of parts) ≤ 510)) }
 {
-    let call = via.call.bytes();
-    call == b"NOGATE".as_slice() || call == b"RFONLY".as_slice() || call == b"TCPXX".as_slice()
-}
-
-fn has_no_gate(vias: &[Via]) -> bool
-    ensures { result ≡ list_any is_no_gate vias.now }
-{
-    vias.iter().any(|via| keeps_off(via))
-}
-
-/// Whether the body is a third-party packet or a query.
-fn is_for_nobody(body: &[u8]) -> bool
-    ensures { result ≡ is_not_for_others body.now }
-{
-    body.starts_with(b"}") || body.starts_with(b"?")
-}
-
-/// The packet with the path of a verified client: `TCPIP*,qAC,SERVER`.
-fn on_client_path(server: &Call, parts: Parts) -> Parts
-    ensures { result ≡ with_client_path server.now parts }
-{
-    let mut vias = ArrayVec::new();
-    vias.push(Via {
-        call: known_call(b"TCPIP"),
-        star: true,
-    });
-    vias.push(Via {
-        call: known_call(b"qAC"),
-        star: false,
-    });
-    vias.push(Via {
-        call: copy_call(server),
-        star: false,
-    });
-    Parts { vias, ..parts }
-}
-
-/// The packet and its line, where it has 510 bytes at most.
-fn send_on(parts: Parts) -> Verdict
-    requires { IsParts parts }
-    ensures { result ≡ fitting parts }
-{
-    match write(&parts) {
-        Ok(line) => Verdict::Accepted(parts, line),
-        Err(_) => Verdict::Refused(Refusal::TooLong),
+    match read(line) {
+        Ok(parts) => process(&parts, origin, server, others).map_err(Refusal::Path),
+        Err(fault) => Err(Refusal::Packet(fault)),
     }
 }
 
-/// A call whose text is known to be one.
-fn known_call(text: &[u8]) -> Call
-    requires { IsCall text.now }
-    ensures { result ≡ text.now }
+/// How many blanks a text ends with.
+fn last_blanks(text: &[u8]) -> usize
+    ensures { result ≡ suffix_len is_blank text.now }
 {
-    Call::read(text).unwrap()
+    text.iter().rev().take_while(|byte| **byte == b' ').count()
+}
+
+/// The text without the blanks at its end.
+fn without_blanks(text: &[u8]) -> &[u8]
+    ensures { result.now ≡ without_last_blanks text.now }
+{
+    &text[..text.len().saturating_sub(last_blanks(text))]
+}
+
+/// Whether two packets are the same but for their ways: source, destination without its SSID, and body without the blanks
+/// at its end.
+fn is_same(parts: &Parts, other: &Parts) -> bool
+    ensures { result ≡ is_same_key (key_of parts.now) (key_of other.now) }
+{
+    parts.source.bytes() == other.source.bytes()
+        && parts.dest.base() == other.dest.base()
+        && without_blanks(parts.body.as_slice()) == without_blanks(other.body.as_slice())
+}
+
+/// Whether the packet was accepted before, and that less than 30 seconds ago.
+fn is_repeat(moment: u64, parts: &Parts, packet: &Packet) -> bool
+    ensures { result ≡ is_repeat moment (key_of parts.now) packet.now }
+{
+    moment.saturating_sub(packet.moment) < DUPLICATE_SECONDS && is_same(parts, &packet.parts)
+}
+
+fn is_duplicate(moment: u64, accepted: &[Packet], parts: &Parts) -> bool
+    ensures { result ≡ is_duplicate moment accepted.now parts.now }
+{
+    accepted.iter().any(|packet| is_repeat(moment, parts, packet))
+}
+
+/// The verdict on a packet from there. `others` are the logins of the other verified links, and `accepted` the packets that
+/// were accepted up to this moment.
+pub(crate) fn judge_packet(
+    server: &Call,
+    origin: &Origin,
+    others: &[Call],
+    moment: u64,
+    accepted: &[Packet],
+    line: &Line,
+) -> Verdict
+    requires server { IsTrue (is_station server.now) }
+    requires origin { IsTrue (has_station origin.now) }
+    ensures { result ≡ packet_verdict moment accepted.now (read_and_routed server.now origin.now others.now (parts_of line.now)) }
+{
+    match route(server, origin, others, line) {
+        Err(refusal) => Verdict::Refused(refusal),
+        Ok(parts) if is_duplicate(moment, accepted, &parts) => Verdict::Refused(Refusal::Duplicate),
+        Ok(parts) => {
+            let line = line_of(&parts);
+            Verdict::Accepted(parts, line)
+        }
+    }
+}
+
+/// The line of a packet that isn't too long.
+fn line_of(parts: &Parts) -> Line
+    requires sound { IsParts parts.now }
+    requires short { length (text_of parts.now) ≤ 510 }
+    ensures { result ≡ text_of parts.now }
+{
+    match write(parts) {
+        Ok(line) => line,
+        Err(_) => unreachable!(),
+    }
 }

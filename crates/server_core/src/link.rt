@@ -1,18 +1,20 @@
 //! What the core keeps of a link.
-ghost use Rattle.std.specs.Prelude.{◌≡◌, IsTrue, ℕ, ◌≤◌, ◌<◌, List, ◌++◌, Some, None, OnOk, IfOk, length, min, take, map, option_map, true, false};
+ghost use Rattle.std.specs.Prelude.{◌≡◌, IsTrue, IfSome, ℕ, ◌≤◌, ◌<◌, List, ◌++◌, Some, None, OnOk, IfOk, length, min, take, map, option_map, true, false};
 ghost use Rattle.std.specs.Arc.{arc_value};
 ghost use Rattle.aprs_base.specs.Held.{held_after};
-ghost use Rattle.server_core.specs.LinkSteps.{is_ready, new_link_seen, number_of, wants_packet, when_gone, with_bytes, with_packet, with_room, with_session, with_taken, with_text};
+ghost use Rattle.server_core.specs.LinkSteps.{is_ready, list_of, new_link_seen, number_of, wants_packet, when_gone, with_bytes, with_packet, with_room, with_session, with_taken, with_text};
 ghost use Rattle.aprs_base.specs.Bytes.{IsLine, is_station};
-ghost use Rattle.aprs_history.specs.Verdicts.{verdict_of};
+ghost use Rattle.aprs_history.specs.Verdicts.{client_origin};
+ghost use Rattle.aprs_history.specs.Scenes.{is_only, is_only_kind, verified_login};
+ghost use Rattle.q_construct.specs.Rule.{has_station};
 ghost use Rattle.aprs_base.specs.Cuts.{cuts_by};
 ghost use Rattle.aprs_history.specs.Texts.{is_full_kind};
 ghost use Rattle.server_core.specs.Pending.{pending_bytes};
 
-use crate::judging::judge;
 use crate::queue::Queue;
-use aprs_base::{Addr, Call, Cut, Cutter, Line, Memory, PortKind};
-use aprs_history::{Session, Verdict};
+use aprs_base::{Addr, Call, Cut, Cutter, Line, Memory, PortKind, copy_call};
+use aprs_history::Session;
+use q_construct::Origin;
 use std::alloc::Global;
 use std::marker::Model;
 use std::sync::Arc;
@@ -34,7 +36,9 @@ pub(crate) struct Link {
 
 impl Model for Link {
     ghost use Rattle.std.specs.Prelude.{Some};
+    ghost use Rattle.std.specs.Prelude.{IsTrue};
     ghost use Rattle.aprs_history.specs.Stands.{LinkSeen};
+    ghost use Rattle.server_core.specs.LinkSteps.{is_login};
 
     ghost Value = { LinkSeen };
 
@@ -48,6 +52,8 @@ impl Model for Link {
       blocked = l.blocked;
       gone = l.gone;
     } };
+
+    ghost invariant = { λ l. IsTrue (is_login l.session) };
 }
 
 impl Link {
@@ -96,6 +102,7 @@ impl Link {
 
     /// The link has logged in, and is told so.
     pub fn log_in(&mut self, session: Session, reply: Arc<Line>) -> Result<(), Memory>
+        requires { IsTrue (is_station session.call) }
         ensures number { self.new.link ≡ self.old.link }
         ensures ok { OnOk result (self.new ≡ with_session session (arc_value reply) self.old) }
     {
@@ -104,12 +111,29 @@ impl Link {
         Ok(())
     }
 
-    /// The verdict on what it said.
-    pub fn judge(&self, server: &Call, cut: &Cut) -> Verdict
-        requires { IsTrue (is_station server.now) }
-        ensures { result ≡ verdict_of server.now self.now.session cut.now }
+    /// Where its lines come from, once it has logged in.
+    pub fn origin(&self) -> Option<Origin>
+        ensures value { result ≡ option_map (client_origin (is_only self.now.opening)) self.now.session }
+        ensures station { IfSome result (λ origin. IsTrue (has_station origin)) }
     {
-        judge(server, self.session.as_ref(), cut)
+        match &self.session {
+            Some(session) => Some(Origin::Client {
+                login: copy_call(&session.call),
+                verified: session.verified,
+                only: serves_clients_alone(self.kind),
+            }),
+            None => None,
+        }
+    }
+
+    /// Its login, where it is verified.
+    pub fn verified_call(&self) -> Option<Call>
+        ensures { list_of result ≡ verified_login self.now.session }
+    {
+        match &self.session {
+            Some(session) if session.verified => Some(copy_call(&session.call)),
+            _ => None,
+        }
     }
 
     /// Whether it is sent a packet that came from another link.
@@ -144,7 +168,8 @@ impl Link {
         self.queue.front_bytes(out)
     }
 
-    fn push(&mut self, line: Arc<Line>) -> Result<(), Memory>
+    /// Takes a line, which it is sent after those before.
+    pub fn push(&mut self, line: Arc<Line>) -> Result<(), Memory>
         ensures number { self.new.link ≡ self.old.link }
         ensures ok { OnOk result (self.new ≡ with_text (arc_value line) self.old) }
     {
@@ -186,6 +211,16 @@ fn is_full(kind: PortKind) -> bool
 {
     match kind {
         PortKind::Full => true,
+        _ => false,
+    }
+}
+
+/// Whether a port of this kind serves clients alone.
+fn serves_clients_alone(kind: PortKind) -> bool
+    ensures { result ≡ is_only_kind kind }
+{
+    match kind {
+        PortKind::Only => true,
         _ => false,
     }
 }

@@ -1,19 +1,19 @@
 //! The links of the core, in the order of their numbers.
-ghost use Rattle.std.specs.Prelude.{◌≡◌, ℕ, ◌≤◌, ◌<◌, ◌^◌, ◌++◌, [], IsTrue, List, None, Some, OnOk, IfOk, min, take, MatchOption, IsSome, length, map, slice_get, option_map, position, filter, not, true, false};
+ghost use Rattle.std.specs.Prelude.{◌≡◌, ℕ, ◌≤◌, ◌<◌, ◌^◌, ◌++◌, [], IsTrue, List, None, Some, OnOk, IfOk, min, take, MatchOption, IfSome, IsSome, length, map, slice_get, option_map, position, filter, not, true, false};
 ghost use Rattle.std.specs.Arc.{arc_value};
 ghost use Rattle.aprs_history.specs.Stands.{LinkSeen};
-ghost use Rattle.server_core.specs.LinkSteps.{Rises, after_line, at_link, number_of, has_that, held_at, is_another, is_ready, is_there, numbers, pending_at, session_at, when_gone, with_bytes, with_packet, with_room, with_session, with_taken};
+ghost use Rattle.server_core.specs.LinkSteps.{Rises, at_link, list_of, only_at, other_login, others_at, number_of, has_that, held_at, is_another, is_ready, is_there, numbers, pending_at, session_at, when_gone, with_bytes, with_packet, with_room, with_session, with_taken, with_text};
 ghost use Rattle.aprs_base.specs.Bytes.{is_station};
 ghost use Rattle.aprs_base.specs.Cuts.{cuts_by};
 ghost use Rattle.aprs_base.specs.Held.{held_after};
-ghost use Rattle.aprs_history.specs.Verdicts.{verdict_of};
+ghost use Rattle.aprs_history.specs.Verdicts.{client_origin};
+ghost use Rattle.q_construct.specs.Rule.{has_station};
 ghost use Rattle.server_core.specs.Pending.{pending_bytes};
 
-use crate::judging::judge;
 use crate::link::Link;
-use crate::replies::login_line;
 use aprs_base::{Call, Cut, Line, Memory};
-use aprs_history::{Session, Verdict};
+use aprs_history::Session;
+use q_construct::Origin;
 use std::alloc::Global;
 use std::sync::Arc;
 
@@ -116,14 +116,52 @@ pub(crate) fn all(alloc: Global, links: &[Link]) -> Result<Vec<u32>, Memory>
     Ok(numbers)
 }
 
-/// The verdict on what the link of that number said.
-pub(crate) fn judge_at(server: &Call, links: &[Link], number: u32, cut: &Cut) -> Verdict
-    requires { IsTrue (is_station server.now) }
-    ensures { result ≡ verdict_of server.now (session_at number links.now) cut.now }
+/// Where the lines of that link come from, once it has logged in.
+pub(crate) fn origin_at(links: &[Link], number: u32) -> Option<Origin>
+    ensures value { result ≡ option_map (client_origin (only_at number links.now)) (session_at number links.now) }
+    ensures station { IfSome result (λ origin. IsTrue (has_station origin)) }
 {
     match place_of(links, number) {
-        Some(place) => links[place].judge(server, cut),
-        None => judge(server, None, cut),
+        Some(place) => links[place].origin(),
+        None => None,
+    }
+}
+
+/// The login of a link, where it is verified and the link's number is another.
+fn other_call(link: &Link, number: u32) -> Option<Call>
+    ensures { list_of result ≡ other_login number link.now }
+{
+    if link.number == number {
+        return None;
+    }
+    link.verified_call()
+}
+
+/// The logins of the verified links, but of that number.
+pub(crate) fn others(alloc: Global, links: &[Link], number: u32) -> Result<Vec<Call>, Memory>
+    ensures { IfOk result (λ calls. calls.items ≡ others_at number links.now) }
+{
+    let mut calls = Vec::new(alloc);
+    for link in links {
+        if let Some(call) = other_call(link, number) {
+            calls.push(call)?;
+        }
+    }
+    Ok(calls)
+}
+
+/// A line for the link of that number.
+pub(crate) fn reply(links: &mut Vec<Link>, number: u32, line: Arc<Line>) -> Result<(), Memory>
+    requires { Rises 0 (numbers links.old.items) (2 ^ 32) }
+    ensures numbers { numbers links.new.items ≡ numbers links.old.items }
+    ensures ok { OnOk result (links.new.items ≡ map (at_link number (with_text (arc_value line))) links.old.items) }
+{
+    match place_of(links.as_slice(), number) {
+        Some(place) => {
+            links[place].push(line)?;
+            Ok(())
+        }
+        None => Ok(()),
     }
 }
 
@@ -134,7 +172,8 @@ pub(crate) fn log_in(
     session: Session,
     reply: Arc<Line>,
 ) -> Result<(), Memory>
-    requires { Rises 0 (numbers links.old.items) (2 ^ 32) }
+    requires rises { Rises 0 (numbers links.old.items) (2 ^ 32) }
+    requires station { IsTrue (is_station session.call) }
     ensures numbers { numbers links.new.items ≡ numbers links.old.items }
     ensures ok { OnOk result (links.new.items ≡ map (at_link number (with_session session (arc_value reply))) links.old.items) }
 {
@@ -169,34 +208,5 @@ pub(crate) fn bring(
             Ok(cuts)
         }
         None => Ok(cuts),
-    }
-}
-
-/// What the link of that number said: it is judged, and what comes of it is done.
-pub(crate) fn hear(
-    alloc: Global,
-    server: &Call,
-    links: &mut Vec<Link>,
-    number: u32,
-    cut: &Cut,
-) -> Result<(), Memory>
-    requires rises { Rises 0 (numbers links.old.items) (2 ^ 32) }
-    requires station { IsTrue (is_station server.now) }
-    ensures numbers { numbers links.new.items ≡ numbers links.old.items }
-    ensures ok { OnOk result (links.new.items ≡ after_line server.now number cut.now links.old.items) }
-{
-    match judge_at(server, links.as_slice(), number, cut) {
-        Verdict::PassedOver => Ok(()),
-        Verdict::Refused(_) => Ok(()),
-        Verdict::LoggedIn(session) => {
-            let reply = Arc::new(alloc, login_line(server, &session))?;
-            log_in(links, number, session, reply)?;
-            Ok(())
-        }
-        Verdict::Accepted(_, line) => {
-            let line = Arc::new(alloc, line)?;
-            share(links, number, &line)?;
-            Ok(())
-        }
     }
 }

@@ -7,17 +7,19 @@ ghost use Rattle.aprs_history.specs.Trace.{Trace, Entry, EndReason, Brought, ByP
 ghost use Rattle.aprs_history.specs.Links.{brought_by, session_of};
 ghost use Rattle.aprs_base.specs.Cuts.{cuts_by};
 ghost use Rattle.aprs_history.specs.Setting.{kind_at};
-ghost use Rattle.aprs_history.specs.Verdicts.{verdict_of};
+ghost use Rattle.aprs_history.specs.Scenes.{accepted_by};
+ghost use Rattle.aprs_history.specs.Verdicts.{line_verdict, verdict_of};
+ghost use Rattle.aprs_history.specs.declared.verdicts.Verdict.{Verdict};
 ghost use Rattle.aprs_history.specs.Stands.{Follows};
 ghost use Rattle.aprs_history.specs.History.{History, begin_round, end_all, greater_link, is_stop, say_all, trace_of, with_bytes_of, with_event};
 ghost use Rattle.aprs_history.specs.Rounds.{AreFresh, events_trace, greatest_after, is_whole, only_listens, stopped_after, with_events};
 ghost use Rattle.aprs_history.specs.Texts.{untaken};
-ghost use Rattle.server_core.specs.LinkSteps.{AreServed, Rises, has_number, is_ready, number_of, numbers, pending_at};
+ghost use Rattle.server_core.specs.LinkSteps.{AreServed, Rises, has_number, is_ready, number_of, numbers, pending_at, session_at};
 ghost use Rattle.aprs_base.specs.declared.events.Happening.{Happening};
 ghost use Rattle.aprs_base.specs.declared.events.Sent.{Sent};
 ghost use Rattle.server_core.specs.Meaning.{AreActs, Stands, setting_of};
 ghost use Rattle.server_core.specs.RoundWalk.{Traced, Walking};
-ghost use Rattle.server_core.specs.Steps.{AfterEvent, SameRest, Walks, saying};
+ghost use Rattle.server_core.specs.Steps.{AfterEvent, SameRest, Walks, saying, scene_at, with_verdict};
 
 #[cfg(test)]
 mod tests;
@@ -25,10 +27,20 @@ mod tests;
 use crate::acts::Acts;
 use crate::conf::Conf;
 use crate::link::Link;
-use crate::links::{all, bring, drop_gone, drop_link, give_room, hear, lose, offer, ready, take};
-use aprs_base::{Addr, Chunk, Cut, Event, Memory, PortKind};
+use crate::judging::{is_comment_line, judge_login, judge_packet};
+use crate::links::{
+    all, bring, drop_gone, drop_link, give_room, log_in, lose, offer, origin_at, others, ready, reply,
+    share, take,
+};
+use crate::replies::{login_line, refusal_line};
+use aprs_base::{
+    Addr, Chunk, Cut, Event, Line, Memory, Packet, Parts, PortKind, Source,
+};
+use aprs_body::classify;
+use aprs_history::{Refusal, Session, Verdict};
 use std::alloc::Global;
 use std::marker::{Model, Sync};
+use std::sync::Arc;
 use std::thread::Threads;
 
 /// The greatest moment: the last second of the year 9999.
@@ -37,12 +49,28 @@ const LAST_MOMENT: u64 = 253_402_300_799;
 /// The most bytes of one offer.
 const MOST_OFFERED: usize = 65_536;
 
+/// The packet that a link sent, with what its body says.
+fn packet_from(link: u32, moment: u64, parts: Parts, line: Arc<Line>) -> Packet
+    ensures { result ∷ [] ≡ accepted_by link moment (Verdict.Accepted parts (arc_value line)) }
+{
+    let body = classify(&parts.dest, parts.body.as_slice());
+    Packet {
+        from: Source::Link(link),
+        moment,
+        parts,
+        body,
+        line,
+    }
+}
+
 /// The core of a server.
 #[derive(Drop)]
 pub struct Core {
     conf: Conf,
     moment: u64,
     links: Vec<Link>,
+    /// All packets that were accepted, in order.
+    accepted: Vec<Packet>,
     greatest: u32,
     stopped: bool,
 }
@@ -53,9 +81,9 @@ impl Model for Core {
 
     ghost Value = { CoreMeaning };
 
-    ghost view = { λ c. record { conf = c.conf; seen = record { moment = c.moment; links = c.links.items; greatest = c.greatest; stopped = c.stopped } } };
+    ghost view = { λ c. record { conf = c.conf; seen = record { moment = c.moment; links = c.links.items; accepted = c.accepted.items; greatest = c.greatest; stopped = c.stopped } } };
 
-    ghost invariant = { λ c. IsKept (record { conf = c.conf; seen = record { moment = c.moment; links = c.links.items; greatest = c.greatest; stopped = c.stopped } }) };
+    ghost invariant = { λ c. IsKept (record { conf = c.conf; seen = record { moment = c.moment; links = c.links.items; accepted = c.accepted.items; greatest = c.greatest; stopped = c.stopped } }) };
 }
 
 impl Core {
@@ -67,12 +95,89 @@ impl Core {
         drop_gone(&mut self.links);
     }
 
+    /// The verdict on a line of that link which is no comment.
+    fn judge_line(&self, alloc: Global, number: u32, line: &Line) -> Result<Verdict, Memory>
+        ensures { IfOk result (λ verdict. verdict ≡ line_verdict (scene_at self.now number) (session_at number self.now.seen.links) line.now) }
+    {
+        let Some(origin) = origin_at(self.links.as_slice(), number) else {
+            return Ok(judge_login(self.conf.server(), line));
+        };
+        let others = others(alloc, self.links.as_slice(), number)?;
+        Ok(judge_packet(
+            self.conf.server(),
+            &origin,
+            others.as_slice(),
+            self.moment,
+            self.accepted.as_slice(),
+            line,
+        ))
+    }
+
+    /// The verdict on what the link of that number said.
+    fn judge(&self, alloc: Global, number: u32, cut: &Cut) -> Result<Verdict, Memory>
+        ensures { IfOk result (λ verdict. verdict ≡ verdict_of (scene_at self.now number) cut.now) }
+    {
+        match cut {
+            Cut::Long => Ok(Verdict::Refused(Refusal::Long)),
+            Cut::Line(line) if is_comment_line(line) => Ok(Verdict::PassedOver),
+            Cut::Line(line) => self.judge_line(alloc, number, line),
+        }
+    }
+
+    /// A line of that link is refused: it is told so where it tried to log in.
+    fn refuse(&mut self, alloc: Global, number: u32, refusal: &Refusal) -> Result<(), Memory>
+        ensures { OnOk result (self.new ≡ with_verdict number (Verdict.Refused refusal.now) self.old) }
+    {
+        match refusal_line(refusal) {
+            Some(line) => reply(&mut self.links, number, Arc::new(alloc, line)?),
+            None => Ok(()),
+        }
+    }
+
+    /// The link of that number has logged in, and is told so.
+    fn log_in(&mut self, alloc: Global, number: u32, session: Session) -> Result<(), Memory>
+        requires { IsTrue (is_station session.call) }
+        ensures { OnOk result (self.new ≡ with_verdict number (Verdict.LoggedIn session) self.old) }
+    {
+        let line = Arc::new(alloc, login_line(self.conf.server(), &session))?;
+        log_in(&mut self.links, number, session, line)
+    }
+
+    /// A packet of that link is accepted: it is kept, and goes to the links that want it.
+    fn accept(
+        &mut self,
+        alloc: Global,
+        number: u32,
+        parts: Parts,
+        line: Line,
+    ) -> Result<(), Memory>
+        ensures { OnOk result (self.new ≡ with_verdict number (Verdict.Accepted parts line) self.old) }
+    {
+        let line = Arc::new(alloc, line)?;
+        share(&mut self.links, number, &line)?;
+        self.accepted
+            .push(packet_from(number, self.moment, parts, line))?;
+        Ok(())
+    }
+
     /// What the link of that number said: it is judged, and what comes of it is done.
+    fn take_line(&mut self, alloc: Global, number: u32, cut: &Cut) -> Result<(), Memory>
+        ensures { OnOk result (self.new ≡ with_verdict number (verdict_of (scene_at self.old number) cut.now) self.old) }
+    {
+        match self.judge(alloc, number, cut)? {
+            Verdict::PassedOver => Ok(()),
+            Verdict::Refused(refusal) => self.refuse(alloc, number, &refusal),
+            Verdict::LoggedIn(session) => self.log_in(alloc, number, session),
+            Verdict::Accepted(parts, line) => self.accept(alloc, number, parts, line),
+        }
+    }
+
+    /// The same, as the trace goes on by the line.
     fn hear(&mut self, alloc: Global, number: u32, cut: &Cut) -> Result<(), Memory>
         ensures walks { (t : Trace) → Walks self.old t → IsTrue (is_live t number) → OnOk result (Walks self.new (saying (setting_of self.old.conf) number cut.now t)) }
         ensures rest { OnOk result (SameRest self.old self.new) }
     {
-        hear(alloc, self.conf.server(), &mut self.links, number, cut)
+        self.take_line(alloc, number, cut)
     }
 
     /// The same for several lines, one after another.
@@ -318,6 +423,7 @@ impl Core {
             conf,
             moment: 0,
             links: Vec::new(alloc),
+            accepted: Vec::new(alloc),
             greatest: 0,
             stopped: false,
         })

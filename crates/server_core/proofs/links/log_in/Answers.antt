@@ -10,7 +10,7 @@ use Rattle.server_core.proofs.links.log_in.Goals as goal
 pub returns-in_ok-log_in-in-Some-clause-ok : goal.returns-in_ok-log_in-in-Some-clause-ok
 returns-in_ok-log_in-in-Some-clause-ok c =
     let found = c.in-Some.ensures ∙ ap (position (has_that c.args.number)) c.as_slice.ensures.value in
-    changed_by c.args.number (with_session c.args.session (arc_value c.args.reply)) (2 ^ 32) c.args.links.now.items c.in-Some.place c.index_mut.result.now c.log_in.new.self c.requires
+    changed_by c.args.number (with_session c.args.session (arc_value c.args.reply)) (2 ^ 32) c.args.links.now.items c.in-Some.place c.index_mut.result.now c.log_in.new.self c.requires.rises
     found c.index_mut.ensures.value c.in_ok-log_in-in-Some.ensures.ok
 
 pub returns-in-None-clause-ok : goal.returns-in-None-clause-ok
