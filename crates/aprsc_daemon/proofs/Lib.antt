@@ -1,4 +1,5 @@
 pub mod ActLemmas
+pub mod BringLemmas
 pub mod CauseLemmas
 pub mod EventLemmas
 pub mod PartLemmas

@@ -1,10 +1,18 @@
 -- Worked words and texts: what the definitions make of them.
 use Rattle.std.specs.Prelude.{◌≡◌, ℕ, List, [], ◌∷◌, ◌++◌, Some, None, Ok, Err, refl, codes, Result}
 use Rattle.std.specs.Fmt.{decimal}
-use Rattle.std.proofs.Common.{lit<}
+use Rattle.std.proofs.Common.{lit<, ap, ◌∙◌, sym, append-nil, Option}
 use Rattle.std.proofs.lemmas.Fmt.{decimal_digit}
+use Rattle.std.proofs.lemmas.List.{append_cancel_left}
+use Rattle.aprs_base.specs.Outside.{Told}
+use Rattle.aprs_base.specs.declared.events.Event.{Event}
+use Rattle.aprs_base.specs.declared.events.Event.TheVariants as event
+use Rattle.aprs_base.specs.declared.events.Happening.{Happening}
+use Rattle.aprs_base.specs.declared.events.Happening.TheVariants as did
+use Rattle.aprs_base.specs.declared.events.Sent.TheVariants as sent
 use Rattle.aprs_base.specs.declared.packets.PortKind.TheVariants as kind
 use Rattle.server_core.specs.Meaning.{ConfSeen}
+use Rattle.aprsc_daemon.specs.Phases.{Brings, events_in}
 use Rattle.aprsc_daemon.specs.Saying.{not_built_text, listen_failed_text}
 use Rattle.aprsc_daemon.specs.ThreeLines.{conf_of, ip_of, port_of}
 use Rattle.aprsc_daemon.specs.Words.{file_word}
@@ -109,3 +117,20 @@ not_built_line = let three : decimal 3 ≡ 51 ∷ [] = decimal_digit 3 (lit< tt)
 
 listen_line_failed : listen_failed_text 0 ≡ codes "listen 0 failed\n"
 listen_line_failed = let zero : decimal 0 ≡ 48 ∷ [] = decimal_digit 0 (lit< tt) in rw zero refl
+
+-- ---- what a round brings
+
+events_among_acts : events_in (did.Event (event.Tick 5) ∷ did.Sent 1 (65 ∷ []) sent.Gone ∷ did.Event event.Stop ∷ did.Closed 1 ∷ []) ≡ event.Tick 5 ∷ event.Stop ∷ []
+events_among_acts = refl
+
+-- a wire that tells no more than before brought no event
+unchanged_brings_nothing : (told : Told) (events : List Event) → Brings events (Some told) (Some told) → events ≡ []
+unchanged_brings_nothing told events brings =
+    let none : brings.0 ≡ [] = append_cancel_left told.done brings.0 [] (grown brings.0 brings.1 ∙ sym (append-nil told.done)) in sym brings.2 ∙ ap events_in none
+  where
+    grown : (more : List Happening) → Some told ≡ Some (record told { done = told.done ++ more }) → told.done ++ more ≡ told.done
+    grown more is = sym (ap done_of is)
+      where
+        done_of : Option Told → List Happening
+        done_of None = []
+        done_of (Some t) = t.done

@@ -1,13 +1,15 @@
 -- How far the serving of a wire has come: what holds of the happenings so far.
-use Rattle.std.specs.Prelude.{◌≡◌, ℕ, ◌+◌, ◌<◌, ◌≤◌, ◌&&◌, Bool, true, false, not, List, [], ◌∷◌, ◌++◌, length, drop, map, Option, Some, None, ⊤}
-use Rattle.aprs_base.specs.Outside.{CountsLink, new_link}
+use Rattle.std.specs.Prelude.{◌≡◌, ℕ, ◌+◌, ◌&&◌, Bool, true, false, not, List, [], ◌∷◌, ◌++◌, length, drop, map, Option, Some, None, ⊤}
+use Rattle.aprs_base.specs.Outside.{Told}
 use Rattle.aprs_base.specs.declared.events.Event.{Event}
+use Rattle.aprs_base.specs.declared.events.Happening.{Happening}
+use Rattle.aprs_base.specs.declared.events.Happening.TheVariants as did
 use Rattle.aprs_history.specs.Setting.{Setting}
 use Rattle.aprs_history.specs.Trace.{Trace, is_member}
 use Rattle.aprs_history.specs.Texts.{untaken}
 use Rattle.aprs_history.specs.History.{History, ends_round, is_stopped, trace_of}
 use Rattle.aprs_history.specs.Rounds.{AreFresh, greatest_after, listens_after, only_listens, with_events}
-use Rattle.aprs_history.specs.Acts.{Act, Closes, due, listens_from, offer_to}
+use Rattle.aprs_history.specs.Acts.{Closes, due, listens_from, offer_to}
 use Rattle.aprs_history.specs.Runs.{are_listens, listens_in}
 use Rattle.aprsc_daemon.specs.declared.serving.End.{End}
 use Rattle.aprsc_daemon.specs.declared.serving.End.TheVariants as ended
@@ -66,6 +68,17 @@ is_partial before (e ∷ events) = not (ends_round before e) && is_partial (befo
 pub record Counted (first : ℕ) (events : List Event) (last : ℕ) : Type 0 where
   pub fresh : AreFresh first events
   pub greatest : greatest_after events first ≡ last
+
+-- the events among these happenings
+abbrev pub events_in : List Happening → List Event
+events_in [] = []
+events_in (did.Event e ∷ more) = e ∷ events_in more
+events_in (x ∷ more) = events_in more
+
+-- what the wire tells grew by happenings, and their events are these
+abbrev pub Brings : List Event → Option Told → Option Told → Type 0
+Brings events None new = new ≡ None
+Brings events (Some old) new = (more : List Happening) × (new ≡ Some (record old { done = old.done ++ more })) × (events_in more ≡ events)
 
 -- what is so where the serving of a wire ended
 abbrev pub Ends : Setting → End → History → Type 0

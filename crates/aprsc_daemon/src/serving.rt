@@ -8,7 +8,7 @@ ghost use Rattle.aprs_history.specs.Runs.{AppendsRun};
 ghost use Rattle.aprs_history.specs.Trace.{is_member};
 ghost use Rattle.server_core.specs.LinkSteps.{AreServed, Rises, has_number, numbers};
 ghost use Rattle.server_core.specs.Meaning.{CoreMeaning, setting_of};
-ghost use Rattle.aprsc_daemon.specs.Phases.{Counted, Ends, Gathering, Idle, Listening, Offering, Resting, is_partial};
+ghost use Rattle.aprsc_daemon.specs.Phases.{Brings, Counted, Ends, Gathering, Idle, Listening, Offering, Resting, is_partial};
 ghost use Rattle.server_core.specs.Steps.{SameRest};
 
 use aprs_base::{Event, ListenSpec, Memory, Sent, Wire, WireError};
@@ -64,6 +64,8 @@ fn take_next<W: Wire>(wire: &mut W, events: &mut Vec<Event>) -> Result<bool, Wir
     requires { is_partial 0 events.old.items ≡ true }
     ensures whole { IfOk result (λ whole. MatchBool whole (is_whole 0 events.new.items ≡ true) (is_partial 0 events.new.items ≡ true)) }
     ensures more { OnOk result (length events.new.items ≡ length events.old.items + 1) }
+    ensures brings { (start : Option Told) → Brings events.old.items start (W.shown wire.old).told
+        → OnOk result (Brings events.new.items start (W.shown wire.new).told) }
     ensures counted { (first : ℕ) → Counted first events.old.items (W.shown wire.old).links
         → OnOk result (Counted first events.new.items (W.shown wire.new).links) }
     ensures run { (s : Setting) (start : Option Told) (core : CoreMeaning) → setting_of core.conf ≡ s
@@ -86,6 +88,7 @@ fn take_next<W: Wire>(wire: &mut W, events: &mut Vec<Event>) -> Result<bool, Wir
 fn gather<W: Wire>(wire: &mut W, events: &mut Vec<Event>) -> Result<(), WireError>
     requires { events.old.items ≡ [] }
     ensures whole { OnOk result (is_whole 0 events.new.items ≡ true) }
+    ensures brings { OnOk result (Brings events.new.items (W.shown wire.old).told (W.shown wire.new).told) }
     ensures counted { OnOk result (Counted (W.shown wire.old).links events.new.items (W.shown wire.new).links) }
     ensures run { (s : Setting) (start : Option Told) (core : CoreMeaning) → setting_of core.conf ≡ s
         → AppendsRun s start (W.shown wire.old).told (Gathering core [])
@@ -118,6 +121,7 @@ fn send_one<W: Wire>(
     ensures run { (s : Setting) (start : Option Told) (offers closes : List ℕ) → setting_of core.old.conf ≡ s → is_member link offers ≡ false
         → AppendsRun s start (W.shown wire.old).told (Offering core.old (link ∷ offers) closes)
         → OnOk result (AppendsRun s start (W.shown wire.new).told (Offering core.new offers closes)) }
+    ensures brings { OnOk result (Brings [] (W.shown wire.old).told (W.shown wire.new).told) }
     ensures err { OnErr result ((W.shown wire.new).told ≡ (W.shown wire.old).told) }
     ensures rest { SameRest core.old core.new }
     ensures numbers { numbers core.new.seen.links ≡ numbers core.old.seen.links }
@@ -148,6 +152,7 @@ fn send_all<W: Wire>(
     ensures err { (s : Setting) (start : Option Told) (closes : List ℕ) → setting_of core.old.conf ≡ s
         → AppendsRun s start (W.shown wire.old).told (Offering core.old offers.now closes)
         → OnErr result (AppendsRun s start (W.shown wire.new).told (λ more. ⊤)) }
+    ensures brings { OnOk result (Brings [] (W.shown wire.old).told (W.shown wire.new).told) }
     ensures rest { SameRest core.old core.new }
     ensures stops { (W.shown wire.new).stops ≡ (W.shown wire.old).stops }
     ensures links { (W.shown wire.new).links ≡ (W.shown wire.old).links }
@@ -166,6 +171,7 @@ fn close_all<W: Wire>(wire: &mut W, closes: &[u32]) -> Result<(), Memory>
     ensures err { (s : Setting) (start : Option Told) (core : CoreMeaning) → setting_of core.conf ≡ s
         → AppendsRun s start (W.shown wire.old).told (Offering core [] closes.now)
         → OnErr result (AppendsRun s start (W.shown wire.new).told (λ more. ⊤)) }
+    ensures brings { OnOk result (Brings [] (W.shown wire.old).told (W.shown wire.new).told) }
     ensures stops { (W.shown wire.new).stops ≡ (W.shown wire.old).stops }
     ensures links { (W.shown wire.new).links ≡ (W.shown wire.old).links }
 {
@@ -194,6 +200,7 @@ fn act<R: Threads + Sync, W: Wire>(
     ensures err { (s : Setting) (start : Option Told) → setting_of core.old.conf ≡ s
         → AppendsRun s start (W.shown wire.old).told (Gathering core.old events.now)
         → OnErr result (AppendsRun s start (W.shown wire.new).told (λ more. ⊤)) }
+    ensures brings { OnOk result (Brings [] (W.shown wire.old).told (W.shown wire.new).told) }
     ensures conf { OnOk result (core.new.conf ≡ core.old.conf) }
     ensures greatest { OnOk result (core.new.seen.greatest ≡ greatest_after events.now core.old.seen.greatest) }
     ensures done { IfOk result (λ done. done ≡ core.new.seen.stopped) }
@@ -206,7 +213,8 @@ fn act<R: Threads + Sync, W: Wire>(
     Ok(acts.done)
 }
 
-/// Serves one round, and says whether the server stopped with it.
+/// Serves one round, and says whether the server stopped with it. The events are those of a whole round; where the wire
+/// tells what happened, it brought them and no other in this call.
 fn serve_round<R: Threads + Sync, W: Wire>(
     rt: &R,
     alloc: Global,
@@ -227,6 +235,8 @@ fn serve_round<R: Threads + Sync, W: Wire>(
     ensures err { (s : Setting) (start : Option Told) → setting_of core.old.conf ≡ s
         → AppendsRun s start (W.shown wire.old).told (Resting core.old)
         → OnErr result (AppendsRun s start (W.shown wire.new).told (λ more. ⊤)) }
+    ensures whole { OnOk result (is_whole 0 events.new.items ≡ true) }
+    ensures brings { OnOk result (Brings events.new.items (W.shown wire.old).told (W.shown wire.new).told) }
     ensures failed { IsErrOf result WireError.Failed → Rose (W.shown wire.old).stops (W.shown wire.new).stops }
     ensures conf { OnOk result (core.new.conf ≡ core.old.conf) }
     ensures numbered { OnOk result (core.new.seen.greatest ≤ (W.shown wire.new).links) }

@@ -1,7 +1,8 @@
-use Rattle.std.proofs.Common.{◌≡◌, [], true, refl, sym, ap, ◌∙◌, subst}
+use Rattle.std.proofs.Common.{[], refl, ap, ◌∙◌}
 use Rattle.std.specs.Bool.{⊤}
 use Rattle.aprs_history.specs.Runs.{AppendsRun}
 use Rattle.server_core.specs.Meaning.{setting_of}
+use Rattle.aprsc_daemon.proofs.BringLemmas.{brings_on}
 use Rattle.aprsc_daemon.proofs.EventLemmas.{err_any}
 use Rattle.aprsc_daemon.proofs.ServeLemmas.{begins_offers, rests}
 use Rattle.aprsc_daemon.proofs.serving.act.Goals as goal
@@ -31,3 +32,7 @@ returns-clause-run g c = λ s start same run.
     (c.in_ok-send_all.ensures.run s start c.as_slice-2.result.now (ap setting_of c.in_ok-acts.ensures.conf ∙ same)
     (begins_offers s start (g.W.Wire.shown c.args.wire.now).told c.args.core.now c.round.new.self c.args.events.now acts c.as_slice.result.now c.as_slice-2.result.now
     (c.as_slice.ensures.value ∙ ap (λ a. a.offers) c.acts.view_is) (c.as_slice-2.ensures.value ∙ ap (λ a. a.closes) c.acts.view_is) c.in_ok-acts.ensures.conf c.in_ok-acts.ensures.stands c.in_ok-acts.ensures.due run)))
+
+pub returns-clause-brings : goal.returns-clause-brings
+returns-clause-brings g c =
+    brings_on [] (g.W.Wire.shown c.args.wire.now).told (g.W.Wire.shown c.send_all.new.wire).told (g.W.Wire.shown c.close_all.new.wire).told c.in_ok-send_all.ensures.brings c.in_ok-close_all.ensures.brings

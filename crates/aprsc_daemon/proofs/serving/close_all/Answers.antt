@@ -1,7 +1,9 @@
-use Rattle.std.proofs.Common.{◌≡◌, ◌+◌, ◌∙◌, [], drop, subst}
+use Rattle.std.proofs.Common.{◌+◌, ◌∙◌, [], drop, subst, refl}
+use Rattle.aprs_base.specs.declared.events.Happening.TheVariants as did
 use Rattle.aprs_history.specs.Runs.{AppendsRun}
 use Rattle.server_core.proofs.WholeRoundLemmas.{next_item}
 use Rattle.aprsc_daemon.specs.Phases.{Offering}
+use Rattle.aprsc_daemon.proofs.BringLemmas.{brings_on, brings_one}
 use Rattle.aprsc_daemon.proofs.ActLemmas.{run_closes}
 use Rattle.aprsc_daemon.proofs.RunLemmas.{same_at}
 use Rattle.aprsc_daemon.proofs.serving.close_all.Goals as goal
@@ -10,8 +12,10 @@ pub loop-link-preserved : goal.loop-link-preserved
 loop-link-preserved g c = (
   c.close.ensures.stops ∙ c.loop-link.invariant.0,
   c.close.ensures.links ∙ c.loop-link.invariant.1,
+  brings_on [] (g.W.Wire.shown c.args.wire.now).told (g.W.Wire.shown c.loop-link.wire).told (g.W.Wire.shown c.close.new.self).told c.loop-link.invariant.2
+      (brings_one (did.Closed _) [] (g.W.Wire.shown c.loop-link.wire).told (g.W.Wire.shown c.close.new.self).told refl c.in_ok-close.ensures.ok),
   λ s start core same run.
       let left = next_item c.args.closes.now c.loop-link.link-index _ c.loop-link-test.true (same_at c.args.closes.now c.loop-link.link-index 0 _ c.loop-link-test.true) in
       run_closes s start _ (g.W.Wire.shown c.close.new.self).told core _ (drop (c.loop-link.link-index + 1) c.args.closes.now) same c.in_ok-close.ensures.ok
-      (subst (λ closes. AppendsRun s start (g.W.Wire.shown c.loop-link.wire).told (Offering core [] closes)) left (c.loop-link.invariant.2 s start core same run)),
+      (subst (λ closes. AppendsRun s start (g.W.Wire.shown c.loop-link.wire).told (Offering core [] closes)) left (c.loop-link.invariant.3 s start core same run)),
 )

@@ -1,4 +1,4 @@
-use Rattle.std.proofs.Common.{◌≡◌, ◌≤◌, [], true, refl, sym, ap, ◌∙◌, subst, arith, Err}
+use Rattle.std.proofs.Common.{◌≡◌, true, sym, ap, ◌∙◌, subst, Err}
 use Rattle.std.specs.Bool.{MatchBool}
 use Rattle.std.proofs.lemmas.Result.{err_from_is_err_and}
 use Rattle.aprs_base.specs.declared.events.WireError.TheVariants as wire_error
@@ -16,7 +16,7 @@ returns-in_err-whole-clause-idle g c = λ s start core same run failed.
     let stays = c.in_err-whole.ensures.failed (ap Err (sym error.2 ∙ err_inside c.from_residual.result error.0 wire_error.Failed error.1 failed)) in
     run_told s start (g.W.Wire.shown c.loop-whole.wire).told (g.W.Wire.shown c.take_next.new.wire).told (Idle s) stays.2
     (run_weaker s start (g.W.Wire.shown c.loop-whole.wire).told (Gathering core events) (Idle s) (λ more. gathering_idle core events s more same partial)
-    (c.loop-whole.invariant.3 s start core same run))
+    (c.loop-whole.invariant.4 s start core same run))
 
 pub loop-whole-smaller : goal.loop-whole-smaller
 loop-whole-smaller g c = gathers_less c.loop-whole.whole c.in_ok-whole.whole c.loop-whole.events.items c.take_next.new.events.items c.loop-whole-test.true c.loop-whole.invariant.0 c.in_ok-whole.ensures.more

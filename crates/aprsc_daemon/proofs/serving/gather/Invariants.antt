@@ -5,13 +5,14 @@ use Rattle.aprs_history.specs.Setting.{Setting}
 use Rattle.aprs_history.specs.Rounds.{is_whole}
 use Rattle.aprs_history.specs.Runs.{AppendsRun}
 use Rattle.server_core.specs.Meaning.{CoreMeaning, setting_of}
-use Rattle.aprsc_daemon.specs.Phases.{Counted, Gathering, is_partial}
+use Rattle.aprsc_daemon.specs.Phases.{Brings, Counted, Gathering, is_partial}
 use Rattle.aprsc_daemon.proofs.serving.gather.Given as goal
 
 abbrev pub invariant-loop-whole : goal.invariant-loop-whole
 invariant-loop-whole g l =
     MatchBool l.whole (is_whole 0 l.events.items ≡ true) (is_partial 0 l.events.items ≡ true)
     × Counted (g.W.Wire.shown l.initial.wire).links l.events.items (g.W.Wire.shown l.wire).links
+    × Brings l.events.items (g.W.Wire.shown l.initial.wire).told (g.W.Wire.shown l.wire).told
     × ((g.W.Wire.shown l.initial.wire).stops ≤ (g.W.Wire.shown l.wire).stops)
     × ((s : Setting) (start : Option Told) (core : CoreMeaning) → setting_of core.conf ≡ s → AppendsRun s start (g.W.Wire.shown l.initial.wire).told (Gathering core [])
     → AppendsRun s start (g.W.Wire.shown l.wire).told (Gathering core l.events.items))

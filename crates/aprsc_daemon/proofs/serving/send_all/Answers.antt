@@ -1,10 +1,11 @@
-use Rattle.std.proofs.Common.{◌≡◌, ◌+◌, ◌∷◌, [], drop, refl, sym, ap, ◌∙◌, subst, get_or}
+use Rattle.std.proofs.Common.{◌+◌, [], drop, sym, ap, ◌∙◌, subst, get_or}
 use Rattle.aprs_history.specs.Trace.{is_member}
 use Rattle.aprs_history.specs.Runs.{AppendsRun}
 use Rattle.server_core.specs.Meaning.{setting_of}
 use Rattle.server_core.proofs.LinkLemmas.{served_numbers}
 use Rattle.server_core.proofs.WholeRoundLemmas.{next_item}
 use Rattle.aprsc_daemon.specs.Phases.{Offering}
+use Rattle.aprsc_daemon.proofs.BringLemmas.{brings_on}
 use Rattle.aprsc_daemon.proofs.ActLemmas.{first_differs, member_at}
 use Rattle.aprsc_daemon.proofs.RunLemmas.{same_at}
 use Rattle.aprsc_daemon.proofs.serving.send_all.Goals as goal
@@ -30,8 +31,9 @@ loop-link-preserved g c =
       c.send_one.ensures.numbers ∙ c.loop-link.invariant.1,
       c.send_one.ensures.stops ∙ c.loop-link.invariant.2,
       c.send_one.ensures.links ∙ c.loop-link.invariant.3,
-      c.send_one.auto.buffer ∙ c.loop-link.invariant.4,
+      brings_on [] (g.W.Wire.shown c.args.wire.now).told (g.W.Wire.shown c.loop-link.wire).told (g.W.Wire.shown c.send_one.new.wire).told c.loop-link.invariant.4 c.in_ok-send_one.ensures.brings,
+      c.send_one.auto.buffer ∙ c.loop-link.invariant.5,
       λ s start closes same run.
           c.in_ok-send_one.ensures.run s start (drop (i + 1) offers) closes (ap setting_of was.conf ∙ same) (first_differs 0 c.requires.rising.0 offers i (get_or offers i 0) (drop (i + 1) offers) c.requires.rising.1 left)
-          (subst (λ links. AppendsRun s start (g.W.Wire.shown c.loop-link.wire).told (Offering c.loop-link.core links closes)) left (c.loop-link.invariant.5 s start closes same run)),
+          (subst (λ links. AppendsRun s start (g.W.Wire.shown c.loop-link.wire).told (Offering c.loop-link.core links closes)) left (c.loop-link.invariant.6 s start closes same run)),
     )

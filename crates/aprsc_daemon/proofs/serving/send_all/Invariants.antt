@@ -1,11 +1,11 @@
-use Rattle.std.proofs.Common.{◌≡◌, drop, List, ℕ, Option, length}
+use Rattle.std.proofs.Common.{◌≡◌, [], drop, List, ℕ, Option, length}
 use Rattle.aprs_base.specs.Outside.{Told}
 use Rattle.aprs_history.specs.Setting.{Setting}
 use Rattle.aprs_history.specs.Runs.{AppendsRun}
-use Rattle.server_core.specs.LinkSteps.{AreServed, numbers}
-use Rattle.server_core.specs.Meaning.{CoreMeaning, setting_of}
+use Rattle.server_core.specs.LinkSteps.{numbers}
+use Rattle.server_core.specs.Meaning.{setting_of}
 use Rattle.server_core.specs.Steps.{SameRest}
-use Rattle.aprsc_daemon.specs.Phases.{Offering}
+use Rattle.aprsc_daemon.specs.Phases.{Brings, Offering}
 use Rattle.aprsc_daemon.proofs.serving.send_all.Given as goal
 
 abbrev pub invariant-loop-link : goal.invariant-loop-link
@@ -14,6 +14,7 @@ invariant-loop-link g l =
     × (numbers l.core.seen.links ≡ numbers l.initial.core.seen.links)
     × ((g.W.Wire.shown l.wire).stops ≡ (g.W.Wire.shown l.initial.wire).stops)
     × ((g.W.Wire.shown l.wire).links ≡ (g.W.Wire.shown l.initial.wire).links)
+    × Brings [] (g.W.Wire.shown l.initial.wire).told (g.W.Wire.shown l.wire).told
     × (length l.buffer ≡ 65536)
     × ((s : Setting) (start : Option Told) (closes : List ℕ) → setting_of l.initial.core.conf ≡ s
     → AppendsRun s start (g.W.Wire.shown l.initial.wire).told (Offering l.initial.core l.offers closes)

@@ -1,10 +1,10 @@
-use Rattle.std.proofs.Common.{◌≡◌, ◌≤◌, ◌+◌, ◌∷◌, ◌++◌, [], take, refl, sym, ap, ◌∙◌, subst, arith}
+use Rattle.std.proofs.Common.{[], take, refl}
 use Rattle.aprs_base.specs.declared.events.Sent.TheVariants as sent
-use Rattle.aprs_history.specs.Runs.{AppendsRun}
+use Rattle.aprs_base.specs.declared.events.Happening.TheVariants as did
 use Rattle.aprs_history.specs.Texts.{untaken}
 use Rattle.aprs_history.specs.History.{trace_of}
 use Rattle.server_core.specs.Meaning.{setting_of}
-use Rattle.aprsc_daemon.specs.Phases.{Offering}
+use Rattle.aprsc_daemon.proofs.BringLemmas.{brings_one}
 use Rattle.aprsc_daemon.proofs.ActLemmas.{run_offered, offered_bytes, offered_length}
 use Rattle.aprsc_daemon.proofs.serving.send_one.Goals as goal
 
@@ -25,3 +25,11 @@ returns-in-Gone-clause-run g c = λ s start offers closes same other run.
     (λ h stands. offered_bytes bytes (untaken (setting_of c.args.core.now.conf) (trace_of (setting_of c.args.core.now.conf) h) c.args.link) _ c.requires.room (c.offer-offered.ensures.next h stands))
     (λ h stands. c.gone.ensures.stands h bytes stands)
     c.in_ok-count.ensures.ok run
+
+pub returns-in-Took-clause-brings : goal.returns-in-Took-clause-brings
+returns-in-Took-clause-brings g c =
+    brings_one (did.Sent c.args.link (take c.offer-offered.result c.offer-offered.new.out) c.in_ok-count.field-0) [] (g.W.Wire.shown c.args.wire.now).told (g.W.Wire.shown c.send.new.self).told refl c.in_ok-count.ensures.ok
+
+pub returns-in-Gone-clause-brings : goal.returns-in-Gone-clause-brings
+returns-in-Gone-clause-brings g c =
+    brings_one (did.Sent c.args.link (take c.offer-offered.result c.offer-offered.new.out) c.in_ok-count.field-0) [] (g.W.Wire.shown c.args.wire.now).told (g.W.Wire.shown c.send.new.self).told refl c.in_ok-count.ensures.ok

@@ -1,9 +1,10 @@
-use Rattle.std.proofs.Common.{◌≡◌, ◌≤◌, [], refl, sym, ap, ◌∙◌, subst, Err}
+use Rattle.std.proofs.Common.{sym, ap, ◌∙◌, subst, Err}
 use Rattle.std.specs.Bool.{⊤}
 use Rattle.std.proofs.lemmas.Result.{err_from_is_err_and}
 use Rattle.aprs_base.specs.declared.events.WireError.TheVariants as wire_error
 use Rattle.aprs_history.specs.Rounds.{AreFresh}
 use Rattle.aprs_history.specs.Runs.{AppendsRun}
+use Rattle.aprsc_daemon.proofs.BringLemmas.{brings_on}
 use Rattle.aprsc_daemon.proofs.EventLemmas.{err_any, err_inside, fresh_above, numbered_after}
 use Rattle.aprsc_daemon.proofs.ServeLemmas.{begins_round}
 use Rattle.aprsc_daemon.proofs.serving.serve_round.Goals as goal
@@ -28,3 +29,7 @@ pub returns-in-Ok-clause-numbered : goal.returns-in-Ok-clause-numbered
 returns-in-Ok-clause-numbered g c =
     numbered_after c.act.new.core.seen.greatest c.args.core.now.seen.greatest (g.W.Wire.shown c.args.wire.now).links (g.W.Wire.shown c.gather.new.wire).links (g.W.Wire.shown c.act.new.wire).links
     c.as_slice.result.now c.gather.new.events.items c.as_slice.ensures.value c.requires.numbered c.in_ok-gather.ensures.counted c.in-Ok.ensures.greatest c.in-Ok.ensures.links
+
+pub returns-in-Ok-clause-brings : goal.returns-in-Ok-clause-brings
+returns-in-Ok-clause-brings g c =
+    brings_on c.gather.new.events.items (g.W.Wire.shown c.args.wire.now).told (g.W.Wire.shown c.gather.new.wire).told (g.W.Wire.shown c.act.new.wire).told c.in_ok-gather.ensures.brings c.in-Ok.ensures.brings

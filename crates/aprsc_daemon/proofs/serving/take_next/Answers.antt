@@ -1,8 +1,11 @@
-use Rattle.std.proofs.Common.{◌≡◌, ◌≤◌, ◌+◌, ◌∷◌, ◌++◌, [], Bool, true, false, length, refl, sym, ap, ◌∙◌, subst, arith}
+use Rattle.std.proofs.Common.{◌∷◌, ◌++◌, [], List, length, refl, sym, ap, ◌∙◌, subst}
 use Rattle.std.specs.Bool.{⊤}
+use Rattle.aprs_base.specs.declared.events.Event.{Event}
+use Rattle.aprs_base.specs.declared.events.Happening.TheVariants as did
 use Rattle.aprs_history.specs.History.{ends_round}
 use Rattle.aprs_history.specs.Runs.{AppendsRun}
-use Rattle.aprsc_daemon.specs.Phases.{Gathering, Counted}
+use Rattle.aprsc_daemon.specs.Phases.{Brings, Gathering, Counted}
+use Rattle.aprsc_daemon.proofs.BringLemmas.{brings_both, brings_one}
 use Rattle.aprsc_daemon.proofs.EventLemmas.{run_gathers, counted_next, whole_or_partial, err_any}
 use Rattle.aprsc_daemon.proofs.RunLemmas.{run_weaker}
 use Rattle.aprsc_daemon.proofs.serving.take_next.Goals as goal
@@ -27,3 +30,10 @@ pub returns-clause-run : goal.returns-clause-run
 returns-clause-run g c = λ s start core same run.
     subst (λ events. AppendsRun s start (g.W.Wire.shown c.next.new.self).told (Gathering core events)) (sym c.in_ok-push.ensures.items)
     (run_gathers s start _ (g.W.Wire.shown c.next.new.self).told core c.args.events.now.items c.in_ok-event.event same c.requires c.in_ok-event.ensures.ok run)
+
+pub returns-clause-brings : goal.returns-clause-brings
+returns-clause-brings g c = λ start brought.
+    let event = c.in_ok-event.event in
+    subst (λ events. Brings events start (g.W.Wire.shown c.next.new.self).told) (sym {A = List Event} c.in_ok-push.ensures.items)
+    (brings_both c.args.events.now.items (event ∷ []) start (g.W.Wire.shown c.args.wire.now).told (g.W.Wire.shown c.next.new.self).told brought
+    (brings_one (did.Event event) (event ∷ []) (g.W.Wire.shown c.args.wire.now).told (g.W.Wire.shown c.next.new.self).told refl c.in_ok-event.ensures.ok))

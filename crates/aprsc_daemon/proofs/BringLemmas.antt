@@ -1,0 +1,40 @@
+-- What the wire tells grows from call to call, and the events with it.
+use Rattle.std.proofs.Common.{◌≡◌, List, [], ◌∷◌, ◌++◌, refl, sym, ap, ◌∙◌, subst, append-nil, append_assoc, Option, Some, None}
+use Rattle.std.specs.Option.{option_map}
+use Rattle.aprs_base.specs.Outside.{Told, with_done}
+use Rattle.aprs_base.specs.declared.events.Event.{Event}
+use Rattle.aprs_base.specs.declared.events.Happening.{Happening}
+use Rattle.aprs_base.specs.declared.events.Happening.TheVariants as did
+use Rattle.aprsc_daemon.specs.Phases.{Brings, events_in}
+
+pub brings_nothing : (now : Option Told) → Brings [] now now
+brings_nothing None = refl
+brings_nothing (Some told) = ([], ap (λ done. Some (record told { done = done })) (sym (append-nil told.done)), refl)
+
+-- one happening
+pub brings_one : (x : Happening) (events : List Event) (now next : Option Told) → events_in (x ∷ []) ≡ events → next ≡ option_map (with_done x) now → Brings events now next
+brings_one x events None next is comes = comes
+brings_one x events (Some told) next is comes = (x ∷ [], comes, is)
+
+events_join : (first later : List Happening) → events_in (first ++ later) ≡ events_in first ++ events_in later
+events_join [] later = refl
+events_join (did.Event e ∷ first) later = ap (λ events. e ∷ events) (events_join first later)
+events_join (did.Listen n ∷ first) later = events_join first later
+events_join (did.Sent link bytes outcome ∷ first) later = events_join first later
+events_join (did.Closed link ∷ first) later = events_join first later
+events_join (did.Dialled uplink ∷ first) later = events_join first later
+events_join (did.Cast peer bytes ∷ first) later = events_join first later
+
+-- these events, and then those
+pub brings_both : (these those : List Event) (start now next : Option Told) → Brings these start now → Brings those now next → Brings (these ++ those) start next
+brings_both these those None now next first later = subst (λ told. Brings those told next) first later
+brings_both these those (Some old) now next first later =
+    let then = subst (λ told. Brings those told next) first.1 later in (
+      first.0 ++ then.0,
+      then.1 ∙ ap (λ done. Some (record old { done = done })) (append_assoc old.done first.0 then.0),
+      events_join first.0 then.0 ∙ ap (λ events. events ++ events_in then.0) first.2 ∙ ap (λ events. these ++ events) then.2,
+    )
+
+-- these events, and then none
+pub brings_on : (events : List Event) (start now next : Option Told) → Brings events start now → Brings [] now next → Brings events start next
+brings_on events start now next first later = subst (λ all. Brings all start next) (append-nil events) (brings_both events [] start now next first later)
