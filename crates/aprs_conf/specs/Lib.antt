@@ -1,0 +1,4 @@
+pub mod Arguments
+pub mod Grammar
+pub mod Seen
+pub mod Words
