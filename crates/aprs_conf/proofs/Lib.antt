@@ -1,1 +1,4 @@
+mod LineLemmas
+mod NumberLemmas
 mod Rows
+mod WordLemmas

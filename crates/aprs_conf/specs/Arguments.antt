@@ -6,6 +6,7 @@ use Rattle.std.specs.Cmp.Lexicographic.{pointwise}
 use Rattle.aprs_base.specs.Bytes.{is_digit, is_station}
 use Rattle.aprs_base.specs.declared.packets.PortKind.{PortKind}
 use Rattle.aprs_base.specs.declared.packets.PortKind.TheVariants as kind
+use Rattle.aprs_conf.specs.declared.arguments.Service.{Service}
 use Rattle.login_pass.specs.Login.{is_code_number, number_from}
 
 abbrev pub same : List ℕ → List ℕ → Bool
@@ -70,9 +71,14 @@ four (Some a) None c d = None
 four (Some a) (Some b) None d = None
 four (Some a) (Some b) (Some c) None = None
 
+-- the number of the last part
+abbrev pub last_in : List (List ℕ) → Option ℕ
+last_in (part ∷ []) = octet_of part
+last_in _ = None
+
 -- four numbers between single dots
 abbrev pub octets_in : List (List ℕ) → Option (List ℕ)
-octets_in (a ∷ b ∷ c ∷ d ∷ []) = four (octet_of a) (octet_of b) (octet_of c) (octet_of d)
+octets_in (a ∷ b ∷ c ∷ last) = four (octet_of a) (octet_of b) (octet_of c) (last_in last)
 octets_in _ = None
 
 abbrev pub is_dot : ℕ → Bool
@@ -88,18 +94,14 @@ host_of text = if nat_le 1 (length text) && nat_le (length text) 64 then Some te
 
 -- ---- kinds
 
--- what a listener serves, and whether it is idle
-pub record Port : Type 0 where
-  pub kind : PortKind
-  pub idle : Bool
-
+-- a kind and a protocol, and what they stand for
 pub record PortRow : Type 0 where
   pub word : List ℕ
   pub proto : List ℕ
-  pub port : Port
+  pub service : Service
 
 abbrev pub port_row : List ℕ → List ℕ → PortKind → Bool → PortRow
-port_row word proto kind idle = record { word = word; proto = proto; port = record { kind = kind; idle = idle } }
+port_row word proto kind idle = record { word = word; proto = proto; service = record { kind = kind; idle = idle } }
 
 abbrev pub tcp : List ℕ
 tcp = codes "tcp"
@@ -120,5 +122,5 @@ ports =
     ∷ port_row (codes "clientonly") udp kind.Only true
     ∷ []
 
-abbrev pub kind_of : List ℕ → List ℕ → Option Port
-kind_of word proto = option_map (λ row. row.port) (find (λ row. same word row.word && same proto row.proto) ports)
+abbrev pub kind_of : List ℕ → List ℕ → Option Service
+kind_of word proto = option_map (λ row. row.service) (find (λ row. same word row.word && same proto row.proto) ports)

@@ -5,8 +5,8 @@ use Rattle.std.specs.Option.{option_map}
 use Rattle.aprs_base.specs.declared.packets.UplinkSpec.{UplinkSpec}
 use Rattle.aprs_base.specs.declared.texts.Addr.{Addr}
 use Rattle.login_pass.specs.Login.{is_keyword}
-use Rattle.aprs_conf.specs.declared.draft.LineWord.{LineWord}
-use Rattle.aprs_conf.specs.declared.draft.LineWord.TheVariants as word
+use Rattle.aprs_conf.specs.declared.reading.LineWord.{LineWord}
+use Rattle.aprs_conf.specs.declared.reading.LineWord.TheVariants as word
 use Rattle.aprs_conf.specs.declared.errors.ConfError.{ConfError}
 use Rattle.aprs_conf.specs.declared.errors.ConfError.TheVariants as cause
 use Rattle.aprs_conf.specs.declared.errors.ConfFault.{ConfFault}
@@ -14,7 +14,7 @@ use Rattle.aprs_conf.specs.declared.errors.ConfFault.TheVariants as fault
 use Rattle.aprs_conf.specs.declared.errors.ConfWord.TheVariants as needed
 use Rattle.aprs_conf.specs.declared.types.Listen.{Listen}
 use Rattle.aprs_conf.specs.declared.types.PeerSpec.{PeerSpec}
-use Rattle.aprs_conf.specs.Arguments.{same, udp, tcp, station_of, code_of, clients_of, port_of, time_of, ip_of, host_of, kind_of, Port}
+use Rattle.aprs_conf.specs.Arguments.{same, udp, tcp, station_of, code_of, clients_of, port_of, time_of, ip_of, host_of, kind_of}
 use Rattle.aprs_conf.specs.Seen.{ConfSeen, DraftSeen}
 use Rattle.aprs_conf.specs.Words.{Word, words_of, lines_of, is_remark, has_open, closed}
 
@@ -41,10 +41,15 @@ abbrev pub five_of : List (List ℕ) → Option (List ℕ × List ℕ × List �
 five_of (a ∷ b ∷ c ∷ d ∷ e ∷ []) = Some (a, b, c, d, e)
 five_of _ = None
 
+-- `hidden` alone, or nothing
+abbrev pub is_hidden_at_most : List (List ℕ) → Bool
+is_hidden_at_most [] = true
+is_hidden_at_most (last ∷ more) = same last (codes "hidden") && (length more == 0)
+
 -- five, and perhaps `hidden`
 abbrev pub listen_of : List (List ℕ) → Option (List ℕ × List ℕ × List ℕ × List ℕ × List ℕ)
-listen_of (a ∷ b ∷ c ∷ d ∷ e ∷ last ∷ []) = if same last (codes "hidden") then Some (a, b, c, d, e) else None
-listen_of args = five_of args
+listen_of (a ∷ b ∷ c ∷ d ∷ e ∷ more) = if is_hidden_at_most more then Some (a, b, c, d, e) else None
+listen_of _ = None
 
 -- four, and three for each of 1 to 8 peers
 abbrev pub is_group : List (List ℕ) → Bool
@@ -58,30 +63,39 @@ at_of address number = do
   port ← need fault.BadNumber (port_of number)
   Ok (record { ip = ip; port = port })
 
+-- `Listen NAME KIND PROTO ADDR PORT`
+abbrev pub listen_in : List (List ℕ) → Result Listen ConfFault
+listen_in args = do
+  five ← need fault.BadCount (listen_of args)
+  port ← need fault.BadKind (kind_of five.1 five.2)
+  at ← at_of five.3 five.4
+  Ok (record { name = five.0; spec = record { kind = port.kind; at = at }; idle = port.idle })
+
 abbrev pub with_listen : DraftSeen → Listen → Result DraftSeen ConfFault
 with_listen draft listen =
     unless (nat_le 16 (length draft.listens)) fault.TooMany (Ok (record draft { listens = draft.listens ++ listen ∷ [] }))
 
--- `Listen NAME KIND PROTO ADDR PORT`
 abbrev pub listen_says : DraftSeen → List (List ℕ) → Result DraftSeen ConfFault
-listen_says draft args = do
-  five ← need fault.BadCount (listen_of args)
-  port ← need fault.BadKind (kind_of five.1 five.2)
-  at ← at_of five.3 five.4
-  with_listen draft (record { name = five.0; spec = record { kind = port.kind; at = at }; idle = port.idle })
+listen_says draft args = listen_in args >>= with_listen draft
+
+-- `Uplink NAME full tcp HOST PORT`
+abbrev pub is_full : List ℕ → List ℕ → Bool
+is_full kind proto = same kind (codes "full") && same proto tcp
+
+abbrev pub uplink_in : List (List ℕ) → Result UplinkSpec ConfFault
+uplink_in args = do
+  five ← need fault.BadCount (five_of args)
+  unless (not (is_full five.1 five.2)) fault.BadKind (do
+    host ← need fault.BadHost (host_of five.3)
+    port ← need fault.BadNumber (port_of five.4)
+    Ok (record { host = record { items = host }; port = port }))
 
 abbrev pub with_uplink : DraftSeen → UplinkSpec → Result DraftSeen ConfFault
 with_uplink draft uplink =
     unless (nat_le 8 (length draft.uplinks)) fault.TooMany (Ok (record draft { uplinks = draft.uplinks ++ uplink ∷ [] }))
 
--- `Uplink NAME full tcp HOST PORT`
 abbrev pub uplink_says : DraftSeen → List (List ℕ) → Result DraftSeen ConfFault
-uplink_says draft args = do
-  five ← need fault.BadCount (five_of args)
-  unless (not (same five.1 (codes "full") && same five.2 tcp)) fault.BadKind (do
-    host ← need fault.BadHost (host_of five.3)
-    port ← need fault.BadNumber (port_of five.4)
-    with_uplink draft (record { host = record { items = host }; port = port }))
+uplink_says draft args = uplink_in args >>= with_uplink draft
 
 abbrev pub peer_of : List ℕ → List ℕ → List ℕ → Result PeerSpec ConfFault
 peer_of name address port = do
@@ -129,11 +143,14 @@ email_says draft args = do
   text ← need fault.BadCount (one_of args)
   Ok (record draft { email = Some text })
 
-abbrev pub timeout_says : (ℕ → DraftSeen) → List (List ℕ) → Result DraftSeen ConfFault
-timeout_says with_time args = do
+-- `UpstreamTimeout TIME`, `ClientTimeout TIME`
+abbrev pub time_in_line : List (List ℕ) → Result ℕ ConfFault
+time_in_line args = do
   text ← need fault.BadCount (one_of args)
-  time ← need fault.BadTime (time_of text)
-  Ok (with_time time)
+  need fault.BadTime (time_of text)
+
+abbrev pub timeout_says : (ℕ → DraftSeen) → List (List ℕ) → Result DraftSeen ConfFault
+timeout_says with_time args = time_in_line args >>= λ time. Ok (with_time time)
 
 abbrev pub clients_say : DraftSeen → List (List ℕ) → Result DraftSeen ConfFault
 clients_say draft args = do

@@ -1,4 +1,5 @@
 pub mod Arguments
 pub mod Grammar
+pub mod Reading
 pub mod Seen
 pub mod Words

@@ -74,7 +74,15 @@ closed [] = []
 closed (None ∷ words) = closed words
 closed (Some word ∷ words) = word ∷ closed words
 
+abbrev pub arguments_of : List ℕ → List (List ℕ)
+arguments_of text = closed (words_of text)
+
 -- a first word that begins with `#`, whatever follows it
 abbrev pub is_remark : List Word → Bool
 is_remark (Some (b ∷ more) ∷ words) = b == 35
 is_remark _ = false
+
+-- the lines behind a line end, where there is one
+abbrev pub lines_behind : Option (List ℕ) → List (List ℕ)
+lines_behind None = []
+lines_behind (Some text) = lines_of text

@@ -1,24 +1,20 @@
-//! What the lines so far have said.
+//! What the lines so far have said, and what each kind of line adds.
+ghost use Rattle.std.specs.Prelude.{◌≡◌, ℕ, ◌≤◌, List, Ok, Err, Some, None, IfOk, MatchResult, [], length, vec_len};
+ghost use Rattle.aprs_conf.specs.Grammar.{admin_says, at_of, clients_say, code_says, email_says, empty, group_says, is_group, listen_in, listen_says, nothing_says, peer_of, peers_from, peers_say, server_says, time_in_line, uplink_in, uplink_says};
+ghost use Rattle.aprs_conf.specs.Reading.{Fails};
+ghost use Rattle.aprs_conf.specs.Words.{arguments_of};
+
+use crate::arguments::{clients, code, host, ip, kind, port, station, time};
+use crate::errors::{ConfFault, LineError};
 use crate::types::{Listen, PeerSpec};
-use aprs_base::{Addr, Call, Text, UplinkSpec};
+use crate::words::{count_arguments, five, listen_words, next_argument, one};
+use aprs_base::{Addr, Call, ListenSpec, Text, UplinkSpec};
 use std::alloc::Global;
 use std::marker::Model;
 
-/// The words that begin a line. Those without effect are one.
-#[derive(Clone, Copy, PartialEq, Eq, Debug)]
-pub enum LineWord {
-    ServerId,
-    PassCode,
-    MyAdmin,
-    MyEmail,
-    Listen,
-    Uplink,
-    PeerGroup,
-    UpstreamTimeout,
-    ClientTimeout,
-    MaxClients,
-    Unused,
-}
+const MOST_LISTENS: usize = 16;
+
+const MOST_UPLINKS: usize = 8;
 
 /// What the lines so far have said.
 #[derive(Debug, Drop)]
@@ -42,4 +38,130 @@ impl Model for Draft {
     ghost Value = { DraftSeen };
 
     ghost view = { λ d. record { server = d.server; code = d.code; admin = d.admin; email = d.email; listens = d.listens.items; uplinks = d.uplinks.items; group = d.group; peers = d.peers.items; up_timeout = d.up_timeout; client_timeout = d.client_timeout; max_clients = d.max_clients } };
+}
+
+impl Draft {
+    /// A draft to which no line has added.
+    pub fn new(alloc: Global) -> Draft
+        ensures { result ≡ empty }
+    {
+        Draft {
+            server: None,
+            code: None,
+            admin: None,
+            email: None,
+            listens: Vec::new(alloc),
+            uplinks: Vec::new(alloc),
+            group: None,
+            peers: Vec::new(alloc),
+            up_timeout: None,
+            client_timeout: None,
+            max_clients: None,
+        }
+    }
+}
+
+/// `ServerId CALL`
+pub fn add_server(draft: &mut Draft, args: &[u8]) -> Result<(), ConfFault>
+    ensures { MatchResult result (λ _. server_says draft.old (arguments_of args.now) ≡ Ok draft.new) (λ f. server_says draft.old (arguments_of args.now) ≡ Err f) }
+{
+    let text = one(args).ok_or(ConfFault::BadCount)?;
+    let call = station(text).ok_or(ConfFault::BadCall)?;
+    draft.server = Some(call);
+    Ok(())
+}
+
+/// `PassCode N`
+pub fn add_code(draft: &mut Draft, args: &[u8]) -> Result<(), ConfFault>
+    ensures { MatchResult result (λ _. code_says draft.old (arguments_of args.now) ≡ Ok draft.new) (λ f. code_says draft.old (arguments_of args.now) ≡ Err f) }
+{
+    let text = one(args).ok_or(ConfFault::BadCount)?;
+    let code = code(text).ok_or(ConfFault::BadNumber)?;
+    draft.code = Some(code);
+    Ok(())
+}
+
+/// `MaxClients N`
+pub fn add_clients(draft: &mut Draft, args: &[u8]) -> Result<(), ConfFault>
+    ensures { MatchResult result (λ _. clients_say draft.old (arguments_of args.now) ≡ Ok draft.new) (λ f. clients_say draft.old (arguments_of args.now) ≡ Err f) }
+{
+    let text = one(args).ok_or(ConfFault::BadCount)?;
+    let most = clients(text).ok_or(ConfFault::BadNumber)?;
+    draft.max_clients = Some(most);
+    Ok(())
+}
+
+/// The time of a line that has nothing else.
+pub fn line_time(args: &[u8]) -> Result<u32, ConfFault>
+    ensures { result ≡ time_in_line (arguments_of args.now) }
+{
+    let text = one(args).ok_or(ConfFault::BadCount)?;
+    time(text).ok_or(ConfFault::BadTime)
+}
+
+/// `MyAdmin TEXT`
+pub fn add_admin(alloc: Global, draft: &mut Draft, args: &[u8]) -> Result<(), LineError>
+    ensures { MatchResult result (λ _. admin_says draft.old (arguments_of args.now) ≡ Ok draft.new) (λ e. Fails e (admin_says draft.old (arguments_of args.now))) }
+{
+    let text = one(args).ok_or(ConfFault::BadCount)?;
+    draft.admin = Some(Text::copied(alloc, text)?);
+    Ok(())
+}
+
+/// `MyEmail TEXT`
+pub fn add_email(alloc: Global, draft: &mut Draft, args: &[u8]) -> Result<(), LineError>
+    ensures { MatchResult result (λ _. email_says draft.old (arguments_of args.now) ≡ Ok draft.new) (λ e. Fails e (email_says draft.old (arguments_of args.now))) }
+{
+    let text = one(args).ok_or(ConfFault::BadCount)?;
+    draft.email = Some(Text::copied(alloc, text)?);
+    Ok(())
+}
+
+/// An address and a port.
+fn at(address: &[u8], number: &[u8]) -> Result<Addr, ConfFault>
+    ensures { result ≡ at_of address.now number.now }
+{
+    let ip = ip(address).ok_or(ConfFault::BadAddr)?;
+    let port = port(number).ok_or(ConfFault::BadNumber)?;
+    Ok(Addr { ip, port })
+}
+
+/// A listener, of which the name is not yet a text of its own.
+#[derive(Clone, Copy)]
+struct ListenRead<'a> {
+    name: &'a [u8],
+    spec: ListenSpec,
+    idle: bool,
+}
+
+fn read_listen(args: &[u8]) -> Result<ListenRead<'_>, ConfFault>
+    ensures { MatchResult result (λ l. listen_in (arguments_of args.now) ≡ Ok (record { name = l.name.now; spec = l.spec; idle = l.idle })) (λ f. listen_in (arguments_of args.now) ≡ Err f) }
+{
+    let (name, word, proto, address, number) = listen_words(args).ok_or(ConfFault::BadCount)?;
+    let service = kind(word, proto).ok_or(ConfFault::BadKind)?;
+    let at = at(address, number)?;
+    Ok(ListenRead {
+        name,
+        spec: ListenSpec {
+            kind: service.kind,
+            at,
+        },
+        idle: service.idle,
+    })
+}
+
+/// `Listen NAME KIND PROTO ADDR PORT`, perhaps `hidden`
+pub fn add_listen(alloc: Global, draft: &mut Draft, args: &[u8]) -> Result<(), LineError>
+    ensures { MatchResult result (λ _. listen_says draft.old (arguments_of args.now) ≡ Ok draft.new) (λ e. Fails e (listen_says draft.old (arguments_of args.now))) }
+{
+    let read = read_listen(args)?;
+    if draft.listens.len() >= MOST_LISTENS {
+        return Err(LineError::Fault(ConfFault::TooMany));
+    }
+    draft.listens.push(Listen {
+        name: Text::copied(alloc, read.name)?,
+        spec: read.spec,
+        idle: read.idle,
+    })?;
+    Ok(())
 }

@@ -1,6 +1,7 @@
 //! What may be wrong with the text of a configuration.
 ghost use Rattle.std.specs.Prelude.{◌≡◌};
 
+use aprs_base::Memory;
 use std::alloc::{AllocError, AllocFailed};
 use thiserror::Error;
 
@@ -85,5 +86,45 @@ impl<T: Drop> From<AllocFailed<T>> for ConfError {
 
     fn from(_failed: AllocFailed<T>) -> ConfError {
         ConfError::Memory
+    }
+}
+
+/// Why a line says nothing.
+#[derive(Clone, Copy, PartialEq, Eq, Debug)]
+pub enum LineError {
+    Fault(ConfFault),
+    Memory,
+}
+
+impl From<ConfFault> for LineError {
+    ghost use Rattle.std.specs.Prelude.{◌≡◌};
+    ghost use Rattle.aprs_conf.specs.declared.errors.LineError.TheVariants.{Fault};
+
+    ghost from_gives = { λ f e. e ≡ Fault f };
+
+    fn from(fault: ConfFault) -> LineError {
+        LineError::Fault(fault)
+    }
+}
+
+impl From<Memory> for LineError {
+    ghost use Rattle.std.specs.Prelude.{◌≡◌};
+    ghost use Rattle.aprs_conf.specs.declared.errors.LineError.TheVariants as line_error;
+
+    ghost from_gives = { λ _ e. e ≡ line_error.Memory };
+
+    fn from(_error: Memory) -> LineError {
+        LineError::Memory
+    }
+}
+
+impl<T: Drop> From<AllocFailed<T>> for LineError {
+    ghost use Rattle.std.specs.Prelude.{◌≡◌};
+    ghost use Rattle.aprs_conf.specs.declared.errors.LineError.TheVariants as line_error;
+
+    ghost from_gives = { λ _ e. e ≡ line_error.Memory };
+
+    fn from(_failed: AllocFailed<T>) -> LineError {
+        LineError::Memory
     }
 }

@@ -1,9 +1,12 @@
 //! The configuration of a server: its reading from a text, with the first fault and its line.
 #![tactic(auto)]
 
+mod arguments;
 mod draft;
 mod errors;
+mod reading;
 mod types;
+mod words;
 
 pub use errors::{ConfError, ConfFault, ConfWord};
 pub use types::{Conf, Listen, PeerSpec};
