@@ -1,4 +1,6 @@
+mod DraftLemmas
 mod LineLemmas
 mod NumberLemmas
+mod PeerLemmas
 mod Rows
 mod WordLemmas

@@ -1,6 +1,6 @@
 -- The grammar of a configuration: the value of a text, or its first fault (aprsc manual, Configuration).
 use Rattle.std.specs.Prelude.{ℕ, ◌+◌, ◌%◌, ◌==◌, ◌&&◌, Bool, true, false, if◌then◌else◌, nat_le, not, min, List, [], ◌∷◌, ◌++◌, length, codes, Option, Some, None, Result, Ok, Err, unwrap_or}
-use Rattle.std.specs.List.{find}
+use Rattle.std.specs.List.{find, list_any}
 use Rattle.std.specs.Option.{option_map}
 use Rattle.aprs_base.specs.declared.packets.UplinkSpec.{UplinkSpec}
 use Rattle.aprs_base.specs.declared.texts.Addr.{Addr}
@@ -109,17 +109,17 @@ peers_from peers [] = Ok peers
 peers_from peers (call ∷ address ∷ port ∷ more) = peer_of call address port >>= λ peer. peers_from (peers ++ peer ∷ []) more
 peers_from peers _ = Err fault.BadCount
 
--- `PeerGroup NAME udp ADDR PORT`, and `CALL ADDR PORT` for each peer
-abbrev pub peers_say : DraftSeen → List (List ℕ) → Result DraftSeen ConfFault
-peers_say draft (name ∷ proto ∷ address ∷ port ∷ more) =
-    unless (not (same proto udp)) fault.BadKind (do
-      at ← at_of address port
-      peers ← peers_from [] more
-      Ok (record draft { group = Some at; peers = peers }))
-peers_say draft _ = Err fault.BadCount
+-- `PeerGroup NAME udp ADDR PORT`, and what stands behind it
+abbrev pub group_in : List (List ℕ) → Result (Addr × List (List ℕ)) ConfFault
+group_in (name ∷ proto ∷ address ∷ port ∷ more) = unless (not (same proto udp)) fault.BadKind (at_of address port >>= λ at. Ok (at, more))
+group_in _ = Err fault.BadCount
 
+-- and behind it `CALL ADDR PORT` for each peer
 abbrev pub group_says : DraftSeen → List (List ℕ) → Result DraftSeen ConfFault
-group_says draft args = unless (not (is_group args)) fault.BadCount (peers_say draft args)
+group_says draft args = unless (not (is_group args)) fault.BadCount (do
+  group ← group_in args
+  peers ← peers_from [] group.1
+  Ok (record draft { group = Some group.0; peers = peers }))
 
 abbrev pub server_says : DraftSeen → List (List ℕ) → Result DraftSeen ConfFault
 server_says draft args = do
@@ -197,15 +197,21 @@ line_words =
     ∷ word_row (codes "UpstreamTimeout") word.UpstreamTimeout
     ∷ word_row (codes "ClientTimeout") word.ClientTimeout
     ∷ word_row (codes "MaxClients") word.MaxClients
-    ∷ word_row (codes "RunDir") word.Unused
-    ∷ word_row (codes "LogRotate") word.Unused
-    ∷ word_row (codes "FileLimit") word.Unused
-    ∷ word_row (codes "HTTPStatus") word.Unused
-    ∷ word_row (codes "HTTPUpload") word.Unused
     ∷ []
 
+-- those without effect here
+abbrev pub unused : List (List ℕ)
+unused = codes "RunDir" ∷ codes "LogRotate" ∷ codes "FileLimit" ∷ codes "HTTPStatus" ∷ codes "HTTPUpload" ∷ []
+
+abbrev pub is_unused : List ℕ → Bool
+is_unused text = list_any (λ name. is_keyword name text) unused
+
+abbrev pub or_unused : Bool → Option LineWord → Option LineWord
+or_unused is_there (Some w) = Some w
+or_unused is_there None = if is_there then Some word.Unused else None
+
 abbrev pub word_of : List ℕ → Option LineWord
-word_of text = option_map (λ row. row.word) (find (λ row. is_keyword row.name text) line_words)
+word_of text = or_unused (is_unused text) (option_map (λ row. row.word) (find (λ row. is_keyword row.name text) line_words))
 
 abbrev pub is_some : {A : Type 0} → Option A → Bool
 is_some None = false

@@ -1,6 +1,7 @@
 //! What the lines so far have said, and what each kind of line adds.
-ghost use Rattle.std.specs.Prelude.{◌≡◌, ℕ, ◌≤◌, List, Ok, Err, Some, None, IfOk, MatchResult, [], length, vec_len};
-ghost use Rattle.aprs_conf.specs.Grammar.{admin_says, at_of, clients_say, code_says, email_says, empty, group_says, is_group, listen_in, listen_says, nothing_says, peer_of, peers_from, peers_say, server_says, time_in_line, uplink_in, uplink_says};
+ghost use Rattle.std.specs.Prelude.{◌≡◌, ℕ, ◌≤◌, ◌<◌, ◌∷◌, ◌++◌, List, Ok, Err, Some, None, IfOk, MatchResult, [], length, vec_len};
+ghost use Rattle.aprs_conf.specs.Grammar.{admin_says, at_of, clients_say, code_says, email_says, empty, group_in, group_says, is_full, is_group, listen_in, listen_says, nothing_says, peer_of, peers_from, server_says, time_in_line, uplink_in, uplink_says};
+ghost use Rattle.aprs_conf.specs.declared.types.PeerSpec.{PeerSpec};
 ghost use Rattle.aprs_conf.specs.Reading.{Fails};
 ghost use Rattle.aprs_conf.specs.Words.{arguments_of};
 
@@ -164,4 +165,115 @@ pub fn add_listen(alloc: Global, draft: &mut Draft, args: &[u8]) -> Result<(), L
         idle: read.idle,
     })?;
     Ok(())
+}
+
+fn is_full(kind: &[u8], proto: &[u8]) -> bool
+    ensures { result ≡ is_full kind.now proto.now }
+{
+    kind == b"full".as_slice() && proto == b"tcp".as_slice()
+}
+
+fn read_uplink(args: &[u8]) -> Result<UplinkSpec, ConfFault>
+    ensures { result ≡ uplink_in (arguments_of args.now) }
+{
+    let (_, kind, proto, name, number) = five(args).ok_or(ConfFault::BadCount)?;
+    if !is_full(kind, proto) {
+        return Err(ConfFault::BadKind);
+    }
+    let host = host(name).ok_or(ConfFault::BadHost)?;
+    let port = port(number).ok_or(ConfFault::BadNumber)?;
+    Ok(UplinkSpec { host, port })
+}
+
+/// `Uplink NAME full tcp HOST PORT`
+pub fn add_uplink(draft: &mut Draft, args: &[u8]) -> Result<(), LineError>
+    ensures { MatchResult result (λ _. uplink_says draft.old (arguments_of args.now) ≡ Ok draft.new) (λ e. Fails e (uplink_says draft.old (arguments_of args.now))) }
+{
+    let uplink = read_uplink(args)?;
+    if draft.uplinks.len() >= MOST_UPLINKS {
+        return Err(LineError::Fault(ConfFault::TooMany));
+    }
+    draft.uplinks.push(uplink)?;
+    Ok(())
+}
+
+fn peer(name: &[u8], address: &[u8], number: &[u8]) -> Result<PeerSpec, ConfFault>
+    ensures { result ≡ peer_of name.now address.now number.now }
+{
+    let call = station(name).ok_or(ConfFault::BadCall)?;
+    let at = at(address, number)?;
+    Ok(PeerSpec { call, at })
+}
+
+/// The first peer of these arguments, and what stands behind it; its name is `name`.
+fn first_peer<'a>(name: &[u8], args: &'a [u8]) -> Result<(PeerSpec, &'a [u8]), ConfFault>
+    ensures value { (peers : List PeerSpec) → MatchResult result (λ p. peers_from peers (name.now ∷ arguments_of args.now) ≡ peers_from (peers ++ p.0 ∷ []) (arguments_of p.1.now)) (λ f. peers_from peers (name.now ∷ arguments_of args.now) ≡ Err f) }
+    ensures shorter { IfOk result (λ p. length p.1.now < length args.now) }
+{
+    let Some((address, behind)) = next_argument(args) else {
+        return Err(ConfFault::BadCount);
+    };
+    let Some((number, behind)) = next_argument(behind) else {
+        return Err(ConfFault::BadCount);
+    };
+    Ok((peer(name, address, number)?, behind))
+}
+
+/// The peers of these arguments.
+fn read_peers(alloc: Global, args: &[u8]) -> Result<Vec<PeerSpec>, LineError>
+    ensures { MatchResult result (λ peers. peers_from [] (arguments_of args.now) ≡ Ok peers.items) (λ e. Fails e (peers_from [] (arguments_of args.now))) }
+{
+    let mut peers = Vec::new(alloc);
+    let mut rest = args;
+    while let Some((name, behind)) = next_argument(rest) {
+        let (peer, behind) = first_peer(name, behind)?;
+        peers.push(peer)?;
+        rest = behind;
+    }
+    Ok(peers)
+}
+
+/// Whether there are as many arguments as 1 to 8 peers have.
+fn is_group(args: &[u8]) -> bool
+    ensures { result ≡ is_group (arguments_of args.now) }
+{
+    let count = count_arguments(args);
+    count >= 7 && count <= 28 && count % 3 == 1
+}
+
+fn read_group(args: &[u8]) -> Result<(Addr, &[u8]), ConfFault>
+    ensures { MatchResult result (λ g. group_in (arguments_of args.now) ≡ Ok (g.0, arguments_of g.1.now)) (λ f. group_in (arguments_of args.now) ≡ Err f) }
+{
+    let (_, behind) = next_argument(args).ok_or(ConfFault::BadCount)?;
+    let (proto, behind) = next_argument(behind).ok_or(ConfFault::BadCount)?;
+    let (address, behind) = next_argument(behind).ok_or(ConfFault::BadCount)?;
+    let (number, behind) = next_argument(behind).ok_or(ConfFault::BadCount)?;
+    if proto != b"udp".as_slice() {
+        return Err(ConfFault::BadKind);
+    }
+    Ok((at(address, number)?, behind))
+}
+
+/// `PeerGroup NAME udp ADDR PORT`, and `CALL ADDR PORT` for each peer
+pub fn add_group(alloc: Global, draft: &mut Draft, args: &[u8]) -> Result<(), LineError>
+    ensures { MatchResult result (λ _. group_says draft.old (arguments_of args.now) ≡ Ok draft.new) (λ e. Fails e (group_says draft.old (arguments_of args.now))) }
+{
+    if !is_group(args) {
+        return Err(LineError::Fault(ConfFault::BadCount));
+    }
+    let (at, behind) = read_group(args)?;
+    draft.peers = read_peers(alloc, behind)?;
+    draft.group = Some(at);
+    Ok(())
+}
+
+/// A line without effect
+pub fn add_nothing(draft: &mut Draft, args: &[u8]) -> Result<(), ConfFault>
+    ensures { MatchResult result (λ _. nothing_says draft.old (arguments_of args.now) ≡ Ok draft.new) (λ f. nothing_says draft.old (arguments_of args.now) ≡ Err f) }
+{
+    let _ = draft;
+    match next_argument(args) {
+        Some(_) => Ok(()),
+        None => Err(ConfFault::BadCount),
+    }
 }

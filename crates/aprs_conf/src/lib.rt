@@ -9,4 +9,5 @@ mod types;
 mod words;
 
 pub use errors::{ConfError, ConfFault, ConfWord};
+pub use reading::read;
 pub use types::{Conf, Listen, PeerSpec};
