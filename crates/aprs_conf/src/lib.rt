@@ -5,6 +5,8 @@ mod arguments;
 mod draft;
 mod errors;
 mod reading;
+#[cfg(test)]
+mod tests;
 mod types;
 mod words;
 
