@@ -2,6 +2,7 @@
 ghost use Rattle.std.specs.Prelude.{◌≡◌, ℕ, ◌≤◌, ◌<◌, ◌∷◌, ◌++◌, List, Ok, Err, Some, None, IfOk, MatchResult, [], length, vec_len};
 ghost use Rattle.aprs_conf.specs.Grammar.{admin_says, at_of, clients_say, code_says, email_says, empty, group_in, group_says, is_full, is_group, listen_in, listen_says, nothing_says, peer_of, peers_from, server_says, time_in_line, uplink_in, uplink_says};
 ghost use Rattle.aprs_conf.specs.declared.types.PeerSpec.{PeerSpec};
+ghost use Rattle.aprs_conf.specs.Seen.{DraftSeen};
 ghost use Rattle.aprs_conf.specs.Reading.{Fails};
 ghost use Rattle.aprs_conf.specs.Words.{arguments_of};
 
@@ -267,11 +268,10 @@ pub fn add_group(alloc: Global, draft: &mut Draft, args: &[u8]) -> Result<(), Li
     Ok(())
 }
 
-/// A line without effect
-pub fn add_nothing(draft: &mut Draft, args: &[u8]) -> Result<(), ConfFault>
-    ensures { MatchResult result (λ _. nothing_says draft.old (arguments_of args.now) ≡ Ok draft.new) (λ f. nothing_says draft.old (arguments_of args.now) ≡ Err f) }
+/// Whether a line without effect has an argument or more.
+pub fn expect_argument(args: &[u8]) -> Result<(), ConfFault>
+    ensures { (draft : DraftSeen) → MatchResult result (λ _. nothing_says draft (arguments_of args.now) ≡ Ok draft) (λ f. nothing_says draft (arguments_of args.now) ≡ Err f) }
 {
-    let _ = draft;
     match next_argument(args) {
         Some(_) => Ok(()),
         None => Err(ConfFault::BadCount),

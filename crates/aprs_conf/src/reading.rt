@@ -8,8 +8,8 @@ ghost use Rattle.aprs_conf.specs.Words.{arguments_of, lines_of};
 ghost use Rattle.login_pass.specs.Login.{is_keyword};
 
 use crate::draft::{
-    Draft, add_admin, add_clients, add_code, add_email, add_group, add_listen, add_nothing,
-    add_server, add_uplink, line_time,
+    Draft, add_admin, add_clients, add_code, add_email, add_group, add_listen, add_server,
+    add_uplink, expect_argument, line_time,
 };
 use crate::errors::{ConfError, ConfFault, ConfWord, LineError};
 use crate::types::Conf;
@@ -130,7 +130,7 @@ fn add(alloc: Global, word: LineWord, draft: &mut Draft, args: &[u8]) -> Result<
         LineWord::UpstreamTimeout => add_up_timeout(draft, args)?,
         LineWord::ClientTimeout => add_client_timeout(draft, args)?,
         LineWord::MaxClients => add_clients(draft, args)?,
-        LineWord::Unused => add_nothing(draft, args)?,
+        LineWord::Unused => expect_argument(args)?,
     }
     Ok(())
 }
