@@ -3,4 +3,5 @@ mod LineLemmas
 mod NumberLemmas
 mod PeerLemmas
 mod Rows
+pub mod SoundLemmas
 mod WordLemmas

@@ -4,6 +4,7 @@ ghost use Rattle.aprs_conf.specs.declared.errors.ConfFault.{ConfFault};
 ghost use Rattle.aprs_conf.specs.declared.errors.ConfWord.{ConfWord};
 ghost use Rattle.aprs_conf.specs.Grammar.{after, conf_of, conf_with, drafted, empty, is_unused, line_says, next, says, timeout_says, was_said, word_of};
 ghost use Rattle.aprs_conf.specs.Reading.{at_number, Fails, FailsAt};
+ghost use Rattle.aprs_conf.specs.Sound.{IsSound};
 ghost use Rattle.aprs_conf.specs.Words.{arguments_of, lines_of};
 ghost use Rattle.login_pass.specs.Login.{is_keyword};
 
@@ -229,6 +230,7 @@ pub fn read(alloc: Global, text: &[u8]) -> Result<Conf, ConfError>
     ensures value { IfOk result (λ conf. conf_of text.now ≡ Ok conf) }
     ensures line { (n : ℕ) (f : ConfFault) → IsErrOf result (ConfError.Line n f) → conf_of text.now ≡ Err (ConfError.Line n f) }
     ensures missing { (w : ConfWord) → IsErrOf result (ConfError.Missing w) → conf_of text.now ≡ Err (ConfError.Missing w) }
+    ensures sound { IfOk result IsSound }
 {
     finish(alloc, read_lines(alloc, text)?)
 }
