@@ -1,0 +1,279 @@
+//! What the lines so far have said, and what each kind of line adds.
+ghost use Rattle.std.specs.Prelude.{◌≡◌, ℕ, ◌≤◌, ◌<◌, ◌∷◌, ◌++◌, List, Ok, Err, Some, None, IfOk, MatchResult, [], length, vec_len};
+ghost use Rattle.aprs_conf.specs.Grammar.{admin_says, at_of, clients_say, code_says, email_says, empty, group_in, group_says, is_full, is_group, listen_in, listen_says, nothing_says, peer_of, peers_from, server_says, time_in_line, uplink_in, uplink_says};
+ghost use Rattle.aprs_conf.specs.declared.types.PeerSpec.{PeerSpec};
+ghost use Rattle.aprs_conf.specs.Seen.{DraftSeen};
+ghost use Rattle.aprs_conf.specs.Reading.{Fails};
+ghost use Rattle.aprs_conf.specs.Words.{arguments_of};
+
+use crate::arguments::{clients, code, host, ip, kind, port, station, time};
+use crate::errors::{ConfFault, LineError};
+use crate::types::{Listen, PeerSpec};
+use crate::words::{count_arguments, five, listen_words, next_argument, one};
+use aprs_base::{Addr, Call, ListenSpec, Text, UplinkSpec};
+use std::alloc::Global;
+use std::marker::Model;
+
+const MOST_LISTENS: usize = 16;
+
+const MOST_UPLINKS: usize = 8;
+
+/// What the lines so far have said.
+#[derive(Debug, Drop)]
+pub struct Draft {
+    pub server: Option<Call>,
+    pub code: Option<u32>,
+    pub admin: Option<Text>,
+    pub email: Option<Text>,
+    pub listens: Vec<Listen>,
+    pub uplinks: Vec<UplinkSpec>,
+    pub group: Option<Addr>,
+    pub peers: Vec<PeerSpec>,
+    pub up_timeout: Option<u32>,
+    pub client_timeout: Option<u32>,
+    pub max_clients: Option<u32>,
+}
+
+impl Model for Draft {
+    ghost use Rattle.aprs_conf.specs.Seen.{DraftSeen};
+
+    ghost Value = { DraftSeen };
+
+    ghost view = { λ d. record { server = d.server; code = d.code; admin = d.admin; email = d.email; listens = d.listens.items; uplinks = d.uplinks.items; group = d.group; peers = d.peers.items; up_timeout = d.up_timeout; client_timeout = d.client_timeout; max_clients = d.max_clients } };
+}
+
+impl Draft {
+    /// A draft to which no line has added.
+    pub fn new(alloc: Global) -> Draft
+        ensures { result ≡ empty }
+    {
+        Draft {
+            server: None,
+            code: None,
+            admin: None,
+            email: None,
+            listens: Vec::new(alloc),
+            uplinks: Vec::new(alloc),
+            group: None,
+            peers: Vec::new(alloc),
+            up_timeout: None,
+            client_timeout: None,
+            max_clients: None,
+        }
+    }
+}
+
+/// `ServerId CALL`
+pub fn add_server(draft: &mut Draft, args: &[u8]) -> Result<(), ConfFault>
+    ensures { MatchResult result (λ _. server_says draft.old (arguments_of args.now) ≡ Ok draft.new) (λ f. server_says draft.old (arguments_of args.now) ≡ Err f) }
+{
+    let text = one(args).ok_or(ConfFault::BadCount)?;
+    let call = station(text).ok_or(ConfFault::BadCall)?;
+    draft.server = Some(call);
+    Ok(())
+}
+
+/// `PassCode N`
+pub fn add_code(draft: &mut Draft, args: &[u8]) -> Result<(), ConfFault>
+    ensures { MatchResult result (λ _. code_says draft.old (arguments_of args.now) ≡ Ok draft.new) (λ f. code_says draft.old (arguments_of args.now) ≡ Err f) }
+{
+    let text = one(args).ok_or(ConfFault::BadCount)?;
+    let code = code(text).ok_or(ConfFault::BadNumber)?;
+    draft.code = Some(code);
+    Ok(())
+}
+
+/// `MaxClients N`
+pub fn add_clients(draft: &mut Draft, args: &[u8]) -> Result<(), ConfFault>
+    ensures { MatchResult result (λ _. clients_say draft.old (arguments_of args.now) ≡ Ok draft.new) (λ f. clients_say draft.old (arguments_of args.now) ≡ Err f) }
+{
+    let text = one(args).ok_or(ConfFault::BadCount)?;
+    let most = clients(text).ok_or(ConfFault::BadNumber)?;
+    draft.max_clients = Some(most);
+    Ok(())
+}
+
+/// The time of a line that has nothing else.
+pub fn line_time(args: &[u8]) -> Result<u32, ConfFault>
+    ensures { result ≡ time_in_line (arguments_of args.now) }
+{
+    let text = one(args).ok_or(ConfFault::BadCount)?;
+    time(text).ok_or(ConfFault::BadTime)
+}
+
+/// `MyAdmin TEXT`
+pub fn add_admin(alloc: Global, draft: &mut Draft, args: &[u8]) -> Result<(), LineError>
+    ensures { MatchResult result (λ _. admin_says draft.old (arguments_of args.now) ≡ Ok draft.new) (λ e. Fails e (admin_says draft.old (arguments_of args.now))) }
+{
+    let text = one(args).ok_or(ConfFault::BadCount)?;
+    draft.admin = Some(Text::copied(alloc, text)?);
+    Ok(())
+}
+
+/// `MyEmail TEXT`
+pub fn add_email(alloc: Global, draft: &mut Draft, args: &[u8]) -> Result<(), LineError>
+    ensures { MatchResult result (λ _. email_says draft.old (arguments_of args.now) ≡ Ok draft.new) (λ e. Fails e (email_says draft.old (arguments_of args.now))) }
+{
+    let text = one(args).ok_or(ConfFault::BadCount)?;
+    draft.email = Some(Text::copied(alloc, text)?);
+    Ok(())
+}
+
+/// An address and a port.
+fn at(address: &[u8], number: &[u8]) -> Result<Addr, ConfFault>
+    ensures { result ≡ at_of address.now number.now }
+{
+    let ip = ip(address).ok_or(ConfFault::BadAddr)?;
+    let port = port(number).ok_or(ConfFault::BadNumber)?;
+    Ok(Addr { ip, port })
+}
+
+/// A listener, of which the name is not yet a text of its own.
+#[derive(Clone, Copy)]
+struct ListenRead<'a> {
+    name: &'a [u8],
+    spec: ListenSpec,
+    idle: bool,
+}
+
+fn read_listen(args: &[u8]) -> Result<ListenRead<'_>, ConfFault>
+    ensures { MatchResult result (λ l. listen_in (arguments_of args.now) ≡ Ok (record { name = l.name.now; spec = l.spec; idle = l.idle })) (λ f. listen_in (arguments_of args.now) ≡ Err f) }
+{
+    let (name, word, proto, address, number) = listen_words(args).ok_or(ConfFault::BadCount)?;
+    let service = kind(word, proto).ok_or(ConfFault::BadKind)?;
+    let at = at(address, number)?;
+    Ok(ListenRead {
+        name,
+        spec: ListenSpec {
+            kind: service.kind,
+            at,
+        },
+        idle: service.idle,
+    })
+}
+
+/// `Listen NAME KIND PROTO ADDR PORT`, perhaps `hidden`
+pub fn add_listen(alloc: Global, draft: &mut Draft, args: &[u8]) -> Result<(), LineError>
+    ensures { MatchResult result (λ _. listen_says draft.old (arguments_of args.now) ≡ Ok draft.new) (λ e. Fails e (listen_says draft.old (arguments_of args.now))) }
+{
+    let read = read_listen(args)?;
+    if draft.listens.len() >= MOST_LISTENS {
+        return Err(LineError::Fault(ConfFault::TooMany));
+    }
+    draft.listens.push(Listen {
+        name: Text::copied(alloc, read.name)?,
+        spec: read.spec,
+        idle: read.idle,
+    })?;
+    Ok(())
+}
+
+fn is_full(kind: &[u8], proto: &[u8]) -> bool
+    ensures { result ≡ is_full kind.now proto.now }
+{
+    kind == b"full".as_slice() && proto == b"tcp".as_slice()
+}
+
+fn read_uplink(args: &[u8]) -> Result<UplinkSpec, ConfFault>
+    ensures { result ≡ uplink_in (arguments_of args.now) }
+{
+    let (_, kind, proto, name, number) = five(args).ok_or(ConfFault::BadCount)?;
+    if !is_full(kind, proto) {
+        return Err(ConfFault::BadKind);
+    }
+    let host = host(name).ok_or(ConfFault::BadHost)?;
+    let port = port(number).ok_or(ConfFault::BadNumber)?;
+    Ok(UplinkSpec { host, port })
+}
+
+/// `Uplink NAME full tcp HOST PORT`
+pub fn add_uplink(draft: &mut Draft, args: &[u8]) -> Result<(), LineError>
+    ensures { MatchResult result (λ _. uplink_says draft.old (arguments_of args.now) ≡ Ok draft.new) (λ e. Fails e (uplink_says draft.old (arguments_of args.now))) }
+{
+    let uplink = read_uplink(args)?;
+    if draft.uplinks.len() >= MOST_UPLINKS {
+        return Err(LineError::Fault(ConfFault::TooMany));
+    }
+    draft.uplinks.push(uplink)?;
+    Ok(())
+}
+
+fn peer(name: &[u8], address: &[u8], number: &[u8]) -> Result<PeerSpec, ConfFault>
+    ensures { result ≡ peer_of name.now address.now number.now }
+{
+    let call = station(name).ok_or(ConfFault::BadCall)?;
+    let at = at(address, number)?;
+    Ok(PeerSpec { call, at })
+}
+
+/// The first peer of these arguments, and what stands behind it; its name is `name`.
+fn first_peer<'a>(name: &[u8], args: &'a [u8]) -> Result<(PeerSpec, &'a [u8]), ConfFault>
+    ensures value { (peers : List PeerSpec) → MatchResult result (λ p. peers_from peers (name.now ∷ arguments_of args.now) ≡ peers_from (peers ++ p.0 ∷ []) (arguments_of p.1.now)) (λ f. peers_from peers (name.now ∷ arguments_of args.now) ≡ Err f) }
+    ensures shorter { IfOk result (λ p. length p.1.now < length args.now) }
+{
+    let Some((address, behind)) = next_argument(args) else {
+        return Err(ConfFault::BadCount);
+    };
+    let Some((number, behind)) = next_argument(behind) else {
+        return Err(ConfFault::BadCount);
+    };
+    Ok((peer(name, address, number)?, behind))
+}
+
+/// The peers of these arguments.
+fn read_peers(alloc: Global, args: &[u8]) -> Result<Vec<PeerSpec>, LineError>
+    ensures { MatchResult result (λ peers. peers_from [] (arguments_of args.now) ≡ Ok peers.items) (λ e. Fails e (peers_from [] (arguments_of args.now))) }
+{
+    let mut peers = Vec::new(alloc);
+    let mut rest = args;
+    while let Some((name, behind)) = next_argument(rest) {
+        let (peer, behind) = first_peer(name, behind)?;
+        peers.push(peer)?;
+        rest = behind;
+    }
+    Ok(peers)
+}
+
+/// Whether there are as many arguments as 1 to 8 peers have.
+fn is_group(args: &[u8]) -> bool
+    ensures { result ≡ is_group (arguments_of args.now) }
+{
+    let count = count_arguments(args);
+    count >= 7 && count <= 28 && count % 3 == 1
+}
+
+fn read_group(args: &[u8]) -> Result<(Addr, &[u8]), ConfFault>
+    ensures { MatchResult result (λ g. group_in (arguments_of args.now) ≡ Ok (g.0, arguments_of g.1.now)) (λ f. group_in (arguments_of args.now) ≡ Err f) }
+{
+    let (_, behind) = next_argument(args).ok_or(ConfFault::BadCount)?;
+    let (proto, behind) = next_argument(behind).ok_or(ConfFault::BadCount)?;
+    let (address, behind) = next_argument(behind).ok_or(ConfFault::BadCount)?;
+    let (number, behind) = next_argument(behind).ok_or(ConfFault::BadCount)?;
+    if proto != b"udp".as_slice() {
+        return Err(ConfFault::BadKind);
+    }
+    Ok((at(address, number)?, behind))
+}
+
+/// `PeerGroup NAME udp ADDR PORT`, and `CALL ADDR PORT` for each peer
+pub fn add_group(alloc: Global, draft: &mut Draft, args: &[u8]) -> Result<(), LineError>
+    ensures { MatchResult result (λ _. group_says draft.old (arguments_of args.now) ≡ Ok draft.new) (λ e. Fails e (group_says draft.old (arguments_of args.now))) }
+{
+    if !is_group(args) {
+        return Err(LineError::Fault(ConfFault::BadCount));
+    }
+    let (at, behind) = read_group(args)?;
+    draft.peers = read_peers(alloc, behind)?;
+    draft.group = Some(at);
+    Ok(())
+}
+
+/// Whether a line without effect has an argument or more.
+pub fn expect_argument(args: &[u8]) -> Result<(), ConfFault>
+    ensures { (draft : DraftSeen) → MatchResult result (λ _. nothing_says draft (arguments_of args.now) ≡ Ok draft) (λ f. nothing_says draft (arguments_of args.now) ≡ Err f) }
+{
+    match next_argument(args) {
+        Some(_) => Ok(()),
+        None => Err(ConfFault::BadCount),
+    }
+}

@@ -1,0 +1,15 @@
+//! The configuration of a server: its reading from a text, with the first fault and its line.
+#![tactic(auto)]
+
+mod arguments;
+mod draft;
+mod errors;
+mod reading;
+#[cfg(test)]
+mod tests;
+mod types;
+mod words;
+
+pub use errors::{ConfError, ConfFault, ConfWord};
+pub use reading::read;
+pub use types::{Conf, Listen, PeerSpec};
