@@ -21,7 +21,8 @@ use Rattle.aprs_history.specs.Texts.{login_reply}
 use Rattle.aprs_history.specs.History.{begin_round, end_all}
 use Rattle.aprs_history.specs.Stands.{LinkSeen, CoreSeen, link_seen, Follows}
 use Rattle.server_core.specs.LinkSteps.{at_link, has_that, has_number, is_there, is_another, with_session, with_packet, with_room, with_bytes, new_link_seen, numbers, Rises, session_at, held_at, picked_at, session_kept, held_kept, only_at, only_kept, others_at}
-use Rattle.server_core.specs.Meaning.{CoreMeaning, ConfSeen, setting_of}
+use Rattle.aprs_conf.specs.Seen.{ConfSeen}
+use Rattle.server_core.specs.Meaning.{CoreMeaning, setting_of}
 use Rattle.server_core.specs.Kept.{IsKept}
 use Rattle.server_core.specs.Steps.{SameRest, Walks, saying, scene_at, with_verdict}
 use Rattle.server_core.proofs.LinkLemmas.{changed_none, rises_to, rises_push}

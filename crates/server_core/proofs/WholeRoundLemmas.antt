@@ -11,7 +11,7 @@ use Rattle.aprs_history.specs.Acts.{Act, Closes, due, acts_after, offer_to, offe
 use Rattle.aprs_history.specs.Stands.{Follows, StandsFor}
 use Rattle.server_core.specs.ActsSeen.{ActsSeen}
 use Rattle.server_core.specs.LinkSteps.{is_ready, number_of, numbers}
-use Rattle.server_core.specs.Meaning.{CoreMeaning, ConfSeen, setting_of, Stands, AreActs}
+use Rattle.server_core.specs.Meaning.{CoreMeaning, setting_of, Stands, AreActs}
 use Rattle.server_core.specs.Steps.{Walks, SameRest, AfterEvent}
 use Rattle.server_core.specs.RoundWalk.{GoesOn, Walking, Traced}
 use Rattle.server_core.proofs.RoundLemmas.{ends_not, open_whole, trace_whole, greatest_whole, stopped_whole, due_whole, event_going, event_stopped, history_going, offers_are, closes_are}

@@ -1,19 +1,21 @@
 -- The core as contracts see it: its configuration, and what it keeps.
-use Rattle.std.specs.Prelude.{◌≡◌, ℕ, List, [], ◌++◌, map, None}
+use Rattle.std.specs.Prelude.{◌≡◌, ℕ, List, [], ◌∷◌, ◌++◌, map, None, if◌then◌else◌}
 use Rattle.aprs_base.specs.declared.packets.ListenSpec.{ListenSpec}
+use Rattle.aprs_conf.specs.Seen.{ConfSeen}
+use Rattle.aprs_conf.specs.declared.types.Listen.{Listen}
 use Rattle.aprs_history.specs.Setting.{Setting}
 use Rattle.aprs_history.specs.Stands.{CoreSeen, StandsFor}
 use Rattle.aprs_history.specs.History.{History, trace_of}
 use Rattle.aprs_history.specs.Acts.{Act, Closes, due, offer_to}
 use Rattle.server_core.specs.ActsSeen.{ActsSeen}
 
-pub record ConfSeen : Type 0 where
-  pub server : List ℕ
-  pub code : ℕ
-  pub listens : List ListenSpec
+-- the listeners that have a number, in order: those that aren't idle
+abbrev pub numbered : List Listen → List ListenSpec
+numbered [] = []
+numbered (listen ∷ listens) = if listen.idle then numbered listens else listen.spec ∷ numbered listens
 
 abbrev pub setting_of : ConfSeen → Setting
-setting_of conf = record { server = conf.server; listens = conf.listens }
+setting_of conf = record { server = conf.server; listens = numbered conf.listens }
 
 pub record CoreMeaning : Type 0 where
   pub conf : ConfSeen

@@ -1,43 +1,41 @@
-//! The configuration of a server.
-ghost use Rattle.std.specs.Prelude.{◌≡◌};
+//! What the core asks of a configuration.
+ghost use Rattle.std.specs.Prelude.{◌≡◌, slice_get};
 ghost use Rattle.aprs_history.specs.Setting.{client_kind, kind_at};
-ghost use Rattle.server_core.specs.Meaning.{setting_of};
+ghost use Rattle.server_core.specs.Meaning.{numbered, setting_of};
 
 use aprs_base::{Call, ListenSpec, PortKind};
-use std::marker::Model;
+use aprs_conf::{Conf, Listen};
 
-/// A server's call, its passcode, and its numbered listeners.
-#[derive(Debug, Drop)]
-pub struct Conf {
-    pub server: Call,
-    pub code: u32,
-    pub listens: Vec<ListenSpec>,
+/// The server's call.
+pub(crate) fn server_of(conf: &Conf) -> &Call
+    ensures { result.now ≡ conf.now.server }
+{
+    &conf.server
 }
 
-impl Model for Conf {
-    ghost use Rattle.server_core.specs.Meaning.{ConfSeen};
-
-    ghost Value = { ConfSeen };
-
-    ghost view = { λ c. record { server = c.server; code = c.code; listens = c.listens.items } };
-}
-
-impl Conf {
-    /// The server's call.
-    pub fn server(&self) -> &Call
-        ensures { result.now ≡ self.now.server }
-    {
-        &self.server
-    }
-
-    /// What the listener of that number serves to clients: nothing where there is none, or where it takes datagrams.
-    pub fn client_kind(&self, listener: u16) -> Option<PortKind>
-        ensures { result ≡ kind_at (setting_of self.now) listener }
-    {
-        match self.listens.get(usize::from(listener)) {
-            Some(spec) => client_kind_of(spec.kind),
-            None => None,
+/// The listener of that number, among those that aren't idle.
+fn numbered_at(listens: &[Listen], number: usize) -> Option<ListenSpec>
+    ensures { result ≡ slice_get (numbered listens.now) number }
+{
+    let mut left = number;
+    for listen in listens {
+        if !listen.idle {
+            if left == 0 {
+                return Some(listen.spec);
+            }
+            left -= 1;
         }
+    }
+    None
+}
+
+/// What the listener of that number serves to clients: nothing where there is none, or where it takes datagrams.
+pub(crate) fn served_by(conf: &Conf, listener: u16) -> Option<PortKind>
+    ensures { result ≡ kind_at (setting_of conf.now) listener }
+{
+    match numbered_at(conf.listens.as_slice(), usize::from(listener)) {
+        Some(spec) => client_kind_of(spec.kind),
+        None => None,
     }
 }
 

@@ -11,5 +11,4 @@ mod replies;
 mod server;
 
 pub use acts::{Acts, CastOut};
-pub use conf::Conf;
 pub use server::Core;

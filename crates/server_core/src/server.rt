@@ -17,7 +17,7 @@ ghost use Rattle.aprs_history.specs.Texts.{untaken};
 ghost use Rattle.server_core.specs.LinkSteps.{AreServed, Rises, has_number, is_ready, number_of, numbers, pending_at, session_at};
 ghost use Rattle.aprs_base.specs.declared.events.Happening.{Happening};
 ghost use Rattle.aprs_base.specs.declared.events.Sent.{Sent};
-ghost use Rattle.server_core.specs.Meaning.{AreActs, Stands, setting_of};
+ghost use Rattle.server_core.specs.Meaning.{AreActs, Stands, numbered, setting_of};
 ghost use Rattle.server_core.specs.RoundWalk.{Traced, Walking};
 ghost use Rattle.server_core.specs.Steps.{AfterEvent, SameRest, Walks, saying, scene_at, with_verdict};
 
@@ -25,7 +25,7 @@ ghost use Rattle.server_core.specs.Steps.{AfterEvent, SameRest, Walks, saying, s
 mod tests;
 
 use crate::acts::Acts;
-use crate::conf::Conf;
+use crate::conf::{served_by, server_of};
 use crate::link::Link;
 use crate::judging::{is_comment_line, judge_login, judge_packet};
 use crate::links::{
@@ -37,6 +37,7 @@ use aprs_base::{
     Addr, Chunk, Cut, Event, Line, Memory, Packet, Parts, PortKind, Source,
 };
 use aprs_body::classify;
+use aprs_conf::Conf;
 use aprs_history::{Refusal, Session, Verdict};
 use std::alloc::Global;
 use std::marker::{Model, Sync};
@@ -100,11 +101,11 @@ impl Core {
         ensures { IfOk result (λ verdict. verdict ≡ line_verdict (scene_at self.now number) (session_at number self.now.seen.links) line.now) }
     {
         let Some(origin) = origin_at(self.links.as_slice(), number) else {
-            return Ok(judge_login(self.conf.server(), line));
+            return Ok(judge_login(server_of(&self.conf), line));
         };
         let others = others(alloc, self.links.as_slice(), number)?;
         Ok(judge_packet(
-            self.conf.server(),
+            server_of(&self.conf),
             &origin,
             others.as_slice(),
             self.moment,
@@ -139,7 +140,7 @@ impl Core {
         requires { IsTrue (is_station session.call) }
         ensures { OnOk result (self.new ≡ with_verdict number (Verdict.LoggedIn session) self.old) }
     {
-        let line = Arc::new(alloc, login_line(self.conf.server(), &session))?;
+        let line = Arc::new(alloc, login_line(server_of(&self.conf), &session))?;
         log_in(&mut self.links, number, session, line)
     }
 
@@ -210,7 +211,7 @@ impl Core {
         ensures stopped { OnOk result (self.new.seen.stopped ≡ self.old.seen.stopped) }
     {
         self.greatest = number;
-        match self.conf.client_kind(listener) {
+        match served_by(&self.conf, listener) {
             Some(kind) => {
                 self.links
                     .push(Link::open(alloc, number, kind, from, self.moment)?)?;
@@ -413,7 +414,7 @@ impl Core {
     pub fn new(alloc: Global, conf: Conf, _workers: u32) -> Result<Core, Memory>
         requires some { 1 ≤ _workers }
         requires most { _workers ≤ 64 }
-        requires listens { length conf.listens ≤ 16 }
+        requires listens { length (numbered conf.listens) ≤ 16 }
         requires station { IsTrue (is_station conf.server) }
         ensures conf { IfOk result (λ core. core.conf ≡ conf) }
         ensures stands { IfOk result (λ core. Stands core (only_listens (setting_of conf))) }

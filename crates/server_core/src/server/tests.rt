@@ -6,8 +6,8 @@ ghost use Rattle.server_core.specs.Steps.{SameRest};
 
 use super::Core;
 use crate::acts::Acts;
-use crate::conf::Conf;
-use aprs_base::{Addr, Call, Chunk, Event, ListenSpec, Memory, PortKind};
+use aprs_base::{Addr, Call, Chunk, Event, ListenSpec, Memory, PortKind, Text};
+use aprs_conf::{Conf, Listen};
 use std::alloc::Global;
 use std::marker::Sync;
 use std::process::Abort;
@@ -19,6 +19,41 @@ const HERE: Addr = Addr {
     port: 14580,
 };
 
+fn no_text(alloc: Global) -> Text {
+    Text {
+        bytes: Vec::new(alloc),
+    }
+}
+
+fn listen(alloc: Global, kind: PortKind) -> Listen
+    ensures { result.spec ≡ record { kind = kind; at = HERE } }
+{
+    Listen {
+        name: no_text(alloc),
+        spec: ListenSpec { kind, at: HERE },
+        idle: false,
+    }
+}
+
+fn conf_of(alloc: Global, server: Call, listens: Vec<Listen>) -> Conf
+    ensures server { result.server ≡ server }
+    ensures listens { result.listens ≡ listens.items }
+{
+    Conf {
+        server,
+        code: 8385,
+        admin: no_text(alloc),
+        email: no_text(alloc),
+        listens,
+        uplinks: Vec::new(alloc),
+        group: None,
+        peers: Vec::new(alloc),
+        up_timeout: 15,
+        client_timeout: 172_800,
+        max_clients: 500,
+    }
+}
+
 /// A core with this call, which listens on a full port and on one for clients alone.
 fn core_of<R: Abort>(rt: &R, alloc: Global, server: &[u8]) -> Result<Core, Memory>
     ensures { IfOk result (λ core. (core.seen.greatest ≡ 0) × (core.seen.stopped ≡ false)) }
@@ -26,19 +61,10 @@ fn core_of<R: Abort>(rt: &R, alloc: Global, server: &[u8]) -> Result<Core, Memor
     let server = Call::read(server).expect(rt, "a call");
     assert!(rt; server.is_station());
     let mut listens = Vec::new(alloc);
-    for kind in [PortKind::Full, PortKind::Only] {
-        listens.push(ListenSpec { kind, at: HERE })?;
-    }
+    listens.push(listen(alloc, PortKind::Full))?;
+    listens.push(listen(alloc, PortKind::Only))?;
     assert!(rt; listens.len() == 2);
-    Core::new(
-        alloc,
-        Conf {
-            server,
-            code: 8385,
-            listens,
-        },
-        1,
-    )
+    Core::new(alloc, conf_of(alloc, server, listens), 1)
 }
 
 fn new_core<R: Abort>(rt: &R, alloc: Global) -> Result<Core, Memory>

@@ -25,12 +25,12 @@ invariant_of-self-in-None c = kept_above _ c.args.number c.self.invariant (subst
 pub returns-in_ok-push-in-Some-clause-walks : goal.returns-in_ok-push-in-Some-clause-walks
 returns-in_ok-push-in-Some-clause-walks c = λ t walks.
     walks_served _ c.args.self.now.conf t (subst (λ core. Walks core t) (sym c.self.view_is) walks) (ap (λ (core : CoreMeaning). core.conf) c.self.view_is)
-    c.args.listener c.args.number c.in-Some.kind c.args.from c.push.new.self.items c.client_kind.result c.in-Some.is c.client_kind.ensures c.self.invariant
+    c.args.listener c.args.number c.in-Some.kind c.args.from c.push.new.self.items c.served_by.result c.in-Some.is c.served_by.ensures c.self.invariant
     (subst (λ n. n < c.args.number) (sym (ap (λ (core : CoreMeaning). core.seen.greatest) c.self.view_is)) c.requires)
     (c.in_ok-push-in-Some.ensures.items ∙ ap (λ link. c.self.inside.links.items ++ link ∷ []) c.in_ok-open-in-Some.ensures)
 
 pub returns-in-None-clause-walks : goal.returns-in-None-clause-walks
 returns-in-None-clause-walks c = λ t walks.
     walks_unserved _ c.args.self.now.conf t (subst (λ core. Walks core t) (sym c.self.view_is) walks) (ap (λ (core : CoreMeaning). core.conf) c.self.view_is)
-    c.args.listener c.args.number c.args.from c.client_kind.result c.in-None.is c.client_kind.ensures c.self.invariant
+    c.args.listener c.args.number c.args.from c.served_by.result c.in-None.is c.served_by.ensures c.self.invariant
     (subst (λ n. n < c.args.number) (sym (ap (λ (core : CoreMeaning). core.seen.greatest) c.self.view_is)) c.requires)
