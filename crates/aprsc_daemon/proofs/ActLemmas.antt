@@ -15,8 +15,9 @@ use Rattle.aprs_history.specs.History.{History, is_stopped, trace_of}
 use Rattle.aprs_history.specs.Acts.{Act, Offers, Closes, MayCome, due, but_first, offer_to}
 use Rattle.aprs_history.specs.Runs.{AppendsRun, listens_in}
 use Rattle.server_core.specs.LinkSteps.{Rises}
-use Rattle.server_core.specs.Meaning.{ConfSeen, CoreMeaning, Stands, setting_of}
+use Rattle.server_core.specs.Meaning.{CoreMeaning, Stands, setting_of}
 use Rattle.server_core.proofs.WalkLemmas.{member_below}
+use Rattle.aprs_conf.specs.Seen.{ConfSeen}
 use Rattle.aprsc_daemon.specs.Phases.{Owing, Offering}
 use Rattle.aprsc_daemon.proofs.RunLemmas.{run_goes_on}
 

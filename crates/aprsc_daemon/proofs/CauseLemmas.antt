@@ -7,10 +7,14 @@ use Rattle.aprs_base.specs.declared.files.MemFile.{MemFile}
 use Rattle.aprs_history.specs.Setting.{Setting}
 use Rattle.aprs_history.specs.History.{History}
 use Rattle.aprs_history.specs.Runs.{AppendsRun, listens_in}
-use Rattle.server_core.specs.Meaning.{ConfSeen, setting_of}
+use Rattle.server_core.specs.Meaning.{setting_of}
+use Rattle.aprs_conf.specs.Seen.{ConfSeen}
 use Rattle.aprsc_daemon.specs.Phases.{Ends, Finished, Idle}
-use Rattle.aprsc_daemon.specs.Saying.{listen_failed_text, not_built_text, too_large_text, unread_text, usage_text}
-use Rattle.aprsc_daemon.specs.ThreeLines.{conf_of}
+use Rattle.aprsc_daemon.specs.Saying.{listen_failed_text, trouble_text, too_large_text, unread_text, usage_text}
+use Rattle.aprs_conf.specs.Grammar.{conf_of}
+use Rattle.aprs_conf.specs.declared.errors.ConfError.{ConfError}
+use Rattle.aprsc_daemon.specs.Configuring.{IsTrouble}
+use Rattle.aprsc_daemon.specs.declared.configuring.Trouble.{Trouble}
 use Rattle.aprsc_daemon.specs.Causes.{Cause, Ended, HasNamed, HasNoMemory, IsMessage, IsServed, IsUnused, OpensOnly, Outside, Said, Says, SaysPart, status_of, code_of_status}
 use Rattle.aprsc_daemon.specs.Words.{file_word}
 use Rattle.aprsc_daemon.specs.declared.serving.End.{End}
@@ -71,13 +75,13 @@ listener_cause o conf n result read failed run said =
     served : IsServed o (OpensOnly n)
     served = record { conf = conf; read = read; run = run }
 
-pub line_cause : (o : Outside) (file bytes : List ℕ) (line : ℕ) (result : Status) → file_word o.words ≡ Some file → Holds o.files.told file bytes → length bytes ≤ 65536
-    → conf_of bytes ≡ Err line → IsUnused o → Said o.sink o.sink_after (not_built_text file line) status.BadFile result → Cause result o
-line_cause o file bytes line result named holds short off unused said =
-    said_cause o (not_built_text file line) status.BadFile result said
-    (subst (λ word. IsMessage word (not_built_text file line)) (sym named) (inr (inl (line, refl))))
+pub trouble_cause : (o : Outside) (file bytes : List ℕ) (trouble : Trouble) (result : Status) → file_word o.words ≡ Some file → Holds o.files.told file bytes → length bytes ≤ 65536
+    → IsTrouble trouble (conf_of bytes) → IsUnused o → Said o.sink o.sink_after (trouble_text file trouble) status.BadFile result → Cause result o
+trouble_cause o file bytes trouble result named holds short off unused said =
+    said_cause o (trouble_text file trouble) status.BadFile result said
+    (subst (λ word. IsMessage word (trouble_text file trouble)) (sym named) (inr (inl (trouble, refl))))
     (inl unused)
-    (λ says. record { file = file; bytes = bytes; named = named; holds = holds; off = inr (short, line, off, says); unused = unused })
+    (λ says. record { file = file; bytes = bytes; named = named; holds = holds; off = inr (short, trouble, off, says); unused = unused })
 
 pub big_cause : (o : Outside) (file bytes : List ℕ) (result : Status) → file_word o.words ≡ Some file → Holds o.files.told file bytes → 65536 < length bytes
     → IsUnused o → Said o.sink o.sink_after (too_large_text file) status.BadFile result → Cause result o
@@ -110,7 +114,7 @@ same_conf words files a b x y =
     some_same : {X : Type 0} (r : Option X) (m n : X) → r ≡ Some m → r ≡ Some n → m ≡ n
     some_same r m n e f = cc
 
-    ok_same : (r : Result ConfSeen ℕ) (m n : ConfSeen) → r ≡ Ok m → r ≡ Ok n → m ≡ n
+    ok_same : (r : Result ConfSeen ConfError) (m n : ConfSeen) → r ≡ Ok m → r ≡ Ok n → m ≡ n
     ok_same r m n e f = cc
 
 unused_run : (o : Outside) (s : Setting) (P : History → Type 0) → P [] → IsUnused o → AppendsRun s o.wire.told o.wire_after.told P

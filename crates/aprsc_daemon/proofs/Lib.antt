@@ -2,7 +2,6 @@ pub mod ActLemmas
 pub mod BringLemmas
 pub mod CauseLemmas
 pub mod EventLemmas
-pub mod PartLemmas
 mod Rows
 pub mod RunLemmas
 pub mod ServeLemmas

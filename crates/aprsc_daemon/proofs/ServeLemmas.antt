@@ -1,16 +1,20 @@
 -- From one round to the next.
-use Rattle.std.proofs.Common.{◌≡◌, ℕ, ◌≤◌, Bool, true, false, List, [], ◌∷◌, ◌++◌, length, map, refl, sym, ap, ◌∙◌, subst, Option}
+use Rattle.std.proofs.Common.{drop, le_refl, arith, ⊎_elim, ◌≡◌, ℕ, ◌≤◌, Bool, true, false, List, [], ◌∷◌, ◌++◌, length, map, refl, sym, ap, ◌∙◌, subst, Option}
+use Rattle.std.proofs.lemmas.Bool.{cases_Bool}
+use Rattle.std.proofs.lemmas.List.{drop_all}
+use Rattle.aprs_conf.specs.declared.types.Listen.{Listen}
+use Rattle.aprs_conf.specs.Seen.{ConfSeen}
 use Rattle.aprs_base.specs.Outside.{Told}
 use Rattle.aprs_base.specs.declared.events.Event.{Event}
 use Rattle.aprs_history.specs.Setting.{Setting}
 use Rattle.aprs_history.specs.History.{History, is_stopped, trace_of}
 use Rattle.aprs_history.specs.Texts.{untaken}
-use Rattle.aprs_history.specs.Rounds.{with_events}
-use Rattle.aprs_history.specs.Acts.{Closes, due, offer_to}
+use Rattle.aprs_history.specs.Rounds.{with_events, listens_after, only_listens}
+use Rattle.aprs_history.specs.Acts.{Closes, due, listens_from, offer_to}
 use Rattle.aprs_history.specs.Runs.{AppendsRun, listens_in}
 use Rattle.server_core.specs.ActsSeen.{ActsSeen}
-use Rattle.server_core.specs.Meaning.{AreActs, CoreMeaning, Stands, setting_of}
-use Rattle.aprsc_daemon.specs.Phases.{Finished, Gathering, Idle, Offering, Resting}
+use Rattle.server_core.specs.Meaning.{AreActs, CoreMeaning, Stands, numbered, setting_of}
+use Rattle.aprsc_daemon.specs.Phases.{Finished, Gathering, Idle, Listening, Offering, Resting}
 use Rattle.aprsc_daemon.proofs.RunLemmas.{run_weaker}
 
 pub begins_offers : (s : Setting) (start now : Option Told) (core new : CoreMeaning) (events : List Event) (acts : ActsSeen) (offers closes : List ℕ) → offers ≡ acts.offers → closes ≡ acts.closes → new.conf ≡ core.conf
@@ -26,7 +30,7 @@ begins_offers s start now core new events acts offers closes offers_are closes_a
             ∙ ap (λ links. map (offer_to (setting_of new.conf) (trace_of (setting_of new.conf) (with_events events phase.before))) links ++ map Closes acts.closes) (sym offers_are)
             ∙ ap (λ links. map (offer_to (setting_of new.conf) (trace_of (setting_of new.conf) (with_events events phase.before))) offers ++ map Closes links) (sym closes_are);
         same = λ link member. ap (λ h. untaken (setting_of new.conf) (trace_of (setting_of new.conf) h) link) phase.since;
-        all = phase.all ∙ ap (λ c. length c.listens) (sym conf);
+        all = phase.all ∙ ap (λ c. length (setting_of c).listens) (sym conf);
       };
     })
 
@@ -40,3 +44,27 @@ begins_round s start now core going = run_weaker s start now (Resting core) (Gat
 pub finishes : (s : Setting) (start now : Option Told) (core : CoreMeaning) → setting_of core.conf ≡ s → core.seen.stopped ≡ true → AppendsRun s start now (Resting core) → AppendsRun s start now (Finished s)
 finishes s start now core same stopped = run_weaker s start now (Resting core) (Finished s) (λ more phase.
     record { stopped = sym phase.stands.stopped ∙ stopped; idle = record { none = subst (λ t. due t more ≡ []) same phase.none; all = phase.all ∙ ap (λ s. length s.listens) same } })
+
+-- where every listener is open, and nothing else happened, a new core stands for what happened
+pub listening_rests : (core : CoreMeaning) (conf : ConfSeen) (more : History) → core.conf ≡ conf → Stands core (only_listens (setting_of conf))
+    → Listening (setting_of conf) (length (numbered conf.listens)) more → Resting core more
+listening_rests core conf more same stands phase =
+    let listens = numbered conf.listens in
+    let n = length listens in
+    let none : drop n listens ≡ [] = drop_all n listens (le_refl n) in
+    let only : more ≡ only_listens (setting_of conf) = ap (λ specs. listens_after n specs more) (sym none) ∙ phase.rest in
+    record {
+      stands = subst (Stands core) (sym only) stands;
+      none = ap (λ c. due (setting_of c) more) same ∙ phase.due ∙ ap (listens_from n) none;
+      all = phase.count ∙ ap (λ c. length (numbered c.listens)) (sym same);
+    }
+
+-- a listener has a number where it isn't idle
+pub numbered_short : (listens : List Listen) → length (numbered listens) ≤ length listens
+numbered_short [] = omega arith
+numbered_short (listen ∷ listens) =
+    let later = numbered_short listens in
+    ⊎_elim
+    (λ idle. rw idle (omega arith))
+    (λ busy. rw busy (omega arith))
+    (cases_Bool listen.idle)

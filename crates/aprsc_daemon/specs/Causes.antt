@@ -6,10 +6,13 @@ use Rattle.aprs_base.specs.declared.files.MemFile.{MemFile}
 use Rattle.aprs_history.specs.Setting.{Setting}
 use Rattle.aprs_history.specs.History.{History}
 use Rattle.aprs_history.specs.Runs.{AppendsRun, are_listens, listens_in}
-use Rattle.server_core.specs.Meaning.{ConfSeen, setting_of}
+use Rattle.aprs_conf.specs.Seen.{ConfSeen}
+use Rattle.aprs_conf.specs.Grammar.{conf_of}
+use Rattle.server_core.specs.Meaning.{setting_of}
 use Rattle.aprsc_daemon.specs.Phases.{Finished, Idle}
-use Rattle.aprsc_daemon.specs.Saying.{Grew, listen_failed_text, not_built_text, too_large_text, unread_text, usage_text}
-use Rattle.aprsc_daemon.specs.ThreeLines.{conf_of}
+use Rattle.aprsc_daemon.specs.Saying.{Grew, listen_failed_text, trouble_text, too_large_text, unread_text, usage_text}
+use Rattle.aprsc_daemon.specs.Configuring.{IsTrouble, is_built}
+use Rattle.aprsc_daemon.specs.declared.configuring.Trouble.{Trouble}
 use Rattle.aprsc_daemon.specs.Words.{file_word}
 use Rattle.aprsc_daemon.specs.declared.serving.End.{End}
 use Rattle.aprsc_daemon.specs.declared.serving.End.TheVariants as ended
@@ -30,13 +33,14 @@ pub record Outside : Type 0 where
 abbrev pub IsUnused : Outside → Type 0
 IsUnused o = o.wire_after.told ≡ o.wire.told
 
--- the words name a file that holds this configuration, as far as the files tell
+-- the words name a file that holds this configuration, as far as the files tell, and the server can run it
 pub record HasNamed (words : List (List ℕ)) (told : Option (List MemFile)) (conf : ConfSeen) : Type 0 where
   pub file : List ℕ
   pub bytes : List ℕ
   pub named : file_word words ≡ Some file
   pub holds : Holds told file bytes
   pub reads : conf_of bytes ≡ Ok conf
+  pub built : is_built conf ≡ true
 
 -- what happened on the wire is a run for the named configuration
 pub record IsServed (o : Outside) (P : Setting → History → Type 0) : Type 0 where
@@ -56,7 +60,7 @@ Says o text = Grew o.sink o.sink_after text
 abbrev pub IsMessage : Option (List ℕ) → List ℕ → Type 0
 IsMessage None text = text ≡ usage_text
 IsMessage (Some file) text =
-    (text ≡ too_large_text file) ⊎ ((line : ℕ) × (text ≡ not_built_text file line)) ⊎ (text ≡ unread_text file) ⊎ ((n : ℕ) × (text ≡ listen_failed_text n))
+    (text ≡ too_large_text file) ⊎ ((trouble : Trouble) × (text ≡ trouble_text file trouble)) ⊎ (text ≡ unread_text file) ⊎ ((n : ℕ) × (text ≡ listen_failed_text n))
 
 -- the first bytes of this text, or none
 abbrev pub GrewPart : SinkShown → SinkShown → List ℕ → Type 0
@@ -79,13 +83,13 @@ pub record HasBadWords (o : Outside) : Type 0 where
   pub unused : IsUnused o
   pub says : Says o usage_text
 
--- the file is too large, or off its grammar
+-- the file is too large, or no configuration that the server can run
 abbrev pub IsOff : Outside → List ℕ → List ℕ → Type 0
 IsOff o file bytes =
     ((65536 < length bytes) × Says o (too_large_text file))
-    ⊎ ((length bytes ≤ 65536) × (line : ℕ) × (conf_of bytes ≡ Err line) × Says o (not_built_text file line))
+    ⊎ ((length bytes ≤ 65536) × (trouble : Trouble) × IsTrouble trouble (conf_of bytes) × Says o (trouble_text file trouble))
 
--- 2: the words are good, and the named file is too large or off its grammar
+-- 2: the words are good, and the named file is too large, off its grammar, or asks for what isn't built
 pub record HasBadFile (o : Outside) : Type 0 where
   pub file : List ℕ
   pub bytes : List ℕ

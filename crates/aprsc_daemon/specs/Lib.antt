@@ -1,5 +1,5 @@
 pub mod Causes
+pub mod Configuring
 pub mod Phases
 pub mod Saying
-pub mod ThreeLines
 pub mod Words

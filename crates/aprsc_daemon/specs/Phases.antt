@@ -13,7 +13,8 @@ use Rattle.aprs_history.specs.Acts.{Closes, due, listens_from, offer_to}
 use Rattle.aprs_history.specs.Runs.{are_listens, listens_in}
 use Rattle.aprsc_daemon.specs.declared.serving.End.{End}
 use Rattle.aprsc_daemon.specs.declared.serving.End.TheVariants as ended
-use Rattle.server_core.specs.Meaning.{ConfSeen, CoreMeaning, Stands, setting_of}
+use Rattle.aprs_conf.specs.Seen.{ConfSeen}
+use Rattle.server_core.specs.Meaning.{CoreMeaning, Stands, setting_of}
 
 -- so many listeners were opened, and nothing else happened
 pub record Listening (setting : Setting) (n : ℕ) (more : History) : Type 0 where
@@ -26,7 +27,7 @@ pub record Listening (setting : Setting) (n : ℕ) (more : History) : Type 0 whe
 pub record Resting (core : CoreMeaning) (more : History) : Type 0 where
   pub stands : Stands core more
   pub none : due (setting_of core.conf) more ≡ []
-  pub all : listens_in more ≡ length core.conf.listens
+  pub all : listens_in more ≡ length (setting_of core.conf).listens
 
 -- every listener was opened, and no act is due
 pub record Idle (setting : Setting) (more : History) : Type 0 where
@@ -44,7 +45,7 @@ pub record Gathering (core : CoreMeaning) (events : List Event) (more : History)
   pub since : more ≡ with_events events before
   pub resting : Resting core before
   pub going : is_stopped before ≡ false
-  pub all : listens_in more ≡ length core.conf.listens
+  pub all : listens_in more ≡ length (setting_of core.conf).listens
 
 -- offers to these links are due, and then closes of those
 pub record Owing (conf : ConfSeen) (offers closes : List ℕ) (more : History) : Type 0 where
@@ -53,7 +54,7 @@ pub record Owing (conf : ConfSeen) (offers closes : List ℕ) (more : History) :
   pub owed : due (setting_of conf) more ≡ map (offer_to (setting_of conf) round) offers ++ map Closes closes
   -- what is left to the links has not changed since
   pub same : (link : ℕ) → is_member link offers ≡ true → untaken (setting_of conf) (trace_of (setting_of conf) more) link ≡ untaken (setting_of conf) round link
-  pub all : listens_in more ≡ length conf.listens
+  pub all : listens_in more ≡ length (setting_of conf).listens
 
 pub record Offering (core : CoreMeaning) (offers closes : List ℕ) (more : History) : Type 0 where
   pub stands : Stands core more

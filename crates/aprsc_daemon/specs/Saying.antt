@@ -3,6 +3,9 @@ use Rattle.std.specs.Prelude.{◌≡◌, ℕ, ◌≤◌, List, ◌++◌, take, c
 use Rattle.std.specs.Option.{option_map}
 use Rattle.std.specs.Fmt.{decimal}
 use Rattle.aprs_base.specs.Outside.{Rose}
+use Rattle.aprsc_daemon.specs.Configuring.{fault_name, word_name}
+use Rattle.aprsc_daemon.specs.declared.configuring.Trouble.{Trouble}
+use Rattle.aprsc_daemon.specs.declared.configuring.Trouble.TheVariants as trouble
 use Rattle.aprs_base.specs.Stores.{SinkShown}
 use Rattle.aprs_base.specs.declared.sinks.SinkError.{SinkError}
 use Rattle.aprs_base.specs.declared.sinks.SinkError.TheVariants as sink_error
@@ -23,8 +26,10 @@ pub record AfterSaying {T : Type 0} (old new : SinkShown) (bytes : List ℕ) (re
 abbrev pub usage_text : List ℕ
 usage_text = codes "usage: aprsc -c FILE [-w N] [-y] | aprsc drill SEED LINES LINKS [-w N] | aprsc net FILE\n"
 
-abbrev pub not_built_text : List ℕ → ℕ → List ℕ
-not_built_text file line = file ++ (codes ": line " ++ (decimal line ++ codes ": not-built\n"))
+abbrev pub trouble_text : List ℕ → Trouble → List ℕ
+trouble_text file (trouble.Line line fault) = file ++ (codes ": line " ++ (decimal line ++ (codes ": " ++ (fault_name fault ++ codes "\n"))))
+trouble_text file (trouble.Missing word) = file ++ (codes ": missing " ++ (word_name word ++ codes "\n"))
+trouble_text file trouble.NotBuilt = file ++ codes ": not-built\n"
 
 abbrev pub too_large_text : List ℕ → List ℕ
 too_large_text file = file ++ codes ": too large\n"

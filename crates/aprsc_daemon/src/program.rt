@@ -5,18 +5,21 @@ ghost use Rattle.aprs_base.specs.Outside.{Rose, Told, WireShown};
 ghost use Rattle.aprs_base.specs.Stores.{FilesShown, Holds, SinkShown};
 ghost use Rattle.aprs_base.specs.declared.files.MemFile.{MemFile};
 ghost use Rattle.aprs_history.specs.Runs.{AppendsRun};
-ghost use Rattle.server_core.specs.Meaning.{ConfSeen, setting_of};
+ghost use Rattle.aprs_conf.specs.Seen.{ConfSeen};
+ghost use Rattle.aprs_conf.specs.Grammar.{conf_of};
+ghost use Rattle.server_core.specs.Meaning.{numbered, setting_of};
 ghost use Rattle.aprsc_daemon.specs.Causes.{Cause, Ended, HasCause, HasNamed, OpensOnly, Said, code_of_status, status_of};
 ghost use Rattle.aprsc_daemon.specs.Phases.{Ends, Listening};
-ghost use Rattle.aprsc_daemon.specs.ThreeLines.{conf_of};
+ghost use Rattle.aprsc_daemon.specs.Configuring.{is_built};
 ghost use Rattle.aprsc_daemon.specs.Words.{file_word};
 
-use crate::saying::{listen_failed, not_built, too_large, unread, usage, write_all};
+use crate::configuring::{Unfit, numbered_listens, read_conf};
+use crate::saying::{listen_failed, too_large, trouble, unread, usage, write_all};
 use crate::serving::{End, ListenError, listen_all, serve};
-use crate::three_lines::{ConfFault, read_conf};
 use crate::words::file_word;
 use aprs_base::{FileError, Files, Memory, Sink, SinkError, Wire};
-use server_core::{Conf, Core};
+use aprs_conf::Conf;
+use server_core::Core;
 use std::alloc::Global;
 use std::marker::Sync;
 use std::sync::Wait;
@@ -62,9 +65,9 @@ fn serve_conf<R: Threads + Sync + Wait, W: Wire>(
     conf: Conf,
     wire: &mut W,
 ) -> End
-    requires listens { length conf.listens ≤ 16 }
+    requires listens { length (numbered conf.listens) ≤ 16 }
     requires station { IsTrue (is_station conf.server) }
-    ensures run { (start : Option Told) → AppendsRun (setting_of conf) start (W.shown wire.old).told (Listening (setting_of conf) (length conf.listens))
+    ensures run { (start : Option Told) → AppendsRun (setting_of conf) start (W.shown wire.old).told (Listening (setting_of conf) (length (numbered conf.listens)))
         → AppendsRun (setting_of conf) start (W.shown wire.new).told (Ends (setting_of conf) result) }
     ensures failed { result ≡ End.Failed → Rose (W.shown wire.old).stops (W.shown wire.new).stops }
     ensures stops { (W.shown wire.old).stops ≤ (W.shown wire.new).stops }
@@ -82,7 +85,7 @@ fn open_and_serve<R: Threads + Sync + Wait, W: Wire>(
     conf: Conf,
     wire: &mut W,
 ) -> Result<End, ListenError>
-    requires listens { length conf.listens ≤ 16 }
+    requires listens { length (numbered conf.listens) ≤ 16 }
     requires station { IsTrue (is_station conf.server) }
     ensures run { IfOk result (λ end. AppendsRun (setting_of conf) (W.shown wire.old).told (W.shown wire.new).told (Ends (setting_of conf) end)) }
     ensures failed { IfOk result (λ end. end ≡ End.Failed → Rose (W.shown wire.old).stops (W.shown wire.new).stops) }
@@ -90,7 +93,10 @@ fn open_and_serve<R: Threads + Sync + Wait, W: Wire>(
         × AppendsRun (setting_of conf) (W.shown wire.old).told (W.shown wire.new).told (OpensOnly n (setting_of conf))) }
     ensures err { OnErr result (AppendsRun (setting_of conf) (W.shown wire.old).told (W.shown wire.new).told (λ more. ⊤)) }
 {
-    listen_all(wire, conf.listens.as_slice())?;
+    let Ok(listens) = numbered_listens(alloc, conf.listens.as_slice()) else {
+        return Err(ListenError::Memory);
+    };
+    listen_all(wire, listens.as_slice())?;
     Ok(serve_conf(rt, alloc, conf, wire))
 }
 
@@ -133,7 +139,7 @@ fn run_conf<R: Threads + Sync + Wait, W: Wire, S: Sink>(
     wire: &mut W,
     out: &mut S,
 ) -> Status
-    requires listens { length conf.listens ≤ 16 }
+    requires listens { length (numbered conf.listens) ≤ 16 }
     requires station { IsTrue (is_station conf.server) }
     ensures { (words : List (List ℕ)) (files files_after : FilesShown) → HasNamed words files.told conf
         → Cause result (record {
@@ -176,10 +182,8 @@ fn run_text<R: Threads + Sync + Wait, W: Wire, S: Sink>(
 {
     match read_conf(alloc, text) {
         Ok(conf) => run_conf(rt, alloc, conf, wire, out),
-        Err(ConfFault::Line(line)) => {
-            say_made(out, not_built(alloc, file, line), Status::BadFile)
-        }
-        Err(ConfFault::Memory) => Status::NoMemory,
+        Err(Unfit::Trouble(why)) => say_made(out, trouble(alloc, file, why), Status::BadFile),
+        Err(Unfit::Memory) => Status::NoMemory,
     }
 }
 

@@ -5,6 +5,7 @@ use aprs_base::{
 };
 use std::alloc::Global;
 use std::marker::Sync;
+use std::process::Abort;
 use std::sync::Wait;
 use std::test::Fail;
 use std::thread::Threads;
@@ -283,7 +284,7 @@ fn names_what_failed(rt: HostRuntime) -> Result<(), Fail> {
         b"usage: aprsc -c FILE [-w N] [-y] | aprsc drill SEED LINES LINKS [-w N] | aprsc net FILE\n";
     let cases: [(Outside, &[u8], u8, &[u8]); 6] = [
         (no_words, CONF, 1, usage),
-        (Outside::well(alloc), b"", 2, b"c: line 1: not-built\n"),
+        (Outside::well(alloc), b"", 2, b"c: missing ServerId\n"),
         (no_file, CONF, 3, b"d: cannot be read\n"),
         (no_listener, CONF, 4, b"listen 0 failed\n"),
         (no_event, CONF, 5, b""),
@@ -294,6 +295,78 @@ fn names_what_failed(rt: HostRuntime) -> Result<(), Fail> {
         assert!(rt; left.status == status);
         assert!(rt; left.text.as_slice() == text);
     }
+    Ok(())
+}
+
+/// Runs a configuration until a stop, and checks the status and the text.
+fn check_conf<R: Threads + Sync + Wait + Abort>(
+    rt: &R,
+    alloc: Global,
+    conf: &[u8],
+    status: u8,
+    text: &[u8],
+) -> Result<(), Fail> {
+    let left = run_over(rt, alloc, conf, only_stop(alloc)?, Outside::well(alloc))?;
+    assert!(rt; left.status == status);
+    assert!(rt; left.text.as_slice() == text);
+    Ok(())
+}
+
+#[test]
+fn names_what_is_wrong_with_a_configuration(rt: HostRuntime) -> Result<(), Fail> {
+    let cases: [(&[u8], &[u8]); 10] = [
+        (b"", b"c: missing ServerId\n"),
+        (
+            b"ServerId T2TEST\nServerId T2TEST\n",
+            b"c: line 2: repeated\n",
+        ),
+        (b"MyAdmin \"A\n", b"c: line 1: open-quote\n"),
+        (b"Foo 1\n", b"c: line 1: unknown-word\n"),
+        (b"ServerId\n", b"c: line 1: bad-count\n"),
+        (b"PassCode x\n", b"c: line 1: bad-number\n"),
+        (b"ClientTimeout 0s\n", b"c: line 1: bad-time\n"),
+        (b"Uplink u full tcp \"\" 1\n", b"c: line 1: bad-host\n"),
+        (
+            b"ServerId T2TEST\nPassCode 8385\nListen a igate tcp :: 1\n",
+            b"c: not-built\n",
+        ),
+        (
+            b"ServerId T2TEST\nPassCode 1\nListen a fullfeed tcp :: 1\nUplink u full tcp h 1\n",
+            b"c: not-built\n",
+        ),
+    ];
+    for (conf, text) in cases {
+        check_conf(&rt, rt.alloc(), conf, 2, text)?;
+    }
+    Ok(())
+}
+
+#[test]
+fn names_the_line_of_a_listener(rt: HostRuntime) -> Result<(), Fail> {
+    let alloc = rt.alloc();
+    let fourth = joined(alloc, &[CONF, b"Listen \"x\" fullfed tcp 0.0.0.0 1\n"])?;
+    check_conf(&rt, alloc, fourth.as_slice(), 2, b"c: line 4: bad-kind\n")?;
+    let mut many = Vec::new(alloc);
+    for _ in 0..17 {
+        many.extend_from_slice(b"Listen a fullfeed tcp :: 1\n")?;
+    }
+    check_conf(&rt, alloc, many.as_slice(), 2, b"c: line 17: too-many\n")
+}
+
+#[test]
+fn opens_the_listeners_that_are_not_idle(rt: HostRuntime) -> Result<(), Fail> {
+    let alloc = rt.alloc();
+    let more = b"Listen \"d\" fullfeed udp :: 10152\nListen \"o\" clientonly tcp :: 14579\n";
+    let conf = joined(alloc, &[CONF, more])?;
+    let outside = Outside::well(alloc);
+    let left = run_over(&rt, alloc, conf.as_slice(), only_stop(alloc)?, outside)?;
+    let want = [
+        Happening::Listen(0),
+        Happening::Listen(1),
+        Happening::Event(Event::Stop),
+    ];
+    assert!(rt; left.status == 0);
+    assert!(rt; left.done.as_slice() == want.as_slice());
     Ok(())
 }
 

@@ -1,8 +1,11 @@
 //! What the program writes on its standard output.
 ghost use Rattle.std.specs.Prelude.{◌≡◌, IfOk};
-ghost use Rattle.aprsc_daemon.specs.Saying.{AfterSaying, listen_failed_text, not_built_text, too_large_text, unread_text, usage_text};
+ghost use Rattle.aprsc_daemon.specs.Configuring.{fault_name, word_name};
+ghost use Rattle.aprsc_daemon.specs.Saying.{AfterSaying, listen_failed_text, trouble_text, too_large_text, unread_text, usage_text};
 
+use crate::configuring::Trouble;
 use aprs_base::{Memory, Sink, SinkError};
+use aprs_conf::{ConfFault, ConfWord};
 use std::alloc::Global;
 
 /// Writes all of `bytes`. It ends, since each turn takes a byte or fails.
@@ -27,11 +30,64 @@ pub(crate) fn usage() -> &'static [u8]
     b"usage: aprsc -c FILE [-w N] [-y] | aprsc drill SEED LINES LINKS [-w N] | aprsc net FILE\n"
 }
 
-/// The line that names a line of the configuration.
-pub(crate) fn not_built(alloc: Global, file: &str, line: u8) -> Result<Vec<u8>, Memory>
-    ensures { IfOk result (λ t. t.items ≡ not_built_text file.now line) }
+/// What a line of the configuration does wrong.
+fn fault_name(fault: ConfFault) -> &'static str
+    ensures { result.now ≡ fault_name fault }
 {
-    Ok(format!(in alloc; "{file}: line {line}: not-built\n")?.into_bytes())
+    match fault {
+        ConfFault::OpenQuote => "open-quote",
+        ConfFault::UnknownWord => "unknown-word",
+        ConfFault::Repeated => "repeated",
+        ConfFault::BadCount => "bad-count",
+        ConfFault::BadCall => "bad-call",
+        ConfFault::BadNumber => "bad-number",
+        ConfFault::BadTime => "bad-time",
+        ConfFault::BadKind => "bad-kind",
+        ConfFault::BadAddr => "bad-addr",
+        ConfFault::BadHost => "bad-host",
+        ConfFault::TooMany => "too-many",
+    }
+}
+
+fn word_name(word: ConfWord) -> &'static str
+    ensures { result.now ≡ word_name word }
+{
+    match word {
+        ConfWord::ServerId => "ServerId",
+        ConfWord::PassCode => "PassCode",
+        ConfWord::Listen => "Listen",
+    }
+}
+
+fn bad_line(alloc: Global, file: &str, line: u32, fault: ConfFault) -> Result<Vec<u8>, Memory>
+    ensures { IfOk result (λ t. t.items ≡ trouble_text file.now (Trouble.Line line fault)) }
+{
+    let name = fault_name(fault);
+    Ok(format!(in alloc; "{file}: line {line}: {name}\n")?.into_bytes())
+}
+
+fn missing_word(alloc: Global, file: &str, word: ConfWord) -> Result<Vec<u8>, Memory>
+    ensures { IfOk result (λ t. t.items ≡ trouble_text file.now (Trouble.Missing word)) }
+{
+    let name = word_name(word);
+    Ok(format!(in alloc; "{file}: missing {name}\n")?.into_bytes())
+}
+
+fn not_built(alloc: Global, file: &str) -> Result<Vec<u8>, Memory>
+    ensures { IfOk result (λ t. t.items ≡ trouble_text file.now Trouble.NotBuilt) }
+{
+    Ok(format!(in alloc; "{file}: not-built\n")?.into_bytes())
+}
+
+/// The line that says what is wrong with the configuration.
+pub(crate) fn trouble(alloc: Global, file: &str, trouble: Trouble) -> Result<Vec<u8>, Memory>
+    ensures { IfOk result (λ t. t.items ≡ trouble_text file.now trouble) }
+{
+    match trouble {
+        Trouble::Line(line, fault) => bad_line(alloc, file, line, fault),
+        Trouble::Missing(word) => missing_word(alloc, file, word),
+        Trouble::NotBuilt => not_built(alloc, file),
+    }
 }
 
 /// The line that says that the configuration is too large.

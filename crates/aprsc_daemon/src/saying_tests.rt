@@ -1,6 +1,8 @@
 //! What the program writes, over sinks that take little or fail, and over the files and the output of the system.
-use crate::saying::{listen_failed, not_built, too_large, unread, usage, write_all};
+use crate::configuring::Trouble;
+use crate::saying::{listen_failed, too_large, trouble, unread, usage, write_all};
 use crate::{RealFiles, RealSink};
+use aprs_conf::{ConfFault, ConfWord};
 use aprs_base::{FileError, Files, MemSink, Sink, SinkError};
 use std::fs;
 use std::test::Fail;
@@ -34,8 +36,21 @@ fn makes_the_texts(rt: HostRuntime) {
         usage()
             == b"usage: aprsc -c FILE [-w N] [-y] | aprsc drill SEED LINES LINKS [-w N] | aprsc net FILE\n".as_slice()
     );
-    let line = not_built(rt.alloc(), "a.conf", 3).expect(&rt, "memory");
-    assert!(rt; line.as_slice() == b"a.conf: line 3: not-built\n".as_slice());
+    let cases: [(Trouble, &[u8]); 3] = [
+        (
+            Trouble::Line(17, ConfFault::TooMany),
+            b"c: line 17: too-many\n",
+        ),
+        (
+            Trouble::Missing(ConfWord::PassCode),
+            b"c: missing PassCode\n",
+        ),
+        (Trouble::NotBuilt, b"c: not-built\n"),
+    ];
+    for (why, text) in cases {
+        let line = trouble(rt.alloc(), "c", why).expect(&rt, "memory");
+        assert!(rt; line.as_slice() == text);
+    }
     let large = too_large(rt.alloc(), "a.conf").expect(&rt, "memory");
     assert!(rt; large.as_slice() == b"a.conf: too large\n".as_slice());
     let unread = unread(rt.alloc(), "a.conf").expect(&rt, "memory");

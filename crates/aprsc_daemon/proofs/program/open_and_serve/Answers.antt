@@ -1,6 +1,6 @@
 use Rattle.std.proofs.Common.{◌≡◌, ◌<◌, length, refl, sym, ap, ◌∙◌, subst}
 use Rattle.std.proofs.lemmas.Result.{err_from_is_err_and}
-use Rattle.server_core.specs.Meaning.{setting_of}
+use Rattle.server_core.specs.Meaning.{numbered, setting_of}
 use Rattle.aprsc_daemon.specs.Causes.{OpensOnly}
 use Rattle.aprsc_daemon.specs.Phases.{Listening}
 use Rattle.aprsc_daemon.proofs.EventLemmas.{err_of}
@@ -11,7 +11,8 @@ pub returns-in_err-listen_all-clause-listen : goal.returns-in_err-listen_all-cla
 returns-in_err-listen_all-clause-listen g c =
     let error = err_from_is_err_and c.from_residual.result c.from_residual.ensures.1 in
     let s = setting_of c.args.conf in
-    let same : c.as_slice.result.now ≡ c.args.conf.listens = c.as_slice.ensures.value ∙ ap (λ conf. conf.listens) c.conf.view_is in
+    let same : c.as_slice-2.result.now ≡ numbered c.args.conf.listens =
+    c.as_slice-2.ensures.value ∙ c.in-Ok.ensures ∙ ap numbered (c.as_slice.ensures.value ∙ ap (λ conf. conf.listens) c.conf.view_is) in
     err_of _ c.from_residual.result error.0 c.in_err-listen_all.field-0.0 error.1 error.2 (λ n is.
     let failed = c.in_err-listen_all.ensures.failed n is in
     let within = c.in_err-listen_all.ensures.within n is in (

@@ -1,7 +1,0 @@
-use Rattle.std.proofs.Common.{sym, ap, ◌∙◌}
-use Rattle.aprsc_daemon.specs.ThreeLines.{line_says, code_of}
-use Rattle.aprsc_daemon.proofs.PartLemmas.{is_line}
-use Rattle.aprsc_daemon.proofs.three_lines.code_line.Goals as goal
-
-pub returns-clause-says : goal.returns-clause-says
-returns-clause-says c = c.in_ok-read_code.ensures ∙ sym (ap (line_says code_of) c.in_ok-line.ensures ∙ is_line code_of c.in_ok-line.line.now 10 c.in_ok-line.rest.now)

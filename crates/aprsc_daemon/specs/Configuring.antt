@@ -1,0 +1,57 @@
+-- Configurations that this server can run, and what is wrong with others.
+use Rattle.std.specs.Prelude.{◌≡◌, ℕ, ◌==◌, ◌&&◌, ◌||◌, Bool, true, false, is_none, List, length, codes, Result, Ok, Err}
+use Rattle.std.specs.List.{list_all}
+use Rattle.aprs_base.specs.declared.packets.PortKind.{PortKind}
+use Rattle.aprs_base.specs.declared.packets.PortKind.TheVariants as kind
+use Rattle.aprs_conf.specs.Seen.{ConfSeen}
+use Rattle.aprs_conf.specs.declared.types.Listen.{Listen}
+use Rattle.aprs_conf.specs.declared.errors.ConfError.{ConfError}
+use Rattle.aprs_conf.specs.declared.errors.ConfError.TheVariants as cause
+use Rattle.aprs_conf.specs.declared.errors.ConfFault.{ConfFault}
+use Rattle.aprs_conf.specs.declared.errors.ConfFault.TheVariants as fault
+use Rattle.aprs_conf.specs.declared.errors.ConfWord.{ConfWord}
+use Rattle.aprs_conf.specs.declared.errors.ConfWord.TheVariants as word
+use Rattle.aprsc_daemon.specs.declared.configuring.Trouble.{Trouble}
+use Rattle.aprsc_daemon.specs.declared.configuring.Trouble.TheVariants as trouble
+
+-- the kinds of port that are built
+abbrev pub is_built_kind : PortKind → Bool
+is_built_kind kind.Full = true
+is_built_kind kind.Only = true
+is_built_kind kind.Igate = false
+is_built_kind kind.Dupe = false
+is_built_kind kind.Submit = false
+is_built_kind kind.Core = false
+
+abbrev pub is_built_listen : Listen → Bool
+is_built_listen listen = listen.idle || is_built_kind listen.spec.kind
+
+-- listeners of those kinds, or idle ones; no uplinks, and no peers
+abbrev pub is_built : ConfSeen → Bool
+is_built conf = list_all is_built_listen conf.listens && (length conf.uplinks == 0 && is_none conf.group)
+
+-- what is wrong with a text that reads as this
+abbrev pub IsTrouble : Trouble → Result ConfSeen ConfError → Type 0
+IsTrouble (trouble.Line n f) said = said ≡ Err (cause.Line n f)
+IsTrouble (trouble.Missing w) said = said ≡ Err (cause.Missing w)
+IsTrouble trouble.NotBuilt said = (conf : ConfSeen) × (said ≡ Ok conf) × (is_built conf ≡ false)
+
+-- ---- names
+
+abbrev pub fault_name : ConfFault → List ℕ
+fault_name fault.OpenQuote = codes "open-quote"
+fault_name fault.UnknownWord = codes "unknown-word"
+fault_name fault.Repeated = codes "repeated"
+fault_name fault.BadCount = codes "bad-count"
+fault_name fault.BadCall = codes "bad-call"
+fault_name fault.BadNumber = codes "bad-number"
+fault_name fault.BadTime = codes "bad-time"
+fault_name fault.BadKind = codes "bad-kind"
+fault_name fault.BadAddr = codes "bad-addr"
+fault_name fault.BadHost = codes "bad-host"
+fault_name fault.TooMany = codes "too-many"
+
+abbrev pub word_name : ConfWord → List ℕ
+word_name word.ServerId = codes "ServerId"
+word_name word.PassCode = codes "PassCode"
+word_name word.Listen = codes "Listen"
