@@ -1,5 +1,5 @@
 -- What a text reads as is in its ranges.
-use Rattle.std.proofs.Common.{◌≡◌, ℕ, ◌+◌, ◌*◌, ◌-◌, ◌<◌, ◌≤◌, Bool, true, false, not, ◌&&◌, List, [], ◌∷◌, ◌++◌, take, length, Option, None, Some, Result, Ok, Err, refl, sym, ap, subst, arith, ◌∙◌}
+use Rattle.std.proofs.Common.{◌≡◌, ℕ, ◌+◌, ◌*◌, ◌-◌, ◌<◌, ◌≤◌, Bool, true, false, not, ◌&&◌, List, [], ◌∷◌, ◌++◌, take, length, Option, None, Some, Result, Ok, Err, refl, sym, ap, subst, arith}
 use Rattle.std.specs.Prelude.{if◌then◌else◌, ◌==◌, nat_le, IfOk, IfSome, IsTrue, unwrap_or}
 use Rattle.std.specs.List.{list_all}
 use Rattle.std.proofs.lemmas.Bool.Decides.{nat_tests}
@@ -14,10 +14,8 @@ use Rattle.aprs_conf.specs.declared.errors.ConfError.TheVariants as cause
 use Rattle.aprs_conf.specs.declared.errors.ConfWord.TheVariants as needed
 use Rattle.aprs_conf.specs.declared.reading.LineWord.{LineWord}
 use Rattle.aprs_conf.specs.declared.reading.LineWord.TheVariants as word
-use Rattle.aprs_conf.specs.declared.types.Listen.{Listen}
 use Rattle.aprs_conf.specs.declared.types.PeerSpec.{PeerSpec}
-use Rattle.aprs_base.specs.declared.packets.UplinkSpec.{UplinkSpec}
-use Rattle.aprs_conf.specs.Arguments.{station_of, clients_of, is_plain, time_of, time_in, unit_of, seconds_of, are_digits, same, udp, code_of}
+use Rattle.aprs_conf.specs.Arguments.{station_of, clients_of, is_plain, time_of, time_in, seconds_of, are_digits, same, udp, code_of}
 use Rattle.login_pass.specs.Login.{number_from}
 use Rattle.aprs_conf.specs.Seen.{ConfSeen, DraftSeen}
 use Rattle.aprs_conf.specs.Sound.{IsWithin, IsGroup, IsSound, IsSoundSoFar}

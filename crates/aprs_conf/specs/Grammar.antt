@@ -1,5 +1,5 @@
 -- The grammar of a configuration: the value of a text, or its first fault (aprsc manual, Configuration).
-use Rattle.std.specs.Prelude.{ℕ, ◌+◌, ◌%◌, ◌==◌, ◌&&◌, Bool, true, false, if◌then◌else◌, nat_le, not, min, List, [], ◌∷◌, ◌++◌, length, codes, Option, Some, None, Result, Ok, Err, unwrap_or}
+use Rattle.std.specs.Prelude.{ℕ, ◌+◌, ◌%◌, ◌==◌, ◌&&◌, Bool, true, false, if◌then◌else◌, nat_le, not, min, List, [], ◌∷◌, ◌++◌, length, codes, Option, Some, None, Result, Ok, Err, unwrap_or, is_some}
 use Rattle.std.specs.List.{find, list_any}
 use Rattle.std.specs.Option.{option_map}
 use Rattle.aprs_base.specs.declared.packets.UplinkSpec.{UplinkSpec}
@@ -212,10 +212,6 @@ or_unused is_there None = if is_there then Some word.Unused else None
 
 abbrev pub word_of : List ℕ → Option LineWord
 word_of text = or_unused (is_unused text) (option_map (λ row. row.word) (find (λ row. is_keyword row.name text) line_words))
-
-abbrev pub is_some : {A : Type 0} → Option A → Bool
-is_some None = false
-is_some (Some x) = true
 
 -- whether a line of this word has said what may be said once
 abbrev pub was_said : LineWord → DraftSeen → Bool
