@@ -4,3 +4,4 @@ mod NumberLemmas
 mod PeerLemmas
 mod Rows
 mod WordLemmas
+mod WrittenWords

@@ -3,3 +3,4 @@ pub mod Grammar
 pub mod Reading
 pub mod Seen
 pub mod Words
+pub mod Writing
