@@ -4,4 +4,6 @@ mod NumberLemmas
 mod PeerLemmas
 mod Rows
 mod WordLemmas
+mod WrittenLines
+mod WrittenNumbers
 mod WrittenWords
