@@ -3,6 +3,7 @@ mod LineLemmas
 mod NumberLemmas
 mod PeerLemmas
 mod Rows
+mod SoundDrafts
 mod WordLemmas
 mod WrittenLines
 mod WrittenNumbers
