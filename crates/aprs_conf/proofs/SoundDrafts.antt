@@ -264,3 +264,243 @@ kind_sound : (text proto : List ℕ) (service : Service) → kind_of text proto 
 kind_sound text proto service h =
     let test : PortRow → Bool = λ row. same text row.word && same proto row.proto in
     kind_sound_by (find test ports) service (λ row is. found (λ (r : PortRow). SoundService r.service) test ports row rows_sound is) h
+
+-- ---- the name of a listener, the host of an uplink
+
+abbrev Five : Type 0
+Five = List ℕ × List ℕ × List ℕ × List ℕ × List ℕ
+
+first_is : (five other : Five) → five ≡ other → five.0 ≡ other.0
+first_is five other is = ap (λ (f : Five). f.0) is
+
+fourth_is : (five other : Five) → five ≡ other → five.3 ≡ other.3
+fourth_is five other is = ap (λ (f : Five). f.3) is
+
+listen_name : (args : List (List ℕ)) (five : Five) → listen_of args ≡ Some five → list_all is_word args ≡ true → IsWord five.0
+listen_name [] five h words = cc
+listen_name (a ∷ []) five h words = cc
+listen_name (a ∷ b ∷ []) five h words = cc
+listen_name (a ∷ b ∷ c ∷ []) five h words = cc
+listen_name (a ∷ b ∷ c ∷ d ∷ []) five h words = cc
+listen_name (a ∷ b ∷ c ∷ d ∷ e ∷ more) five h words =
+    let read = cond_some (is_hidden_at_most more) (a, b, c, d, e) five h in
+    subst IsWord (first_is (a, b, c, d, e) five read.1) (both (is_word a) (list_all is_word (b ∷ c ∷ d ∷ e ∷ more)) words).0
+
+uplink_host : (args : List (List ℕ)) (five : Five) → five_of args ≡ Some five → list_all is_word args ≡ true → IsWord five.3
+uplink_host [] five h words = cc
+uplink_host (a ∷ []) five h words = cc
+uplink_host (a ∷ b ∷ []) five h words = cc
+uplink_host (a ∷ b ∷ c ∷ []) five h words = cc
+uplink_host (a ∷ b ∷ c ∷ d ∷ []) five h words = cc
+uplink_host (a ∷ b ∷ c ∷ d ∷ e ∷ x ∷ more) five h words = cc
+uplink_host (a ∷ b ∷ c ∷ d ∷ e ∷ []) five h words =
+    let is : (let own : Five = (a, b, c, d, e) in own ≡ five) = cc in
+    let second = (both (is_word a) _ words).1 in
+    let third = (both (is_word b) _ second).1 in
+    let fourth = (both (is_word c) _ third).1 in
+    subst IsWord (fourth_is (a, b, c, d, e) five is) (both (is_word d) _ fourth).0
+
+listen_in_sound : (args : List (List ℕ)) (listen : Listen) → listen_in args ≡ Ok listen → list_all is_word args ≡ true → SoundListen listen
+listen_in_sound args listen h words =
+    let five = need_ok fault.BadCount (listen_of args) _ listen h in
+    let service = need_ok fault.BadKind (kind_of five.0.1 five.0.2) _ listen five.1.1 in
+    let at = bind_ok (at_of five.0.3 five.0.4) _ listen service.1.1 in
+    subst SoundListen (ok_is _ listen at.1.1) (record {
+      name = listen_name args five.0 five.1.0 words;
+      service = kind_sound five.0.1 five.0.2 service.0 service.1.0;
+      at = at_sound five.0.3 five.0.4 at.0 at.1.0;
+    })
+
+with_listens : (draft : DraftSeen) (listens : List Listen) → SoundDraft draft → Each SoundListen listens → length listens ≤ 16 → SoundDraft (record draft { listens = listens })
+with_listens draft listens s each few = assumption
+
+listen_sound : (draft new : DraftSeen) (args : List (List ℕ)) → listen_says draft args ≡ Ok new → list_all is_word args ≡ true → SoundDraft draft → SoundDraft new
+listen_sound draft new args h words s =
+    let listen = bind_ok (listen_in args) (with_listen draft) new h in
+    let room = unless_ok (nat_le 16 (length draft.listens)) fault.TooMany _ new listen.1.1 in
+    let less = leb-false 16 (length draft.listens) room.0 in
+    let few : length (draft.listens ++ listen.0 ∷ []) ≤ 16 = omega (arith, length-append draft.listens (listen.0 ∷ [])) in
+    let more = each_more SoundListen draft.listens listen.0 s.listens (listen_in_sound args listen.0 listen.1.0 words) in
+    subst SoundDraft (ok_is _ new room.1) (with_listens draft _ s more few)
+
+host_sound : (text host : List ℕ) → host_of text ≡ Some host → IsWord text → (host_of host ≡ Some host) × IsWord host
+host_sound text host h word =
+    let read = cond_some (nat_le 1 (length text) && nat_le (length text) 64) text host h in
+    subst (λ t. (host_of t ≡ Some t) × IsWord t) read.1 (ap (λ b. cond b (Some text) None) read.0, word)
+
+uplink_in_sound : (args : List (List ℕ)) (uplink : UplinkSpec) → uplink_in args ≡ Ok uplink → list_all is_word args ≡ true → SoundUplink uplink
+uplink_in_sound args uplink h words =
+    let five = need_ok fault.BadCount (five_of args) _ uplink h in
+    let full = unless_ok (not (is_full five.0.1 five.0.2)) fault.BadKind _ uplink five.1.1 in
+    let host = need_ok fault.BadHost (host_of five.0.3) _ uplink full.1 in
+    let port = need_ok fault.BadNumber (port_of five.0.4) _ uplink host.1.1 in
+    let own = host_sound five.0.3 host.0 host.1.0 (uplink_host args five.0 five.1.0 words) in
+    subst SoundUplink (ok_is _ uplink port.1.1) (record { host = own.0; word = own.1; port = within 1 65535 five.0.4 port.0 port.1.0 })
+
+with_uplinks : (draft : DraftSeen) (uplinks : List UplinkSpec) → SoundDraft draft → Each SoundUplink uplinks → length uplinks ≤ 8 → SoundDraft (record draft { uplinks = uplinks })
+with_uplinks draft uplinks s each few = assumption
+
+uplink_sound : (draft new : DraftSeen) (args : List (List ℕ)) → uplink_says draft args ≡ Ok new → list_all is_word args ≡ true → SoundDraft draft → SoundDraft new
+uplink_sound draft new args h words s =
+    let uplink = bind_ok (uplink_in args) (with_uplink draft) new h in
+    let room = unless_ok (nat_le 8 (length draft.uplinks)) fault.TooMany _ new uplink.1.1 in
+    let less = leb-false 8 (length draft.uplinks) room.0 in
+    let few : length (draft.uplinks ++ uplink.0 ∷ []) ≤ 8 = omega (arith, length-append draft.uplinks (uplink.0 ∷ [])) in
+    let more = each_more SoundUplink draft.uplinks uplink.0 s.uplinks (uplink_in_sound args uplink.0 uplink.1.0 words) in
+    subst SoundDraft (ok_is _ new room.1) (with_uplinks draft _ s more few)
+
+-- ---- a group and its peers
+
+peer_sound : (name address port : List ℕ) (peer : PeerSpec) → peer_of name address port ≡ Ok peer → IsWord name → SoundPeer peer
+peer_sound name address port peer h word =
+    let call = need_ok fault.BadCall (station_of name) _ peer h in
+    let at = bind_ok (at_of address port) _ peer call.1.1 in
+    subst SoundPeer (ok_is _ peer at.1.1) (record { call = station_sound name call.0 call.1.0 word; at = at_sound address port at.0 at.1.0 })
+
+abbrev ReadPeers : List PeerSpec → List PeerSpec → List (List ℕ) → Type 0
+ReadPeers before peers args = Each SoundPeer peers × (3 * length peers ≡ 3 * length before + length args)
+
+peers_sound : (before peers : List PeerSpec) (args : List (List ℕ)) → peers_from before args ≡ Ok peers → list_all is_word args ≡ true → Each SoundPeer before → ReadPeers before peers args
+peers_sound before peers [] h words s =
+    let is : before ≡ peers = ok_is before peers h in
+    subst (λ ps. ReadPeers before ps []) is (s, omega arith)
+peers_sound before peers (call ∷ []) h words s = cc
+peers_sound before peers (call ∷ address ∷ []) h words s = cc
+peers_sound before peers (call ∷ address ∷ port ∷ more) h words s =
+    let first = both (is_word call) _ words in
+    let second = both (is_word address) _ first.1 in
+    let third = both (is_word port) _ second.1 in
+    let peer = bind_ok (peer_of call address port) (λ p. peers_from (before ++ p ∷ []) more) peers h in
+    let own = peer_sound call address port peer.0 peer.1.0 first.0 in
+    let rest = peers_sound (before ++ peer.0 ∷ []) peers more peer.1.1 third.1 (each_more SoundPeer before peer.0 s own) in
+    let size = rest.1 in
+    (rest.0, omega (arith, length-append before (peer.0 ∷ [])))
+
+abbrev ReadGroup : Addr × List (List ℕ) → List (List ℕ) → Type 0
+ReadGroup group args = SoundAt group.0 × (list_all is_word group.1 ≡ true) × (length args ≡ 4 + length group.1)
+
+group_in_sound : (args : List (List ℕ)) (group : Addr × List (List ℕ)) → group_in args ≡ Ok group → list_all is_word args ≡ true → ReadGroup group args
+group_in_sound [] group h words = cc
+group_in_sound (a ∷ []) group h words = cc
+group_in_sound (a ∷ b ∷ []) group h words = cc
+group_in_sound (a ∷ b ∷ c ∷ []) group h words = cc
+group_in_sound (name ∷ proto ∷ address ∷ port ∷ more) group h words =
+    let first = both (is_word name) _ words in
+    let second = both (is_word proto) _ first.1 in
+    let third = both (is_word address) _ second.1 in
+    let fourth = both (is_word port) _ third.1 in
+    let kind = unless_ok (not (same proto udp)) fault.BadKind _ group h in
+    let at = bind_ok (at_of address port) _ group kind.1 in
+    let is : (let own : Addr × List (List ℕ) = (at.0, more) in own ≡ group) = ok_is _ group at.1.1 in
+    subst (λ g. ReadGroup g (name ∷ proto ∷ address ∷ port ∷ more)) is (at_sound address port at.0 at.1.0, fourth.1, omega arith)
+
+with_group : (draft : DraftSeen) (at : Addr) (peers : List PeerSpec) → SoundDraft draft → SoundPeers at peers → SoundDraft (record draft { group = Some at; peers = peers })
+with_group draft at peers s is = assumption
+
+group_sound : (draft new : DraftSeen) (args : List (List ℕ)) → group_says draft args ≡ Ok new → list_all is_word args ≡ true → SoundDraft draft → SoundDraft new
+group_sound draft new args h words s =
+    let count = unless_ok (not (is_group args)) fault.BadCount _ new h in
+    let group = bind_ok (group_in args) _ new count.1 in
+    let peers = bind_ok (peers_from [] group.0.1) _ new group.1.1 in
+    let own = group_in_sound args group.0 group.1.0 words in
+    let read = peers_sound [] peers.0 group.0.1 peers.1.0 own.1 tt in
+    let right = both (nat_le 7 (length args) && nat_le (length args) 28) (length args % 3 == 1) (unnot_false (is_group args) count.0) in
+    let range = both (nat_le 7 (length args)) (nat_le (length args) 28) right.0 in
+    let low = leb-true 7 (length args) range.0 in
+    let high = leb-true (length args) 28 range.1 in
+    let size = own.2 in
+    let tripled = read.1 in
+    subst SoundDraft (ok_is _ new peers.1.1) (with_group draft group.0.0 peers.0 s (record { at = own.0; some = omega arith; few = omega arith; each = read.0 }))
+  where
+    unnot_false : (b : Bool) → not b ≡ false → b ≡ true
+    unnot_false true e = refl
+    unnot_false false e = cc
+
+-- ---- lines
+
+says_sound : (w : LineWord) (draft new : DraftSeen) (args : List (List ℕ)) → says w draft args ≡ Ok new → list_all is_word args ≡ true → SoundDraft draft → SoundDraft new
+says_sound word.ServerId draft new args h words s = server_sound draft new args h words s
+says_sound word.PassCode draft new args h words s = code_sound draft new args h s
+says_sound word.MyAdmin draft new args h words s = admin_sound draft new args h words s
+says_sound word.MyEmail draft new args h words s = email_sound draft new args h words s
+says_sound word.Listen draft new args h words s = listen_sound draft new args h words s
+says_sound word.Uplink draft new args h words s = uplink_sound draft new args h words s
+says_sound word.PeerGroup draft new args h words s = group_sound draft new args h words s
+says_sound word.UpstreamTimeout draft new args h words s = up_timeout_sound draft new args h s
+says_sound word.ClientTimeout draft new args h words s = client_timeout_sound draft new args h s
+says_sound word.MaxClients draft new args h words s = clients_sound draft new args h s
+says_sound word.Unused draft new args h words s = unused_sound draft new args h s
+
+line_sound : (draft new : DraftSeen) (words : List (List ℕ)) → line_says draft words ≡ Ok new → list_all is_word words ≡ true → SoundDraft draft → SoundDraft new
+line_sound draft new [] h words s = subst SoundDraft (ok_is draft new h) s
+line_sound draft new (name ∷ args) h words s =
+    let own = need_ok fault.UnknownWord (word_of name) _ new h in
+    let once = unless_ok (was_said own.0 draft) fault.Repeated (says own.0 draft args) new own.1.1 in
+    says_sound own.0 draft new args once.1 (both (is_word name) (list_all is_word args) words).1 s
+
+words_say_sound : (remark : Bool) (draft new : DraftSeen) (words : List Word) → cond remark (Ok draft) (unless (has_open words) fault.OpenQuote (line_says draft (closed words))) ≡ Ok new → list_all is_word (closed words) ≡ true → SoundDraft draft → SoundDraft new
+words_say_sound true draft new words h fine s = subst SoundDraft (ok_is draft new h) s
+words_say_sound false draft new words h fine s =
+    let ended = unless_ok (has_open words) fault.OpenQuote (line_says draft (closed words)) new h in
+    line_sound draft new (closed words) ended.1 fine s
+
+after_sound : (draft new : DraftSeen) (line : List ℕ) → after draft line ≡ Ok new → is_fed line ≡ true → SoundDraft draft → SoundDraft new
+unfolding after
+after_sound draft new line h fed s = words_say_sound (is_remark (words_of line)) draft new (words_of line) h (words_sound line fed) s
+
+at_line_ok : {A : Type 0} (n : ℕ) (r : Result A ConfFault) (x : A) → at_line n r ≡ Ok x → r ≡ Ok x
+at_line_ok n (Ok y) x h = cc
+at_line_ok n (Err e) x h = cc
+
+drafted_sound : (n : ℕ) (draft new : DraftSeen) (lines : List (List ℕ)) → drafted n draft lines ≡ Ok new → list_all is_fed lines ≡ true → SoundDraft draft → SoundDraft new
+drafted_sound n draft new [] h fed s = subst SoundDraft (ok_is draft new h) s
+drafted_sound n draft new (line ∷ lines) h fed s =
+    let parts = both (is_fed line) (list_all is_fed lines) fed in
+    let more = bind_ok (at_line n (after draft line)) (λ d. drafted (next n) d lines) new h in
+    let own = at_line_ok n (after draft line) more.0 more.1.0 in
+    drafted_sound (next n) more.0 new lines more.1.1 parts.1 (after_sound draft more.0 line own parts.0 s)
+
+-- ---- the whole
+
+empty_sound : SoundDraft empty
+empty_sound = record {
+    server = tt; code = tt; admin = tt; email = tt;
+    listens = tt; few_listens = omega arith; uplinks = tt; few_uplinks = omega arith; group = refl;
+    up_timeout = tt; client_timeout = tt; max_clients = tt;
+  }
+
+if_some : {A : Type 0} (P : A → Type 0) (o : Option A) (x : A) → If P o → o ≡ Some x → P x
+if_some P None x s h = cc
+if_some P (Some y) x s h = (let is : y ≡ x = cc in subst P is s)
+
+some_ok : {E A : Type 0} (none : Bool) (e : E) (x y : A) → cond none (Err e) (Ok x) ≡ Ok y → (none ≡ false) × (x ≡ y)
+some_ok true e x y h = cc
+some_ok false e x y h = (refl, cc)
+
+conf_with_sound : (draft : DraftSeen) (conf : ConfSeen) → conf_with draft ≡ Ok conf → SoundDraft draft → SoundConf conf
+conf_with_sound draft conf h s =
+    let server = need_ok (cause.Missing needed.ServerId) draft.server _ conf h in
+    let code = need_ok (cause.Missing needed.PassCode) draft.code _ conf server.1.1 in
+    let made = some_ok (length draft.listens == 0) (cause.Missing needed.Listen) _ conf code.1.1 in
+    let some : length draft.listens ≡ 0 → ⊥ = eqb-false (length draft.listens) 0 made.0 in
+    subst SoundConf made.1 (record {
+      server = if_some SoundCall draft.server server.0 s.server server.1.0;
+      code = if_some IsCode draft.code code.0 s.code code.1.0;
+      admin = or_default IsWord draft.admin [] s.admin refl;
+      email = or_default IsWord draft.email [] s.email refl;
+      some_listens = omega arith;
+      listens = s.listens;
+      few_listens = s.few_listens;
+      uplinks = s.uplinks;
+      few_uplinks = s.few_uplinks;
+      group = s.group;
+      up_timeout = or_default IsTime draft.up_timeout 15 s.up_timeout (omega arith, omega arith);
+      client_timeout = or_default IsTime draft.client_timeout 172800 s.client_timeout (omega arith, omega arith);
+      max_clients = or_default IsCount draft.max_clients 500 s.max_clients (omega arith, omega arith);
+    })
+
+pub conf_sound : (text : List ℕ) (conf : ConfSeen) → conf_of text ≡ Ok conf → SoundConf conf
+unfolding conf_of
+conf_sound text conf h =
+    let draft = bind_ok (drafted 1 empty (lines_of text)) conf_with conf h in
+    conf_with_sound draft.0 conf draft.1.1 (drafted_sound 1 empty draft.0 (lines_of text) draft.1.0 (lines_feedless text) empty_sound)
