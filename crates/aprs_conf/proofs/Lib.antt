@@ -5,6 +5,7 @@ mod PeerLemmas
 mod Rows
 mod SoundDrafts
 mod WordLemmas
+mod WrittenConf
 mod WrittenLines
 mod WrittenNumbers
 mod WrittenWords
