@@ -2,6 +2,7 @@ mod DraftLemmas
 mod LineLemmas
 mod NumberLemmas
 mod PeerLemmas
+mod PushLemmas
 mod Rows
 mod SoundDrafts
 mod WordLemmas

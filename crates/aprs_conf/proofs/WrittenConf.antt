@@ -17,7 +17,7 @@ use Rattle.aprs_conf.specs.Arguments.{clients_of, code_of, host_of, ip_of, kind_
 use Rattle.aprs_conf.specs.Grammar.{◌>>=◌, after, at_line, at_of, conf_of, conf_with, drafted, empty, group_in, is_group, is_some, line_says, listen_in, need, next, peer_of, peers_from, unless, uplink_in, with_listen, with_uplink, words_say, listen_says, uplink_says, group_says}
 use Rattle.aprs_conf.specs.Seen.{ConfSeen, DraftSeen}
 use Rattle.aprs_conf.specs.Words.{closed, has_open, is_remark, lines_of, words_of}
-use Rattle.aprs_conf.specs.Writing.{at_words, conf_lines, group_line, group_lines, ip_text, kind_name, line_text, listen_line, peer_words, proto_name, text_of_conf, uplink_line, word_text}
+use Rattle.aprs_conf.specs.Writing.{at_words, conf_lines, group_line, group_lines, identity_lines, ip_text, kind_name, limit_lines, line_text, listen_line, peer_words, proto_name, text_of_conf, uplink_line, word_text}
 use Rattle.aprs_conf.proofs.SoundDrafts.{Each, IsCode, IsCount, IsPort, IsTime, IsWord, SoundAt, SoundCall, SoundConf, SoundGroup, SoundListen, SoundPeer, SoundPeers, SoundUplink, bind_ok, conf_sound}
 use Rattle.aprs_conf.proofs.WrittenLines.{line_read}
 use Rattle.aprs_conf.proofs.WrittenNumbers.{IsIp, code_again, decimal_word, ip_again, ip_word, number_again, time_again}
@@ -219,10 +219,7 @@ first_draft conf = record empty {
 abbrev whole_draft : ConfSeen → DraftSeen
 whole_draft conf = record (first_draft conf) { listens = conf.listens; uplinks = conf.uplinks; group = conf.group; peers = conf.peers }
 
-first_say : (conf : ConfSeen) (lines : List (List (List ℕ))) → SoundConf conf → all_say empty (
-    (codes "ServerId" ∷ conf.server ∷ []) ∷ (codes "PassCode" ∷ decimal conf.code ∷ []) ∷ (codes "MyAdmin" ∷ conf.admin ∷ []) ∷ (codes "MyEmail" ∷ conf.email ∷ [])
-    ∷ (codes "UpstreamTimeout" ∷ decimal conf.up_timeout ∷ []) ∷ (codes "ClientTimeout" ∷ decimal conf.client_timeout ∷ []) ∷ (codes "MaxClients" ∷ decimal conf.max_clients ∷ [])
-    ∷ lines) ≡ all_say (first_draft conf) lines
+first_say : (conf : ConfSeen) (lines : List (List (List ℕ))) → SoundConf conf → all_say empty (identity_lines conf ++ (limit_lines conf ++ lines)) ≡ all_say (first_draft conf) lines
 first_say conf lines is =
     rw (is.server.station, code_again conf.code is.code, time_again conf.up_timeout is.up_timeout.0 is.up_timeout.1, time_again conf.client_timeout is.client_timeout.0 is.client_timeout.1,
         number_again 1 10000 conf.max_clients is.max_clients.0 is.max_clients.1 (let most = is.max_clients.1 in omega arith)) refl

@@ -6,6 +6,7 @@ use Rattle.std.specs.List.{list_all, slice_split}
 use Rattle.std.proofs.lemmas.Bool.{cases_eq, ne_eqb, eq-eqb, le-leb, leb-true}
 use Rattle.std.proofs.lemmas.Bool.Decides.{nat_tests}
 use Rattle.std.proofs.lemmas.Fmt.{decimal_by_steps, decimal_digit, decimal_nonempty, first_decimal, length-decimal-le}
+use Rattle.std.proofs.lemmas.List.{length-append}
 use Rattle.std.proofs.lemmas.List.Folds.{list_all-append}
 use Rattle.aprs_base.specs.Bytes.{is_digit}
 use Rattle.login_pass.specs.Login.{is_code_number, number_from}
@@ -44,10 +45,10 @@ spells_more n ds great front =
       value = omega arith;
     }
 
-pub decimal_spells : (n : ℕ) → n < 10000001 → Spells n (decimal n)
+pub decimal_spells : (n : ℕ) → n < 4294967296 → Spells n (decimal n)
 decimal_spells n small = decimal_by_steps Spells spells_one spells_more n (omega arith)
 
-pub decimal_some : (n : ℕ) → n < 10000001 → 0 < length (decimal n)
+pub decimal_some : (n : ℕ) → n < 4294967296 → 0 < length (decimal n)
 decimal_some n small = decimal_nonempty n (omega arith)
 
 -- digits that are less than ten to the power of their count
@@ -258,8 +259,11 @@ ip_small text ip h = ip_small_by (same text (codes "::")) (slice_split is_dot te
 digit_word : (d : ℕ) → is_digit d ≡ true → (no_feed d ≡ true) × (no_gap d ≡ true) × (no_quote d ≡ true)
 digit_word d h = (grind (arith, nat_tests), grind (arith, nat_tests), grind (arith, nat_tests))
 
--- a word of bytes that a test lets through, none of which a word without quotes may not have
-plain_word : (test : ℕ → Bool) → ((b : ℕ) → test b ≡ true → (no_feed b ≡ true) × (no_gap b ≡ true) × (no_quote b ≡ true)) → (word : List ℕ) → list_all test word ≡ true → (list_all no_feed word ≡ true) × (list_all no_gap word ≡ true) × (list_all no_quote word ≡ true)
+-- no line feeds, no gaps, no quotes
+abbrev pub IsPlain : List ℕ → Type 0
+IsPlain word = (list_all no_feed word ≡ true) × (list_all no_gap word ≡ true) × (list_all no_quote word ≡ true)
+
+plain_word : (test : ℕ → Bool) → ((b : ℕ) → test b ≡ true → (no_feed b ≡ true) × (no_gap b ≡ true) × (no_quote b ≡ true)) → (word : List ℕ) → list_all test word ≡ true → IsPlain word
 plain_word test each [] h = (refl, refl, refl)
 plain_word test each (b ∷ word) h =
     let parts = both (test b) (list_all test word) h in
@@ -270,9 +274,12 @@ plain_word test each (b ∷ word) h =
 plain_is_word : (word : List ℕ) → list_all no_feed word ≡ true → list_all no_quote word ≡ true → is_word word ≡ true
 plain_is_word word feed quote = rw (feed, quote) (cond_same (is_bare word))
 
-pub decimal_word : (n : ℕ) → n < 10000001 → is_word (decimal n) ≡ true
+pub decimal_plain : (n : ℕ) → n < 4294967296 → IsPlain (decimal n)
+decimal_plain n small = plain_word is_digit digit_word (decimal n) (decimal_spells n small).digits
+
+pub decimal_word : (n : ℕ) → n < 4294967296 → is_word (decimal n) ≡ true
 decimal_word n small =
-    let plain = plain_word is_digit digit_word (decimal n) (decimal_spells n small).digits in
+    let plain = decimal_plain n small in
     plain_is_word (decimal n) plain.0 plain.2
 
 abbrev is_ip_byte : ℕ → Bool
@@ -304,7 +311,18 @@ ip_bytes (a ∷ b ∷ []) h = absurd h
 ip_bytes (a ∷ b ∷ c ∷ []) h = absurd h
 ip_bytes (a ∷ b ∷ c ∷ d ∷ e ∷ more) h = absurd h
 
+pub ip_plain : (ip : List ℕ) → IsIp ip → IsPlain (ip_text ip)
+ip_plain ip h = plain_word is_ip_byte ip_byte (ip_text ip) (ip_bytes ip h)
+
+pub ip_some : (ip : List ℕ) → IsIp ip → 0 < length (ip_text ip)
+ip_some (a ∷ b ∷ c ∷ d ∷ []) h = omega (arith, length-append (decimal a) (46 ∷ ip_text (b ∷ c ∷ d ∷ [])))
+ip_some [] h = absurd h
+ip_some (a ∷ []) h = absurd h
+ip_some (a ∷ b ∷ []) h = absurd h
+ip_some (a ∷ b ∷ c ∷ []) h = absurd h
+ip_some (a ∷ b ∷ c ∷ d ∷ e ∷ more) h = absurd h
+
 pub ip_word : (ip : List ℕ) → IsIp ip → is_word (ip_text ip) ≡ true
 ip_word ip h =
-    let plain = plain_word is_ip_byte ip_byte (ip_text ip) (ip_bytes ip h) in
+    let plain = ip_plain ip h in
     plain_is_word (ip_text ip) plain.0 plain.2

@@ -80,17 +80,24 @@ abbrev pub group_lines : Option Addr → List PeerSpec → List (List (List ℕ)
 group_lines None peers = []
 group_lines (Some at) peers = group_line at peers ∷ []
 
--- each line's words; every line that has a default is written
-abbrev pub conf_lines : ConfSeen → List (List (List ℕ))
-conf_lines conf =
+abbrev pub identity_lines : ConfSeen → List (List (List ℕ))
+identity_lines conf =
     (codes "ServerId" ∷ conf.server ∷ [])
     ∷ (codes "PassCode" ∷ decimal conf.code ∷ [])
     ∷ (codes "MyAdmin" ∷ conf.admin ∷ [])
     ∷ (codes "MyEmail" ∷ conf.email ∷ [])
-    ∷ (codes "UpstreamTimeout" ∷ decimal conf.up_timeout ∷ [])
+    ∷ []
+
+abbrev pub limit_lines : ConfSeen → List (List (List ℕ))
+limit_lines conf =
+    (codes "UpstreamTimeout" ∷ decimal conf.up_timeout ∷ [])
     ∷ (codes "ClientTimeout" ∷ decimal conf.client_timeout ∷ [])
     ∷ (codes "MaxClients" ∷ decimal conf.max_clients ∷ [])
-    ∷ (map listen_line conf.listens ++ (map uplink_line conf.uplinks ++ group_lines conf.group conf.peers))
+    ∷ []
+
+-- each line's words; a line that may be left out is written too, but for that of a group where there is none
+abbrev pub conf_lines : ConfSeen → List (List (List ℕ))
+conf_lines conf = identity_lines conf ++ (limit_lines conf ++ (map listen_line conf.listens ++ (map uplink_line conf.uplinks ++ group_lines conf.group conf.peers)))
 
 unfoldable pub text_of_conf : ConfSeen → List ℕ
 text_of_conf conf = flat_map line_text (conf_lines conf)

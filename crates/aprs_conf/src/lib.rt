@@ -9,6 +9,7 @@ mod reading;
 mod tests;
 mod types;
 mod words;
+mod writing;
 
 pub use errors::{ConfError, ConfFault, ConfWord};
 pub use reading::read;
