@@ -11,7 +11,7 @@ use Rattle.std.proofs.lemmas.List.Folds.{list_all-append}
 use Rattle.aprs_base.specs.Bytes.{is_digit}
 use Rattle.login_pass.specs.Login.{is_code_number, number_from}
 use Rattle.aprs_conf.specs.Arguments.{are_digits, clients_of, code_of, four, host_of, ip_of, is_dot, is_plain, last_in, number_within, octet_of, octets_in, port_of, same, seconds_of, time_in, time_of, unit_of}
-use Rattle.aprs_conf.specs.Writing.{ip_text, is_bare}
+use Rattle.aprs_conf.specs.Writing.{dotted, ip_text, is_bare}
 use Rattle.aprs_conf.proofs.WrittenLines.{cond_same, cut_at, never_cut}
 use Rattle.aprs_conf.proofs.WrittenWords.{both, unnot, is_word, no_feed, no_gap, no_quote}
 
@@ -186,10 +186,11 @@ octet_again : (n : ℕ) → n ≤ 255 → octet_of (decimal n) ≡ Some n
 octet_again n small = number_again 0 255 n (omega arith) small (omega arith)
 
 parts_again : (a b c d : ℕ) → IsIp (a ∷ b ∷ c ∷ d ∷ []) → slice_split is_dot (ip_text (a ∷ b ∷ c ∷ d ∷ [])) ≡ decimal a ∷ decimal b ∷ decimal c ∷ decimal d ∷ []
+unfolding ip_text
 parts_again a b c d h =
-    rw (cut_at is_dot 46 refl (decimal a) (ip_text (b ∷ c ∷ d ∷ [])) (octet_undotted a h.0),
-        cut_at is_dot 46 refl (decimal b) (ip_text (c ∷ d ∷ [])) (octet_undotted b h.1),
-        cut_at is_dot 46 refl (decimal c) (ip_text (d ∷ [])) (octet_undotted c h.2),
+    rw (cut_at is_dot 46 refl (decimal a) (dotted b (dotted c (decimal d))) (octet_undotted a h.0),
+        cut_at is_dot 46 refl (decimal b) (dotted c (decimal d)) (octet_undotted b h.1),
+        cut_at is_dot 46 refl (decimal c) (decimal d) (octet_undotted c h.2),
         never_cut is_dot (decimal d) (octet_undotted d h.3)) refl
 
 not_every : (ds rest : List ℕ) → list_all is_digit ds ≡ true → 0 < length ds → same (ds ++ rest) (codes "::") ≡ false
@@ -199,9 +200,10 @@ not_every (d ∷ ds) rest h some =
     rw (ne_eqb d 58 (λ e. omega arith)) refl
 
 pub ip_again : (ip : List ℕ) → IsIp ip → ip_of (ip_text ip) ≡ Some ip
+unfolding ip_text
 ip_again (a ∷ b ∷ c ∷ d ∷ []) h =
     let first : same (ip_text (a ∷ b ∷ c ∷ d ∷ [])) (codes "::") ≡ false =
-      (let small = h.0 in not_every (decimal a) (46 ∷ ip_text (b ∷ c ∷ d ∷ [])) (decimal_spells a (omega arith)).digits (decimal_some a (omega arith))) in
+      (let small = h.0 in not_every (decimal a) (46 ∷ dotted b (dotted c (decimal d))) (decimal_spells a (omega arith)).digits (decimal_some a (omega arith))) in
     rw (first, parts_again a b c d h, octet_again a h.0, octet_again b h.1, octet_again c h.2, octet_again d h.3) refl
 ip_again [] h = absurd h
 ip_again (a ∷ []) h = absurd h
@@ -301,10 +303,11 @@ dotted_bytes : (front rest : List ℕ) → list_all is_ip_byte front ≡ true �
 dotted_bytes front rest p q = rw (list_all-append is_ip_byte front (46 ∷ rest), p, q) refl
 
 ip_bytes : (ip : List ℕ) → IsIp ip → list_all is_ip_byte (ip_text ip) ≡ true
+unfolding ip_text
 ip_bytes (a ∷ b ∷ c ∷ d ∷ []) h =
-    dotted_bytes (decimal a) (ip_text (b ∷ c ∷ d ∷ [])) (octet_bytes a h.0)
-      (dotted_bytes (decimal b) (ip_text (c ∷ d ∷ [])) (octet_bytes b h.1)
-        (dotted_bytes (decimal c) (ip_text (d ∷ [])) (octet_bytes c h.2) (octet_bytes d h.3)))
+    dotted_bytes (decimal a) (dotted b (dotted c (decimal d))) (octet_bytes a h.0)
+      (dotted_bytes (decimal b) (dotted c (decimal d)) (octet_bytes b h.1)
+        (dotted_bytes (decimal c) (decimal d) (octet_bytes c h.2) (octet_bytes d h.3)))
 ip_bytes [] h = absurd h
 ip_bytes (a ∷ []) h = absurd h
 ip_bytes (a ∷ b ∷ []) h = absurd h
@@ -315,7 +318,8 @@ pub ip_plain : (ip : List ℕ) → IsIp ip → IsPlain (ip_text ip)
 ip_plain ip h = plain_word is_ip_byte ip_byte (ip_text ip) (ip_bytes ip h)
 
 pub ip_some : (ip : List ℕ) → IsIp ip → 0 < length (ip_text ip)
-ip_some (a ∷ b ∷ c ∷ d ∷ []) h = omega (arith, length-append (decimal a) (46 ∷ ip_text (b ∷ c ∷ d ∷ [])))
+unfolding ip_text
+ip_some (a ∷ b ∷ c ∷ d ∷ []) h = omega (arith, length-append (decimal a) (46 ∷ dotted b (dotted c (decimal d))))
 ip_some [] h = absurd h
 ip_some (a ∷ []) h = absurd h
 ip_some (a ∷ b ∷ []) h = absurd h

@@ -1,5 +1,5 @@
 -- The text that is written of a configuration (aprsc manual, Configuration).
-use Rattle.std.specs.Prelude.{ℕ, ◌&&◌, Bool, true, false, if◌then◌else◌, not, List, [], ◌∷◌, ◌++◌, map, codes, Option, Some, None}
+use Rattle.std.specs.Prelude.{ℕ, ◌&&◌, Bool, true, false, if◌then◌else◌, not, List, [], ◌∷◌, ◌++◌, map, codes, Option, Some, None, slice_index}
 use Rattle.std.specs.Fmt.{decimal}
 use Rattle.std.specs.List.{flat_map, list_all}
 use Rattle.aprs_base.specs.declared.packets.PortKind.{PortKind}
@@ -34,11 +34,12 @@ line_text words = flat_map word_text words ++ 10 ∷ []
 
 -- ---- arguments
 
--- the numbers with single dots between them
-abbrev pub ip_text : List ℕ → List ℕ
-ip_text [] = []
-ip_text (a ∷ []) = decimal a
-ip_text (a ∷ b ∷ more) = decimal a ++ 46 ∷ ip_text (b ∷ more)
+-- four numbers, with single dots between them
+abbrev pub dotted : ℕ → List ℕ → List ℕ
+dotted number rest = decimal number ++ 46 ∷ rest
+
+unfoldable pub ip_text : List ℕ → List ℕ
+ip_text ip = dotted (slice_index ip 0) (dotted (slice_index ip 1) (dotted (slice_index ip 2) (decimal (slice_index ip 3))))
 
 abbrev pub kind_name : PortKind → List ℕ
 kind_name kind.Full = codes "fullfeed"
@@ -95,9 +96,12 @@ limit_lines conf =
     ∷ (codes "MaxClients" ∷ decimal conf.max_clients ∷ [])
     ∷ []
 
+abbrev pub list_lines : ConfSeen → List (List (List ℕ))
+list_lines conf = map listen_line conf.listens ++ (map uplink_line conf.uplinks ++ group_lines conf.group conf.peers)
+
 -- each line's words; a line that may be left out is written too, but for that of a group where there is none
 abbrev pub conf_lines : ConfSeen → List (List (List ℕ))
-conf_lines conf = identity_lines conf ++ (limit_lines conf ++ (map listen_line conf.listens ++ (map uplink_line conf.uplinks ++ group_lines conf.group conf.peers)))
+conf_lines conf = identity_lines conf ++ (limit_lines conf ++ list_lines conf)
 
 unfoldable pub text_of_conf : ConfSeen → List ℕ
 text_of_conf conf = flat_map line_text (conf_lines conf)

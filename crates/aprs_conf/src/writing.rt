@@ -4,7 +4,7 @@ ghost use Rattle.std.specs.Fmt.{decimal};
 ghost use Rattle.std.specs.List.{flat_map, list_all};
 ghost use Rattle.aprs_conf.specs.Grammar.{conf_of};
 ghost use Rattle.aprs_conf.specs.Words.{is_gap};
-ghost use Rattle.aprs_conf.specs.Writing.{at_words, group_line, group_lines, identity_lines, ip_text, is_bare, kind_name, limit_lines, line_text, listen_line, peer_words, proto_name, spelled, text_of_conf, uplink_line, word_text};
+ghost use Rattle.aprs_conf.specs.Writing.{at_words, group_line, group_lines, identity_lines, ip_text, is_bare, kind_name, limit_lines, line_text, list_lines, listen_line, peer_words, proto_name, spelled, text_of_conf, uplink_line, word_text};
 
 use crate::types::{Conf, Listen, PeerSpec};
 use crate::words::is_gap_byte;
@@ -86,22 +86,15 @@ fn push_octet(out: &mut Vec<u8>, octet: u8) -> Result<(), AllocError>
     push_byte(out, b'.')
 }
 
-fn push_octets(out: &mut Vec<u8>, ip: [u8; 4]) -> Result<(), AllocError>
-    ensures { OnOk result (out.new.items ≡ out.old.items ++ ip_text ip) }
+/// An address and a blank.
+fn push_ip(out: &mut Vec<u8>, ip: [u8; 4]) -> Result<(), AllocError>
+    ensures { OnOk result (out.new.items ≡ out.old.items ++ word_text (ip_text ip)) }
 {
     let [first, second, third, fourth] = ip;
     push_octet(out, first)?;
     push_octet(out, second)?;
     push_octet(out, third)?;
-    push_digits(out, u32::from(fourth))
-}
-
-/// An address and a blank.
-fn push_ip(out: &mut Vec<u8>, ip: [u8; 4]) -> Result<(), AllocError>
-    ensures { OnOk result (out.new.items ≡ out.old.items ++ word_text (ip_text ip)) }
-{
-    push_octets(out, ip)?;
-    push_byte(out, b' ')
+    push_number(out, u32::from(fourth))
 }
 
 /// An address and its port.
@@ -177,10 +170,7 @@ fn push_listens(out: &mut Vec<u8>, listens: &[Listen]) -> Result<(), AllocError>
 fn push_uplink(out: &mut Vec<u8>, uplink: &UplinkSpec) -> Result<(), AllocError>
     ensures { OnOk result (out.new.items ≡ out.old.items ++ line_text (uplink_line uplink.now)) }
 {
-    push_word(out, b"Uplink")?;
-    push_word(out, b"uplink")?;
-    push_word(out, b"full")?;
-    push_word(out, b"tcp")?;
+    push_bytes(out, b"Uplink uplink full tcp ")?;
     push_word(out, uplink.host.as_slice())?;
     push_number(out, u32::from(uplink.port))?;
     push_byte(out, b'\n')
@@ -218,10 +208,55 @@ fn push_group(out: &mut Vec<u8>, group: Option<Addr>, peers: &[PeerSpec]) -> Res
     let Some(at) = group else {
         return Ok(());
     };
-    push_word(out, b"PeerGroup")?;
-    push_word(out, b"peers")?;
-    push_word(out, b"udp")?;
+    push_bytes(out, b"PeerGroup peers udp ")?;
     push_at(out, at)?;
     push_peers(out, peers)?;
     push_byte(out, b'\n')
+}
+
+/// Whose server it is.
+fn push_identity(out: &mut Vec<u8>, conf: &Conf) -> Result<(), AllocError>
+    ensures { OnOk result (out.new.items ≡ out.old.items ++ flat_map line_text (identity_lines conf.now)) }
+{
+    push_text_line(out, b"ServerId", conf.server.bytes())?;
+    push_number_line(out, b"PassCode", conf.code)?;
+    push_text_line(out, b"MyAdmin", conf.admin.as_bytes())?;
+    push_text_line(out, b"MyEmail", conf.email.as_bytes())
+}
+
+/// The times in seconds and the number of clients, also where they are the usual ones.
+fn push_limits(out: &mut Vec<u8>, conf: &Conf) -> Result<(), AllocError>
+    ensures { OnOk result (out.new.items ≡ out.old.items ++ flat_map line_text (limit_lines conf.now)) }
+{
+    push_number_line(out, b"UpstreamTimeout", conf.up_timeout)?;
+    push_number_line(out, b"ClientTimeout", conf.client_timeout)?;
+    push_number_line(out, b"MaxClients", conf.max_clients)
+}
+
+fn push_lists(out: &mut Vec<u8>, conf: &Conf) -> Result<(), AllocError>
+    ensures { OnOk result (out.new.items ≡ out.old.items ++ flat_map line_text (list_lines conf.now)) }
+{
+    push_listens(out, conf.listens.as_slice())?;
+    push_uplinks(out, conf.uplinks.as_slice())?;
+    push_group(out, conf.group, conf.peers.as_slice())
+}
+
+fn push_conf(out: &mut Vec<u8>, conf: &Conf) -> Result<(), AllocError>
+    ensures { OnOk result (out.new.items ≡ out.old.items ++ text_of_conf conf.now) }
+{
+    push_identity(out, conf)?;
+    push_limits(out, conf)?;
+    push_lists(out, conf)
+}
+
+impl Conf {
+    /// A text that reads as this value, where some text does. Fails only where memory is wanting.
+    pub fn write(&self, alloc: Global) -> Result<Text, Memory>
+        ensures text { IfOk result (λ written. written ≡ text_of_conf self.now) }
+        ensures again { (text : List ℕ) → conf_of text ≡ Ok self.now → IfOk result (λ written. conf_of written ≡ Ok self.now) }
+    {
+        let mut out = Vec::new(alloc);
+        push_conf(&mut out, self)?;
+        Ok(Text::new(out))
+    }
 }
