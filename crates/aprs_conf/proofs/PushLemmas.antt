@@ -1,12 +1,12 @@
 -- Texts that are written piece by piece.
-use Rattle.std.proofs.Common.{◌≡◌, ℕ, ◌<◌, ◌≤◌, true, cond, List, [], ◌∷◌, ◌++◌, ◌+◌, Result, map, drop, get_or, length, refl, sym, ap, ◌∙◌, arith, append_assoc, append-nil, drop-cons, add-one}
+use Rattle.std.proofs.Common.{◌≡◌, ℕ, ◌<◌, ◌≤◌, true, List, [], ◌∷◌, ◌++◌, ◌+◌, Result, map, drop, get_or, length, refl, sym, ap, ◌∙◌, arith, append_assoc, append-nil, drop-cons, add-one}
 use Rattle.std.specs.Prelude.{OnOk}
 use Rattle.std.specs.Fmt.{decimal}
 use Rattle.std.specs.List.{flat_map, list_all}
 use Rattle.std.proofs.lemmas.Grind.{flat_map-append}
 use Rattle.std.proofs.lemmas.Result.{on_ok_weaker}
 use Rattle.aprs_conf.specs.Seen.{ConfSeen}
-use Rattle.aprs_conf.specs.Writing.{identity_lines, in_quotes, ip_text, is_bare, limit_lines, line_text, list_lines, spelled, text_of_conf, word_text}
+use Rattle.aprs_conf.specs.Writing.{identity_lines, ip_text, limit_lines, line_text, list_lines, spelled, text_of_conf, word_text}
 use Rattle.aprs_conf.proofs.WrittenNumbers.{IsIp, decimal_plain, decimal_some, ip_plain, ip_some}
 use Rattle.aprs_conf.proofs.WrittenWords.{both, no_gap, no_quote}
 

@@ -1,14 +1,13 @@
 -- What every configuration that is read is: its texts are words, and its numbers and counts are in their ranges.
-use Rattle.std.proofs.Common.{◌≡◌, ℕ, ◌+◌, ◌*◌, ◌%◌, ◌<◌, ◌≤◌, ◌&&◌, ◌==◌, Bool, true, false, cond, List, [], ◌∷◌, ◌++◌, Option, Some, None, Result, Ok, Err, length, refl, sym, ap, subst, ◌∙◌, arith, nat_le}
-use Rattle.std.specs.Prelude.{not, codes, option_map, unwrap_or}
+use Rattle.std.proofs.Common.{◌≡◌, ℕ, ◌+◌, ◌*◌, ◌%◌, ◌<◌, ◌≤◌, ◌&&◌, ◌==◌, Bool, true, false, cond, List, [], ◌∷◌, ◌++◌, Option, Some, None, Result, Ok, Err, length, refl, ap, subst, arith, nat_le}
+use Rattle.std.specs.Prelude.{not, option_map, unwrap_or}
 use Rattle.std.specs.List.{list_all, find}
-use Rattle.std.proofs.lemmas.Bool.{eqb-true, eqb-false, leb-true, leb-false}
+use Rattle.std.proofs.lemmas.Bool.{eqb-false, leb-true, leb-false}
 use Rattle.std.proofs.lemmas.List.{length-append}
 use Rattle.aprs_base.specs.Bytes.{is_station}
 use Rattle.aprs_base.specs.declared.packets.UplinkSpec.{UplinkSpec}
 use Rattle.aprs_base.specs.declared.texts.Addr.{Addr}
 use Rattle.aprs_conf.specs.declared.arguments.Service.{Service}
-use Rattle.aprs_conf.specs.declared.errors.ConfError.{ConfError}
 use Rattle.aprs_conf.specs.declared.errors.ConfError.TheVariants as cause
 use Rattle.aprs_conf.specs.declared.errors.ConfFault.{ConfFault}
 use Rattle.aprs_conf.specs.declared.errors.ConfFault.TheVariants as fault
@@ -17,14 +16,14 @@ use Rattle.aprs_conf.specs.declared.reading.LineWord.{LineWord}
 use Rattle.aprs_conf.specs.declared.reading.LineWord.TheVariants as word
 use Rattle.aprs_conf.specs.declared.types.Listen.{Listen}
 use Rattle.aprs_conf.specs.declared.types.PeerSpec.{PeerSpec}
-use Rattle.aprs_conf.specs.Arguments.{PortRow, clients_of, code_of, host_of, ip_of, kind_of, number_within, port_of, ports, same, station_of, time_of, udp}
-use Rattle.aprs_conf.specs.Grammar.{◌>>=◌, after, at_line, at_of, conf_of, conf_with, drafted, empty, five_of, group_in, is_full, is_group, is_hidden_at_most, line_says, listen_in, listen_of, need, next, one_of, peer_of, peers_from, says, time_in_line, unless, uplink_in, was_said, with_listen, with_uplink, word_of, words_say, server_says, code_says, admin_says, email_says, clients_say, nothing_says, listen_says, uplink_says, group_says, timeout_says}
+use Rattle.aprs_conf.specs.Arguments.{PortRow, clients_of, code_of, host_of, ip_of, kind_of, port_of, ports, same, station_of, time_of, udp}
+use Rattle.aprs_conf.specs.Grammar.{◌>>=◌, after, at_line, at_of, conf_of, conf_with, drafted, empty, five_of, group_in, is_full, is_group, is_hidden_at_most, line_says, listen_in, listen_of, need, next, one_of, peer_of, peers_from, says, time_in_line, unless, uplink_in, was_said, with_listen, with_uplink, word_of, server_says, code_says, admin_says, email_says, clients_say, nothing_says, listen_says, uplink_says, group_says, timeout_says}
 use Rattle.aprs_conf.specs.Seen.{ConfSeen, DraftSeen}
 use Rattle.aprs_conf.specs.Words.{Word, closed, has_open, is_remark, lines_of, words_of}
 use Rattle.aprs_conf.specs.Writing.{kind_name, proto_name}
 use Rattle.aprs_conf.proofs.WrittenLines.{is_fed, lines_feedless, words_sound}
 use Rattle.aprs_conf.proofs.WrittenNumbers.{IsIp, code_small, cond_some, ip_small, time_small, within}
-use Rattle.aprs_conf.proofs.WrittenWords.{both, is_word, unnot}
+use Rattle.aprs_conf.proofs.WrittenWords.{both, is_word}
 
 -- ---- steps that went well
 

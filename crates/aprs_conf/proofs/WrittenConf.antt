@@ -1,10 +1,9 @@
 -- The text that is written of a configuration reads as it.
-use Rattle.std.proofs.Common.{◌≡◌, ℕ, ◌+◌, ◌*◌, ◌%◌, ◌<◌, ◌≤◌, ◌&&◌, ◌==◌, Bool, true, false, cond, List, [], ◌∷◌, ◌++◌, Option, Some, None, Result, Ok, Err, map, length, refl, sym, ap, subst, ◌∙◌, arith, nat_le, append_assoc, append-nil}
-use Rattle.std.specs.Prelude.{not, codes}
+use Rattle.std.proofs.Common.{◌≡◌, ℕ, ◌+◌, ◌*◌, ◌%◌, ◌<◌, ◌≤◌, ◌==◌, true, false, cond, List, [], ◌∷◌, ◌++◌, Option, Some, None, Result, Ok, map, length, refl, sym, ap, ◌∙◌, arith, append_assoc, append-nil}
+use Rattle.std.specs.Prelude.{codes}
 use Rattle.std.specs.List.{flat_map, list_all}
 use Rattle.std.specs.Fmt.{decimal}
 use Rattle.std.proofs.lemmas.Bool.{eq-eqb, ne_eqb, le-leb, lt-leb}
-use Rattle.std.proofs.lemmas.Grind.{flat_map-append}
 use Rattle.std.proofs.lemmas.List.{length-append}
 use Rattle.aprs_base.specs.declared.packets.UplinkSpec.{UplinkSpec}
 use Rattle.aprs_base.specs.declared.texts.Addr.{Addr}
@@ -13,15 +12,15 @@ use Rattle.aprs_conf.specs.declared.errors.ConfFault.{ConfFault}
 use Rattle.aprs_conf.specs.declared.errors.ConfFault.TheVariants as fault
 use Rattle.aprs_conf.specs.declared.types.Listen.{Listen}
 use Rattle.aprs_conf.specs.declared.types.PeerSpec.{PeerSpec}
-use Rattle.aprs_conf.specs.Arguments.{clients_of, code_of, host_of, ip_of, kind_of, port_of, station_of, tcp, time_of, udp}
-use Rattle.aprs_conf.specs.Grammar.{◌>>=◌, after, at_line, at_of, conf_of, conf_with, drafted, empty, group_in, is_group, is_some, line_says, listen_in, need, next, peer_of, peers_from, unless, uplink_in, with_listen, with_uplink, words_say, listen_says, uplink_says, group_says}
+use Rattle.aprs_conf.specs.Arguments.{port_of, tcp, udp}
+use Rattle.aprs_conf.specs.Grammar.{◌>>=◌, after, at_line, at_of, conf_of, conf_with, drafted, empty, group_in, is_group, is_some, line_says, listen_in, next, peer_of, peers_from, unless, uplink_in, with_listen, with_uplink, words_say, group_says}
 use Rattle.aprs_conf.specs.Seen.{ConfSeen, DraftSeen}
-use Rattle.aprs_conf.specs.Words.{closed, has_open, is_remark, lines_of, words_of}
+use Rattle.aprs_conf.specs.Words.{closed, has_open, lines_of}
 use Rattle.aprs_conf.specs.Writing.{at_words, conf_lines, group_line, group_lines, identity_lines, ip_text, kind_name, limit_lines, line_text, listen_line, peer_words, proto_name, text_of_conf, uplink_line, word_text}
-use Rattle.aprs_conf.proofs.SoundDrafts.{Each, IsCode, IsCount, IsPort, IsTime, IsWord, SoundAt, SoundCall, SoundConf, SoundGroup, SoundListen, SoundPeer, SoundPeers, SoundUplink, bind_ok, conf_sound}
+use Rattle.aprs_conf.proofs.SoundDrafts.{Each, IsPort, SoundAt, SoundConf, SoundGroup, SoundListen, SoundPeer, SoundPeers, SoundUplink, bind_ok, conf_sound}
 use Rattle.aprs_conf.proofs.WrittenLines.{line_read}
-use Rattle.aprs_conf.proofs.WrittenNumbers.{IsIp, code_again, decimal_word, ip_again, ip_word, number_again, time_again}
-use Rattle.aprs_conf.proofs.WrittenWords.{all_closed, both, is_word, none_open, words_read}
+use Rattle.aprs_conf.proofs.WrittenNumbers.{code_again, decimal_word, ip_again, ip_word, number_again, time_again}
+use Rattle.aprs_conf.proofs.WrittenWords.{all_closed, is_word, none_open, words_read}
 
 -- ---- lines, as lists of words
 

@@ -1,11 +1,11 @@
 -- Lines that are written read as themselves; and no word or line that is read holds a line feed.
-use Rattle.std.proofs.Common.{◌≡◌, ℕ, zero, suc, ◌+◌, ◌-◌, ◌<◌, ◌&&◌, ◌==◌, Bool, true, false, cond, List, [], ◌∷◌, ◌++◌, Some, None, take, length, refl, sym, ap, subst, ◌∙◌, arith, append_assoc, append-nil}
+use Rattle.std.proofs.Common.{◌≡◌, ℕ, zero, suc, ◌-◌, ◌==◌, Bool, true, false, cond, List, [], ◌∷◌, ◌++◌, Some, None, take, length, refl, sym, ap, subst, ◌∙◌, arith, append_assoc, append-nil}
 use Rattle.std.specs.Prelude.{not, slice_index}
 use Rattle.std.specs.List.{flat_map, list_all, slice_split, onto_first}
 use Rattle.std.proofs.Math.Seq.{get_or-append_seam}
 use Rattle.std.proofs.lemmas.List.{length-append}
 use Rattle.std.proofs.lemmas.List.Folds.{list_all-append}
-use Rattle.aprs_conf.specs.Words.{is_feed, is_gap, is_quote, with_byte, words_from, words_of, Word, closed, ended, lines_of, without_return, arguments_of}
+use Rattle.aprs_conf.specs.Words.{is_feed, is_gap, is_quote, with_byte, words_from, words_of, Word, closed, ended, lines_of, without_return}
 use Rattle.aprs_conf.specs.Words.Place.{Between, Plain, Quoted}
 use Rattle.aprs_conf.specs.Writing.{in_quotes, is_bare, spelled, word_text, line_text}
 use Rattle.aprs_conf.proofs.LineLemmas.{line_first}

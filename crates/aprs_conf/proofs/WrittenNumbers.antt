@@ -1,19 +1,19 @@
 -- Numbers, times and addresses that are written read as themselves, and what is read is in its range.
-use Rattle.std.proofs.Common.{◌≡◌, ℕ, zero, suc, ◌+◌, ◌-◌, ◌*◌, ◌/◌, ◌%◌, ◌^◌, ◌<◌, ◌≤◌, ◌&&◌, ◌||◌, ◌==◌, inl, inr, Bool, true, false, cond, List, [], ◌∷◌, ◌++◌, Option, Some, None, take, get_or, length, refl, sym, ap, subst, ◌∙◌, arith, nat_le, append_assoc, append-nil}
+use Rattle.std.proofs.Common.{◌≡◌, ℕ, zero, suc, ◌+◌, ◌-◌, ◌*◌, ◌/◌, ◌%◌, ◌<◌, ◌≤◌, ◌&&◌, ◌||◌, ◌==◌, inl, inr, Bool, true, false, cond, List, [], ◌∷◌, ◌++◌, Option, Some, None, take, length, refl, sym, ap, subst, arith, nat_le}
 use Rattle.std.specs.Prelude.{not, codes, slice_index}
 use Rattle.std.specs.Fmt.{decimal}
 use Rattle.std.specs.List.{list_all, slice_split}
-use Rattle.std.proofs.lemmas.Bool.{cases_eq, ne_eqb, eq-eqb, le-leb, leb-true}
+use Rattle.std.proofs.lemmas.Bool.{cases_eq, ne_eqb, le-leb, leb-true}
 use Rattle.std.proofs.lemmas.Bool.Decides.{nat_tests}
 use Rattle.std.proofs.lemmas.Fmt.{decimal_by_steps, decimal_digit, decimal_nonempty, first_decimal, length-decimal-le}
 use Rattle.std.proofs.lemmas.List.{length-append}
 use Rattle.std.proofs.lemmas.List.Folds.{list_all-append}
 use Rattle.aprs_base.specs.Bytes.{is_digit}
 use Rattle.login_pass.specs.Login.{is_code_number, number_from}
-use Rattle.aprs_conf.specs.Arguments.{are_digits, clients_of, code_of, four, host_of, ip_of, is_dot, is_plain, last_in, number_within, octet_of, octets_in, port_of, same, seconds_of, time_in, time_of, unit_of}
+use Rattle.aprs_conf.specs.Arguments.{are_digits, code_of, four, ip_of, is_dot, is_plain, last_in, number_within, octet_of, octets_in, same, seconds_of, time_in, time_of, unit_of}
 use Rattle.aprs_conf.specs.Writing.{dotted, ip_text, is_bare}
 use Rattle.aprs_conf.proofs.WrittenLines.{cond_same, cut_at, never_cut}
-use Rattle.aprs_conf.proofs.WrittenWords.{both, unnot, is_word, no_feed, no_gap, no_quote}
+use Rattle.aprs_conf.proofs.WrittenWords.{both, is_word, no_feed, no_gap, no_quote}
 
 pub cond_some : {A : Type 0} (b : Bool) (x y : A) → cond b (Some x) None ≡ Some y → (b ≡ true) × (x ≡ y)
 cond_some true x y h = (refl, cc)

@@ -1,10 +1,9 @@
 -- Words that are written read as themselves.
-use Rattle.std.proofs.Common.{◌≡◌, ℕ, ◌+◌, ◌-◌, ◌<◌, ◌&&◌, Bool, true, false, cond, List, [], ◌∷◌, ◌++◌, Option, Some, None, map, length, refl, sym, ap, ◌∙◌, arith, append_assoc, append-nil}
+use Rattle.std.proofs.Common.{◌≡◌, ℕ, ◌&&◌, Bool, true, false, cond, List, [], ◌∷◌, ◌++◌, Some, map, refl, ap, append_assoc}
 use Rattle.std.specs.Prelude.{not}
 use Rattle.std.specs.List.{flat_map, list_all}
-use Rattle.std.proofs.lemmas.List.Folds.{list_all-append}
-use Rattle.aprs_conf.specs.Words.{is_feed, is_gap, is_quote, with_byte, words_from, words_of, Word, closed, has_open}
-use Rattle.aprs_conf.specs.Words.Place.{Between, Plain, Quoted}
+use Rattle.aprs_conf.specs.Words.{is_feed, is_gap, is_quote, words_from, words_of, closed, has_open}
+use Rattle.aprs_conf.specs.Words.Place.{Plain, Quoted}
 use Rattle.aprs_conf.specs.Writing.{in_quotes, is_bare, spelled, word_text}
 
 pub both : (a b : Bool) → (a && b) ≡ true → (a ≡ true) × (b ≡ true)

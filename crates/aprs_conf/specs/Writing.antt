@@ -1,5 +1,5 @@
 -- The text that is written of a configuration (aprsc manual, Configuration).
-use Rattle.std.specs.Prelude.{ℕ, ◌&&◌, Bool, true, false, if◌then◌else◌, not, List, [], ◌∷◌, ◌++◌, map, codes, Option, Some, None, slice_index}
+use Rattle.std.specs.Prelude.{ℕ, ◌&&◌, Bool, false, if◌then◌else◌, not, List, [], ◌∷◌, ◌++◌, map, codes, Option, Some, None, slice_index}
 use Rattle.std.specs.Fmt.{decimal}
 use Rattle.std.specs.List.{flat_map, list_all}
 use Rattle.aprs_base.specs.declared.packets.PortKind.{PortKind}
