@@ -4,8 +4,9 @@ mod NumberLemmas
 mod PeerLemmas
 mod PushLemmas
 mod Rows
-mod SoundDrafts
+mod SoundLemmas
 mod WordLemmas
+mod WritableDrafts
 mod WrittenConf
 mod WrittenLines
 mod WrittenNumbers

@@ -1,5 +1,5 @@
 -- The first peer of a group.
-use Rattle.std.proofs.Common.{◌≡◌, ℕ, List, [], ◌∷◌, ◌++◌, Result, Ok, ap, sym, ◌∙◌}
+use Rattle.std.proofs.Common.{◌≡◌, ℕ, List, [], ◌∷◌, ◌++◌, Result, Ok, ap, ◌∙◌}
 use Rattle.aprs_conf.specs.declared.errors.ConfFault.{ConfFault}
 use Rattle.aprs_conf.specs.declared.types.PeerSpec.{PeerSpec}
 use Rattle.aprs_conf.specs.Grammar.{peers_from, peer_of, ◌>>=◌}

@@ -1,9 +1,9 @@
 -- The first word of a line: behind its blanks and tabs, up to the next of them or to its last quote.
-use Rattle.std.proofs.Common.{◌≡◌, ℕ, suc, ◌+◌, ◌-◌, ◌<◌, ◌≤◌, true, false, cond, not, List, [], ◌∷◌, Some, None, take, drop, length, refl, sym, ap, ◌∙◌, arith}
+use Rattle.std.proofs.Common.{◌≡◌, ℕ, suc, ◌+◌, ◌-◌, ◌<◌, ◌≤◌, true, false, cond, not, List, [], ◌∷◌, Some, None, take, drop, length, refl, ap, arith}
 use Rattle.std.specs.List.{prefix_len, position_or_len}
 use Rattle.std.proofs.lemmas.List.{take_rest, length-drop}
 use Rattle.aprs_conf.specs.Words.{is_gap, is_quote, with_byte, words_from, words_of}
-use Rattle.aprs_conf.specs.Words.Place.{Between, Plain, Quoted}
+use Rattle.aprs_conf.specs.Words.Place.{Plain, Quoted}
 
 drop_one : (n : ℕ) (x : ℕ) (xs : List ℕ) → drop (1 + n) (x ∷ xs) ≡ drop n xs
 drop_one n x xs = let e : 1 + n ≡ suc n = omega arith in rw e refl

@@ -1,6 +1,6 @@
 -- The text that is written of a configuration reads as it.
 use Rattle.std.proofs.Common.{◌≡◌, ℕ, ◌+◌, ◌*◌, ◌%◌, ◌<◌, ◌≤◌, ◌==◌, true, false, cond, List, [], ◌∷◌, ◌++◌, Option, Some, None, Result, Ok, map, length, refl, sym, ap, ◌∙◌, arith, append_assoc, append-nil}
-use Rattle.std.specs.Prelude.{codes}
+use Rattle.std.specs.Prelude.{codes, is_some}
 use Rattle.std.specs.List.{flat_map, list_all}
 use Rattle.std.specs.Fmt.{decimal}
 use Rattle.std.proofs.lemmas.Bool.{eq-eqb, ne_eqb, le-leb, lt-leb}
@@ -13,11 +13,11 @@ use Rattle.aprs_conf.specs.declared.errors.ConfFault.TheVariants as fault
 use Rattle.aprs_conf.specs.declared.types.Listen.{Listen}
 use Rattle.aprs_conf.specs.declared.types.PeerSpec.{PeerSpec}
 use Rattle.aprs_conf.specs.Arguments.{port_of, tcp, udp}
-use Rattle.aprs_conf.specs.Grammar.{◌>>=◌, after, at_line, at_of, conf_of, conf_with, drafted, empty, group_in, is_group, is_some, line_says, listen_in, next, peer_of, peers_from, unless, uplink_in, with_listen, with_uplink, words_say, group_says}
+use Rattle.aprs_conf.specs.Grammar.{◌>>=◌, after, at_line, at_of, conf_of, conf_with, drafted, empty, group_in, is_group, line_says, listen_in, next, peer_of, peers_from, unless, uplink_in, with_listen, with_uplink, words_say, group_says}
 use Rattle.aprs_conf.specs.Seen.{ConfSeen, DraftSeen}
 use Rattle.aprs_conf.specs.Words.{closed, has_open, lines_of}
 use Rattle.aprs_conf.specs.Writing.{at_words, conf_lines, group_line, group_lines, identity_lines, ip_text, kind_name, limit_lines, line_text, listen_line, peer_words, proto_name, text_of_conf, uplink_line, word_text}
-use Rattle.aprs_conf.proofs.SoundDrafts.{Each, IsPort, SoundAt, SoundConf, SoundGroup, SoundListen, SoundPeer, SoundPeers, SoundUplink, bind_ok, conf_sound}
+use Rattle.aprs_conf.proofs.WritableDrafts.{Each, IsPort, WritableAt, WritableConf, WritableGroup, WritableListen, WritablePeer, WritablePeers, WritableUplink, bind_ok, conf_writable}
 use Rattle.aprs_conf.proofs.WrittenLines.{line_read}
 use Rattle.aprs_conf.proofs.WrittenNumbers.{code_again, decimal_word, ip_again, ip_word, number_again, time_again}
 use Rattle.aprs_conf.proofs.WrittenWords.{all_closed, is_word, none_open, words_read}
@@ -75,7 +75,7 @@ all_say-append draft middle (words ∷ before) lines h =
 port_again : (port : ℕ) → IsPort port → port_of (decimal port) ≡ Some port
 port_again port is = number_again 1 65535 port is.0 is.1 (let most = is.1 in omega arith)
 
-at_again : (at : Addr) → SoundAt at → at_of (ip_text at.ip) (decimal at.port) ≡ Ok at
+at_again : (at : Addr) → WritableAt at → at_of (ip_text at.ip) (decimal at.port) ≡ Ok at
 at_again at is = rw (ip_again at.ip is.ip, port_again at.port is.port) refl
 
 port_word : (port : ℕ) → IsPort port → is_word (decimal port) ≡ true
@@ -83,18 +83,18 @@ port_word port is = decimal_word port (let most = is.1 in omega arith)
 
 -- ---- listeners
 
-listen_again : (listen : Listen) → SoundListen listen → listen_in (listen.name ∷ kind_name listen.spec.kind ∷ proto_name listen.spec.kind listen.idle ∷ at_words listen.spec.at) ≡ Ok listen
+listen_again : (listen : Listen) → WritableListen listen → listen_in (listen.name ∷ kind_name listen.spec.kind ∷ proto_name listen.spec.kind listen.idle ∷ at_words listen.spec.at) ≡ Ok listen
 listen_again listen is = rw (is.service.again, at_again listen.spec.at is.at) refl
 
-listen_is_line : (listen : Listen) → SoundListen listen → IsLine (listen_line listen)
+listen_is_line : (listen : Listen) → WritableListen listen → IsLine (listen_line listen)
 listen_is_line listen is = (refl, rw (is.name, is.service.kind, is.service.proto, ip_word listen.spec.at.ip is.at.ip, port_word listen.spec.at.port is.at.port) refl)
 
-one_listen_says : (draft : DraftSeen) (listen : Listen) → SoundListen listen → length draft.listens < 16 → line_says draft (listen_line listen) ≡ Ok (record draft { listens = draft.listens ++ listen ∷ [] })
+one_listen_says : (draft : DraftSeen) (listen : Listen) → WritableListen listen → length draft.listens < 16 → line_says draft (listen_line listen) ≡ Ok (record draft { listens = draft.listens ++ listen ∷ [] })
 one_listen_says draft listen is room =
     ap (λ (r : Result Listen ConfFault). r >>= with_listen draft) (listen_again listen is)
     ∙ ap (λ full. unless full fault.TooMany (Ok (record draft { listens = draft.listens ++ listen ∷ [] }))) (lt-leb 16 (length draft.listens) room)
 
-listens_say : (draft : DraftSeen) (listens : List Listen) → Each SoundListen listens → length draft.listens + length listens ≤ 16 → all_say draft (map listen_line listens) ≡ Ok (record draft { listens = draft.listens ++ listens })
+listens_say : (draft : DraftSeen) (listens : List Listen) → Each WritableListen listens → length draft.listens + length listens ≤ 16 → all_say draft (map listen_line listens) ≡ Ok (record draft { listens = draft.listens ++ listens })
 listens_say draft [] each few = ap (λ ls. Ok (record draft { listens = ls })) (sym (append-nil draft.listens))
 listens_say draft (listen ∷ listens) each few =
     let more : DraftSeen = record draft { listens = draft.listens ++ listen ∷ [] } in
@@ -105,18 +105,18 @@ listens_say draft (listen ∷ listens) each few =
 
 -- ---- uplinks
 
-uplink_again : (uplink : UplinkSpec) → SoundUplink uplink → uplink_in (codes "uplink" ∷ codes "full" ∷ tcp ∷ uplink.host.items ∷ decimal uplink.port ∷ []) ≡ Ok uplink
+uplink_again : (uplink : UplinkSpec) → WritableUplink uplink → uplink_in (codes "uplink" ∷ codes "full" ∷ tcp ∷ uplink.host.items ∷ decimal uplink.port ∷ []) ≡ Ok uplink
 uplink_again uplink is = rw (is.host, port_again uplink.port is.port) refl
 
-uplink_is_line : (uplink : UplinkSpec) → SoundUplink uplink → IsLine (uplink_line uplink)
+uplink_is_line : (uplink : UplinkSpec) → WritableUplink uplink → IsLine (uplink_line uplink)
 uplink_is_line uplink is = (refl, rw (is.word, port_word uplink.port is.port) refl)
 
-one_uplink_says : (draft : DraftSeen) (uplink : UplinkSpec) → SoundUplink uplink → length draft.uplinks < 8 → line_says draft (uplink_line uplink) ≡ Ok (record draft { uplinks = draft.uplinks ++ uplink ∷ [] })
+one_uplink_says : (draft : DraftSeen) (uplink : UplinkSpec) → WritableUplink uplink → length draft.uplinks < 8 → line_says draft (uplink_line uplink) ≡ Ok (record draft { uplinks = draft.uplinks ++ uplink ∷ [] })
 one_uplink_says draft uplink is room =
     ap (λ (r : Result UplinkSpec ConfFault). r >>= with_uplink draft) (uplink_again uplink is)
     ∙ ap (λ full. unless full fault.TooMany (Ok (record draft { uplinks = draft.uplinks ++ uplink ∷ [] }))) (lt-leb 8 (length draft.uplinks) room)
 
-uplinks_say : (draft : DraftSeen) (uplinks : List UplinkSpec) → Each SoundUplink uplinks → length draft.uplinks + length uplinks ≤ 8 → all_say draft (map uplink_line uplinks) ≡ Ok (record draft { uplinks = draft.uplinks ++ uplinks })
+uplinks_say : (draft : DraftSeen) (uplinks : List UplinkSpec) → Each WritableUplink uplinks → length draft.uplinks + length uplinks ≤ 8 → all_say draft (map uplink_line uplinks) ≡ Ok (record draft { uplinks = draft.uplinks ++ uplinks })
 uplinks_say draft [] each few = ap (λ us. Ok (record draft { uplinks = us })) (sym (append-nil draft.uplinks))
 uplinks_say draft (uplink ∷ uplinks) each few =
     let more : DraftSeen = record draft { uplinks = draft.uplinks ++ uplink ∷ [] } in
@@ -127,10 +127,10 @@ uplinks_say draft (uplink ∷ uplinks) each few =
 
 -- ---- the group and its peers
 
-peer_again : (peer : PeerSpec) → SoundPeer peer → peer_of peer.call (ip_text peer.at.ip) (decimal peer.at.port) ≡ Ok peer
+peer_again : (peer : PeerSpec) → WritablePeer peer → peer_of peer.call (ip_text peer.at.ip) (decimal peer.at.port) ≡ Ok peer
 peer_again peer is = rw (is.call.station, at_again peer.at is.at) refl
 
-peers_again : (before peers : List PeerSpec) → Each SoundPeer peers → peers_from before (flat_map peer_words peers) ≡ Ok (before ++ peers)
+peers_again : (before peers : List PeerSpec) → Each WritablePeer peers → peers_from before (flat_map peer_words peers) ≡ Ok (before ++ peers)
 peers_again before [] each = ap (λ ps. Ok ps) (sym (append-nil before))
 peers_again before (peer ∷ peers) each =
     ap (λ (r : Result PeerSpec ConfFault). r >>= λ p. peers_from (before ++ p ∷ []) (flat_map peer_words peers)) (peer_again peer each.0)
@@ -141,7 +141,7 @@ count_words : (peers : List PeerSpec) → length (flat_map peer_words peers) ≡
 count_words [] = refl
 count_words (peer ∷ peers) = (let more = count_words peers in omega (arith, length-append (peer_words peer) (flat_map peer_words peers)))
 
-peers_words : (peers : List PeerSpec) → Each SoundPeer peers → list_all is_word (flat_map peer_words peers) ≡ true
+peers_words : (peers : List PeerSpec) → Each WritablePeer peers → list_all is_word (flat_map peer_words peers) ≡ true
 peers_words [] each = refl
 peers_words (peer ∷ peers) each =
     rw (each.0.call.word, ip_word peer.at.ip each.0.at.ip, port_word peer.at.port each.0.at.port, peers_words peers each.1) refl
@@ -150,7 +150,7 @@ peers_words (peer ∷ peers) each =
 abbrev group_args : Addr → List PeerSpec → List (List ℕ)
 group_args at peers = codes "peers" ∷ udp ∷ ip_text at.ip ∷ decimal at.port ∷ flat_map peer_words peers
 
-group_counted : (at : Addr) (peers : List PeerSpec) → SoundPeers at peers → is_group (group_args at peers) ≡ true
+group_counted : (at : Addr) (peers : List PeerSpec) → WritablePeers at peers → is_group (group_args at peers) ≡ true
 group_counted at peers is =
     let n = length (group_args at peers) in
     let words = count_words peers in
@@ -162,16 +162,16 @@ group_counted at peers is =
     let third : n % 3 ≡ 1 = omega arith in
     rw (le-leb 7 n low, le-leb n 28 high, eq-eqb (n % 3) 1 third) refl
 
-group_in_again : (at : Addr) (peers : List PeerSpec) → SoundAt at → group_in (group_args at peers) ≡ Ok (at, flat_map peer_words peers)
+group_in_again : (at : Addr) (peers : List PeerSpec) → WritableAt at → group_in (group_args at peers) ≡ Ok (at, flat_map peer_words peers)
 group_in_again at peers is = rw (at_again at is) refl
 
-one_group_says : (draft : DraftSeen) (at : Addr) (peers : List PeerSpec) → SoundPeers at peers → group_says draft (group_args at peers) ≡ Ok (record draft { group = Some at; peers = peers })
+one_group_says : (draft : DraftSeen) (at : Addr) (peers : List PeerSpec) → WritablePeers at peers → group_says draft (group_args at peers) ≡ Ok (record draft { group = Some at; peers = peers })
 one_group_says draft at peers is = rw (group_counted at peers is, at_again at is.at, peers_again [] peers is.each) refl
 
-group_is_line : (at : Addr) (peers : List PeerSpec) → SoundPeers at peers → IsLine (group_line at peers)
+group_is_line : (at : Addr) (peers : List PeerSpec) → WritablePeers at peers → IsLine (group_line at peers)
 group_is_line at peers is = (refl, rw (ip_word at.ip is.at.ip, port_word at.port is.at.port, peers_words peers is.each) refl)
 
-groups_say : (draft : DraftSeen) (group : Option Addr) (peers : List PeerSpec) → SoundGroup group peers → draft.group ≡ None → draft.peers ≡ [] → all_say draft (group_lines group peers) ≡ Ok (record draft { group = group; peers = peers })
+groups_say : (draft : DraftSeen) (group : Option Addr) (peers : List PeerSpec) → WritableGroup group peers → draft.group ≡ None → draft.peers ≡ [] → all_say draft (group_lines group peers) ≡ Ok (record draft { group = group; peers = peers })
 groups_say draft None peers is none no_peers =
     ap (λ g. Ok (record draft { group = g })) none ∙ ap (λ ps. Ok (record draft { group = None; peers = ps })) (no_peers ∙ sym is)
 groups_say draft (Some at) peers is none no_peers =
@@ -179,7 +179,7 @@ groups_say draft (Some at) peers is none no_peers =
       ap (λ said. unless said fault.Repeated (group_says draft (group_args at peers))) (ap is_some none) ∙ one_group_says draft at peers is in
     ap (λ (r : Result DraftSeen ConfFault). r >>= λ d. all_say d []) own
 
-groups_are_lines : (group : Option Addr) (peers : List PeerSpec) → SoundGroup group peers → Each IsLine (group_lines group peers)
+groups_are_lines : (group : Option Addr) (peers : List PeerSpec) → WritableGroup group peers → Each IsLine (group_lines group peers)
 groups_are_lines None peers is = tt
 groups_are_lines (Some at) peers is = (group_is_line at peers is, tt)
 
@@ -193,13 +193,13 @@ each_map : {A B : Type 0} (P : A → Type 0) (Q : B → Type 0) (f : A → B) �
 each_map P Q f each [] all = tt
 each_map P Q f each (x ∷ xs) all = (each x all.0, each_map P Q f each xs all.1)
 
-lists_are_lines : (conf : ConfSeen) → SoundConf conf → Each IsLine (map listen_line conf.listens ++ (map uplink_line conf.uplinks ++ group_lines conf.group conf.peers))
+lists_are_lines : (conf : ConfSeen) → WritableConf conf → Each IsLine (map listen_line conf.listens ++ (map uplink_line conf.uplinks ++ group_lines conf.group conf.peers))
 lists_are_lines conf is =
-    each_append IsLine (map listen_line conf.listens) _ (each_map SoundListen IsLine listen_line listen_is_line conf.listens is.listens)
-      (each_append IsLine (map uplink_line conf.uplinks) _ (each_map SoundUplink IsLine uplink_line uplink_is_line conf.uplinks is.uplinks)
+    each_append IsLine (map listen_line conf.listens) _ (each_map WritableListen IsLine listen_line listen_is_line conf.listens is.listens)
+      (each_append IsLine (map uplink_line conf.uplinks) _ (each_map WritableUplink IsLine uplink_line uplink_is_line conf.uplinks is.uplinks)
         (groups_are_lines conf.group conf.peers is.group))
 
-conf_are_lines : (conf : ConfSeen) → SoundConf conf → Each IsLine (conf_lines conf)
+conf_are_lines : (conf : ConfSeen) → WritableConf conf → Each IsLine (conf_lines conf)
 conf_are_lines conf is =
     let code : is_word (decimal conf.code) ≡ true = decimal_word conf.code (let small = is.code in omega arith) in
     let up : is_word (decimal conf.up_timeout) ≡ true = decimal_word conf.up_timeout (let small = is.up_timeout.1 in omega arith) in
@@ -218,12 +218,12 @@ first_draft conf = record empty {
 abbrev whole_draft : ConfSeen → DraftSeen
 whole_draft conf = record (first_draft conf) { listens = conf.listens; uplinks = conf.uplinks; group = conf.group; peers = conf.peers }
 
-first_say : (conf : ConfSeen) (lines : List (List (List ℕ))) → SoundConf conf → all_say empty (identity_lines conf ++ (limit_lines conf ++ lines)) ≡ all_say (first_draft conf) lines
+first_say : (conf : ConfSeen) (lines : List (List (List ℕ))) → WritableConf conf → all_say empty (identity_lines conf ++ (limit_lines conf ++ lines)) ≡ all_say (first_draft conf) lines
 first_say conf lines is =
     rw (is.server.station, code_again conf.code is.code, time_again conf.up_timeout is.up_timeout.0 is.up_timeout.1, time_again conf.client_timeout is.client_timeout.0 is.client_timeout.1,
         number_again 1 10000 conf.max_clients is.max_clients.0 is.max_clients.1 (let most = is.max_clients.1 in omega arith)) refl
 
-conf_says : (conf : ConfSeen) → SoundConf conf → all_say empty (conf_lines conf) ≡ Ok (whole_draft conf)
+conf_says : (conf : ConfSeen) → WritableConf conf → all_say empty (conf_lines conf) ≡ Ok (whole_draft conf)
 conf_says conf is =
     let group : List (List (List ℕ)) = group_lines conf.group conf.peers in
     let first : DraftSeen = first_draft conf in
@@ -242,6 +242,6 @@ made_of conf some = rw (ne_eqb (length conf.listens) 0 (λ e. omega arith)) refl
 pub written_again : (text : List ℕ) (conf : ConfSeen) → conf_of text ≡ Ok conf → conf_of (text_of_conf conf) ≡ Ok conf
 unfolding conf_of text_of_conf
 written_again text conf h =
-    let is = conf_sound text conf h in
+    let is = conf_writable text conf h in
     ap (λ (r : Result DraftSeen ConfError). r >>= conf_with) (lines_again 1 empty (whole_draft conf) (conf_lines conf) (conf_are_lines conf is) (conf_says conf is))
     ∙ made_of conf is.some_listens

@@ -167,5 +167,5 @@ sound (b ∷ xs) h =
     (between, plain, quoted)
 
 -- the words of a line are words that a line can have
-pub words_sound : (line : List ℕ) → is_fed line ≡ true → list_all is_word (closed (words_of line)) ≡ true
-words_sound line h = (sound line h).0
+pub words_are : (line : List ℕ) → is_fed line ≡ true → list_all is_word (closed (words_of line)) ≡ true
+words_are line h = (sound line h).0

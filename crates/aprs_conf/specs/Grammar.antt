@@ -1,5 +1,5 @@
 -- The grammar of a configuration: the value of a text, or its first fault (aprsc manual, Configuration).
-use Rattle.std.specs.Prelude.{ℕ, ◌+◌, ◌%◌, ◌==◌, ◌&&◌, Bool, true, false, if◌then◌else◌, nat_le, not, min, List, [], ◌∷◌, ◌++◌, length, codes, Option, Some, None, Result, Ok, Err, unwrap_or}
+use Rattle.std.specs.Prelude.{ℕ, ◌+◌, ◌%◌, ◌==◌, ◌&&◌, Bool, true, false, if◌then◌else◌, nat_le, not, min, List, [], ◌∷◌, ◌++◌, length, codes, Option, Some, None, Result, Ok, Err, unwrap_or, is_some}
 use Rattle.std.specs.List.{find, list_any}
 use Rattle.std.specs.Option.{option_map}
 use Rattle.aprs_base.specs.declared.packets.UplinkSpec.{UplinkSpec}
@@ -213,10 +213,6 @@ or_unused is_there None = if is_there then Some word.Unused else None
 abbrev pub word_of : List ℕ → Option LineWord
 word_of text = or_unused (is_unused text) (option_map (λ row. row.word) (find (λ row. is_keyword row.name text) line_words))
 
-abbrev pub is_some : {A : Type 0} → Option A → Bool
-is_some None = false
-is_some (Some x) = true
-
 -- whether a line of this word has said what may be said once
 abbrev pub was_said : LineWord → DraftSeen → Bool
 was_said word.ServerId draft = is_some draft.server
@@ -264,23 +260,30 @@ abbrev pub empty : DraftSeen
 empty = record { server = None; code = None; admin = None; email = None; listens = []; uplinks = []; group = None; peers = []; up_timeout = None; client_timeout = None; max_clients = None }
 
 -- the configuration of a draft: 15 seconds, 48 hours and 500 clients, where the lines say nothing else
+abbrev pub filled : DraftSeen → List ℕ → ℕ → ConfSeen
+filled draft server code = record {
+  server = server;
+  code = code;
+  admin = unwrap_or draft.admin [];
+  email = unwrap_or draft.email [];
+  listens = draft.listens;
+  uplinks = draft.uplinks;
+  group = draft.group;
+  peers = draft.peers;
+  up_timeout = unwrap_or draft.up_timeout 15;
+  client_timeout = unwrap_or draft.client_timeout 172800;
+  max_clients = unwrap_or draft.max_clients 500;
+}
+
+-- where no required word is missing
+abbrev pub listening : DraftSeen → ConfSeen → Result ConfSeen ConfError
+listening draft conf = if length draft.listens == 0 then Err (cause.Missing needed.Listen) else Ok conf
+
 abbrev pub conf_with : DraftSeen → Result ConfSeen ConfError
 conf_with draft = do
   server ← need (cause.Missing needed.ServerId) draft.server
   code ← need (cause.Missing needed.PassCode) draft.code
-  if length draft.listens == 0 then Err (cause.Missing needed.Listen) else Ok (record {
-    server = server;
-    code = code;
-    admin = unwrap_or draft.admin [];
-    email = unwrap_or draft.email [];
-    listens = draft.listens;
-    uplinks = draft.uplinks;
-    group = draft.group;
-    peers = draft.peers;
-    up_timeout = unwrap_or draft.up_timeout 15;
-    client_timeout = unwrap_or draft.client_timeout 172800;
-    max_clients = unwrap_or draft.max_clients 500;
-  })
+  listening draft (filled draft server code)
 
 -- the configuration that a text is, or the fault of its first bad line, or the first word that is missing
 unfoldable pub conf_of : List ℕ → Result ConfSeen ConfError

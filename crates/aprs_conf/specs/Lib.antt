@@ -2,5 +2,6 @@ pub mod Arguments
 pub mod Grammar
 pub mod Reading
 pub mod Seen
+pub mod Sound
 pub mod Words
 pub mod Writing

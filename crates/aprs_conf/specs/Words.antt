@@ -81,8 +81,3 @@ arguments_of text = closed (words_of text)
 abbrev pub is_remark : List Word → Bool
 is_remark (Some (b ∷ more) ∷ words) = b == 35
 is_remark _ = false
-
--- the lines behind a line end, where there is one
-abbrev pub lines_behind : Option (List ℕ) → List (List ℕ)
-lines_behind None = []
-lines_behind (Some text) = lines_of text

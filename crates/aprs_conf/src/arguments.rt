@@ -1,10 +1,10 @@
 //! What an argument of a line may be.
-ghost use Rattle.std.specs.Prelude.{◌≡◌, ℕ, ◌≤◌, ◌<◌, ◌*◌, ◌&&◌, ◌∷◌, List, Option, Some, None, length, take, true, false, [], codes, if◌then◌else◌, nat_le, MatchOption, IfSome};
+ghost use Rattle.std.specs.Prelude.{◌≡◌, ◌≤◌, ◌&&◌, ◌∷◌, Some, None, true, false, [], if◌then◌else◌, nat_le, MatchOption};
 ghost use Rattle.std.specs.List.{list_all, slice_split};
 ghost use Rattle.std.specs.Option.{option_map};
 ghost use Rattle.aprs_base.specs.Bytes.{is_digit, is_station};
 ghost use Rattle.login_pass.specs.Login.{is_code_number, number_from};
-ghost use Rattle.aprs_conf.specs.Arguments.{are_digits, clients_of, code_of, host_of, ip_of, is_dot, is_plain, kind_of, last_in, number_within, octet_of, octets_in, port_of, same, seconds_of, station_of, time_of};
+ghost use Rattle.aprs_conf.specs.Arguments.{clients_of, code_of, host_of, ip_of, is_dot, is_plain, kind_of, last_in, octet_of, octets_in, port_of, same, seconds_of, station_of, time_of};
 
 use aprs_base::{Call, PortKind, first_place};
 use arrayvec::ArrayVec;

@@ -1,9 +1,9 @@
 //! What the lines so far have said, and what each kind of line adds.
-ghost use Rattle.std.specs.Prelude.{◌≡◌, ℕ, ◌≤◌, ◌<◌, ◌∷◌, ◌++◌, List, Ok, Err, Some, None, IfOk, MatchResult, [], length, vec_len};
+ghost use Rattle.std.specs.Prelude.{◌≡◌, ◌<◌, ◌∷◌, ◌++◌, List, Ok, Err, IfOk, MatchResult, [], length};
 ghost use Rattle.aprs_conf.specs.Grammar.{admin_says, at_of, clients_say, code_says, email_says, empty, group_in, group_says, is_full, is_group, listen_in, listen_says, nothing_says, peer_of, peers_from, server_says, time_in_line, uplink_in, uplink_says};
 ghost use Rattle.aprs_conf.specs.declared.types.PeerSpec.{PeerSpec};
 ghost use Rattle.aprs_conf.specs.Seen.{DraftSeen};
-ghost use Rattle.aprs_conf.specs.Reading.{Fails};
+ghost use Rattle.aprs_conf.specs.Reading.{Becomes, BecomesUnless, Fails};
 ghost use Rattle.aprs_conf.specs.Words.{arguments_of};
 
 use crate::arguments::{clients, code, host, ip, kind, port, station, time};
@@ -65,7 +65,7 @@ impl Draft {
 
 /// `ServerId CALL`
 pub fn add_server(draft: &mut Draft, args: &[u8]) -> Result<(), ConfFault>
-    ensures { MatchResult result (λ _. server_says draft.old (arguments_of args.now) ≡ Ok draft.new) (λ f. server_says draft.old (arguments_of args.now) ≡ Err f) }
+    ensures { Becomes result draft.new (server_says draft.old (arguments_of args.now)) }
 {
     let text = one(args).ok_or(ConfFault::BadCount)?;
     let call = station(text).ok_or(ConfFault::BadCall)?;
@@ -75,7 +75,7 @@ pub fn add_server(draft: &mut Draft, args: &[u8]) -> Result<(), ConfFault>
 
 /// `PassCode N`
 pub fn add_code(draft: &mut Draft, args: &[u8]) -> Result<(), ConfFault>
-    ensures { MatchResult result (λ _. code_says draft.old (arguments_of args.now) ≡ Ok draft.new) (λ f. code_says draft.old (arguments_of args.now) ≡ Err f) }
+    ensures { Becomes result draft.new (code_says draft.old (arguments_of args.now)) }
 {
     let text = one(args).ok_or(ConfFault::BadCount)?;
     let code = code(text).ok_or(ConfFault::BadNumber)?;
@@ -85,7 +85,7 @@ pub fn add_code(draft: &mut Draft, args: &[u8]) -> Result<(), ConfFault>
 
 /// `MaxClients N`
 pub fn add_clients(draft: &mut Draft, args: &[u8]) -> Result<(), ConfFault>
-    ensures { MatchResult result (λ _. clients_say draft.old (arguments_of args.now) ≡ Ok draft.new) (λ f. clients_say draft.old (arguments_of args.now) ≡ Err f) }
+    ensures { Becomes result draft.new (clients_say draft.old (arguments_of args.now)) }
 {
     let text = one(args).ok_or(ConfFault::BadCount)?;
     let most = clients(text).ok_or(ConfFault::BadNumber)?;
@@ -103,7 +103,7 @@ pub fn line_time(args: &[u8]) -> Result<u32, ConfFault>
 
 /// `MyAdmin TEXT`
 pub fn add_admin(alloc: Global, draft: &mut Draft, args: &[u8]) -> Result<(), LineError>
-    ensures { MatchResult result (λ _. admin_says draft.old (arguments_of args.now) ≡ Ok draft.new) (λ e. Fails e (admin_says draft.old (arguments_of args.now))) }
+    ensures { BecomesUnless result draft.new (admin_says draft.old (arguments_of args.now)) }
 {
     let text = one(args).ok_or(ConfFault::BadCount)?;
     draft.admin = Some(Text::copied(alloc, text)?);
@@ -112,7 +112,7 @@ pub fn add_admin(alloc: Global, draft: &mut Draft, args: &[u8]) -> Result<(), Li
 
 /// `MyEmail TEXT`
 pub fn add_email(alloc: Global, draft: &mut Draft, args: &[u8]) -> Result<(), LineError>
-    ensures { MatchResult result (λ _. email_says draft.old (arguments_of args.now) ≡ Ok draft.new) (λ e. Fails e (email_says draft.old (arguments_of args.now))) }
+    ensures { BecomesUnless result draft.new (email_says draft.old (arguments_of args.now)) }
 {
     let text = one(args).ok_or(ConfFault::BadCount)?;
     draft.email = Some(Text::copied(alloc, text)?);
@@ -154,7 +154,7 @@ fn read_listen(args: &[u8]) -> Result<ListenRead<'_>, ConfFault>
 
 /// `Listen NAME KIND PROTO ADDR PORT`, perhaps `hidden`
 pub fn add_listen(alloc: Global, draft: &mut Draft, args: &[u8]) -> Result<(), LineError>
-    ensures { MatchResult result (λ _. listen_says draft.old (arguments_of args.now) ≡ Ok draft.new) (λ e. Fails e (listen_says draft.old (arguments_of args.now))) }
+    ensures { BecomesUnless result draft.new (listen_says draft.old (arguments_of args.now)) }
 {
     let read = read_listen(args)?;
     if draft.listens.len() >= MOST_LISTENS {
@@ -188,7 +188,7 @@ fn read_uplink(args: &[u8]) -> Result<UplinkSpec, ConfFault>
 
 /// `Uplink NAME full tcp HOST PORT`
 pub fn add_uplink(draft: &mut Draft, args: &[u8]) -> Result<(), LineError>
-    ensures { MatchResult result (λ _. uplink_says draft.old (arguments_of args.now) ≡ Ok draft.new) (λ e. Fails e (uplink_says draft.old (arguments_of args.now))) }
+    ensures { BecomesUnless result draft.new (uplink_says draft.old (arguments_of args.now)) }
 {
     let uplink = read_uplink(args)?;
     if draft.uplinks.len() >= MOST_UPLINKS {
@@ -257,7 +257,7 @@ fn read_group(args: &[u8]) -> Result<(Addr, &[u8]), ConfFault>
 
 /// `PeerGroup NAME udp ADDR PORT`, and `CALL ADDR PORT` for each peer
 pub fn add_group(alloc: Global, draft: &mut Draft, args: &[u8]) -> Result<(), LineError>
-    ensures { MatchResult result (λ _. group_says draft.old (arguments_of args.now) ≡ Ok draft.new) (λ e. Fails e (group_says draft.old (arguments_of args.now))) }
+    ensures { BecomesUnless result draft.new (group_says draft.old (arguments_of args.now)) }
 {
     if !is_group(args) {
         return Err(LineError::Fault(ConfFault::BadCount));
@@ -270,7 +270,7 @@ pub fn add_group(alloc: Global, draft: &mut Draft, args: &[u8]) -> Result<(), Li
 
 /// Whether a line without effect has an argument or more.
 pub fn expect_argument(args: &[u8]) -> Result<(), ConfFault>
-    ensures { (draft : DraftSeen) → MatchResult result (λ _. nothing_says draft (arguments_of args.now) ≡ Ok draft) (λ f. nothing_says draft (arguments_of args.now) ≡ Err f) }
+    ensures { (draft : DraftSeen) → Becomes result draft (nothing_says draft (arguments_of args.now)) }
 {
     match next_argument(args) {
         Some(_) => Ok(()),

@@ -1,9 +1,10 @@
 //! The reading of a configuration's text.
-ghost use Rattle.std.specs.Prelude.{◌≡◌, ℕ, ◌≤◌, List, Ok, Err, Some, None, ◌∷◌, unwrap_or, IfOk, IsErrOf, MatchResult, [], length};
+ghost use Rattle.std.specs.Prelude.{◌≡◌, ℕ, Ok, Err, ◌∷◌, unwrap_or, IfOk, IsErrOf, MatchResult, []};
 ghost use Rattle.aprs_conf.specs.declared.errors.ConfFault.{ConfFault};
 ghost use Rattle.aprs_conf.specs.declared.errors.ConfWord.{ConfWord};
-ghost use Rattle.aprs_conf.specs.Grammar.{after, conf_of, conf_with, drafted, empty, is_unused, line_says, next, says, timeout_says, was_said, word_of};
-ghost use Rattle.aprs_conf.specs.Reading.{at_number, Fails, FailsAt};
+ghost use Rattle.aprs_conf.specs.Grammar.{after, conf_of, conf_with, drafted, empty, is_unused, line_says, says, was_said, word_of};
+ghost use Rattle.aprs_conf.specs.Reading.{at_number, Becomes, BecomesUnless, FailsAt};
+ghost use Rattle.aprs_conf.specs.Sound.{IsSound};
 ghost use Rattle.aprs_conf.specs.Words.{arguments_of, lines_of};
 ghost use Rattle.login_pass.specs.Login.{is_keyword};
 
@@ -100,7 +101,7 @@ fn was_said(word: LineWord, draft: &Draft) -> bool
 }
 
 fn add_up_timeout(draft: &mut Draft, args: &[u8]) -> Result<(), ConfFault>
-    ensures { MatchResult result (λ _. says LineWord.UpstreamTimeout draft.old (arguments_of args.now) ≡ Ok draft.new) (λ f. says LineWord.UpstreamTimeout draft.old (arguments_of args.now) ≡ Err f) }
+    ensures { Becomes result draft.new (says LineWord.UpstreamTimeout draft.old (arguments_of args.now)) }
 {
     let time = line_time(args)?;
     draft.up_timeout = Some(time);
@@ -108,7 +109,7 @@ fn add_up_timeout(draft: &mut Draft, args: &[u8]) -> Result<(), ConfFault>
 }
 
 fn add_client_timeout(draft: &mut Draft, args: &[u8]) -> Result<(), ConfFault>
-    ensures { MatchResult result (λ _. says LineWord.ClientTimeout draft.old (arguments_of args.now) ≡ Ok draft.new) (λ f. says LineWord.ClientTimeout draft.old (arguments_of args.now) ≡ Err f) }
+    ensures { Becomes result draft.new (says LineWord.ClientTimeout draft.old (arguments_of args.now)) }
 {
     let time = line_time(args)?;
     draft.client_timeout = Some(time);
@@ -117,7 +118,7 @@ fn add_client_timeout(draft: &mut Draft, args: &[u8]) -> Result<(), ConfFault>
 
 /// Adds what the line of this word says.
 fn add(alloc: Global, word: LineWord, draft: &mut Draft, args: &[u8]) -> Result<(), LineError>
-    ensures { MatchResult result (λ _. says word draft.old (arguments_of args.now) ≡ Ok draft.new) (λ e. Fails e (says word draft.old (arguments_of args.now))) }
+    ensures { BecomesUnless result draft.new (says word draft.old (arguments_of args.now)) }
 {
     match word {
         LineWord::ServerId => add_server(draft, args)?,
@@ -137,7 +138,7 @@ fn add(alloc: Global, word: LineWord, draft: &mut Draft, args: &[u8]) -> Result<
 
 /// Adds what the line of this first word says.
 fn add_words(alloc: Global, draft: &mut Draft, name: &[u8], args: &[u8]) -> Result<(), LineError>
-    ensures { MatchResult result (λ _. line_says draft.old (name.now ∷ arguments_of args.now) ≡ Ok draft.new) (λ e. Fails e (line_says draft.old (name.now ∷ arguments_of args.now))) }
+    ensures { BecomesUnless result draft.new (line_says draft.old (name.now ∷ arguments_of args.now)) }
 {
     let Some(word) = line_word(name) else {
         return Err(LineError::Fault(ConfFault::UnknownWord));
@@ -151,7 +152,7 @@ fn add_words(alloc: Global, draft: &mut Draft, name: &[u8], args: &[u8]) -> Resu
 /// Adds what a line says.
 #[tactic(auto, unfolding(crate::specs::Grammar::after))]
 fn add_line(alloc: Global, draft: &mut Draft, line: &[u8]) -> Result<(), LineError>
-    ensures { MatchResult result (λ _. after draft.old line.now ≡ Ok draft.new) (λ e. Fails e (after draft.old line.now)) }
+    ensures { BecomesUnless result draft.new (after draft.old line.now) }
 {
     if begins_remark(line) {
         return Ok(());
@@ -223,12 +224,14 @@ fn finish(alloc: Global, draft: Draft) -> Result<Conf, ConfError>
     })
 }
 
-/// Reads a configuration. The error is the first fault of the first bad line, or the first word that is missing.
+/// Reads a configuration, as the manual of aprsc has it (Configuration). The error is the first bad line and its first
+/// fault, or, where no line is bad, the first required word that has none.
 #[tactic(auto, unfolding(crate::specs::Grammar::conf_of))]
 pub fn read(alloc: Global, text: &[u8]) -> Result<Conf, ConfError>
     ensures value { IfOk result (λ conf. conf_of text.now ≡ Ok conf) }
     ensures line { (n : ℕ) (f : ConfFault) → IsErrOf result (ConfError.Line n f) → conf_of text.now ≡ Err (ConfError.Line n f) }
     ensures missing { (w : ConfWord) → IsErrOf result (ConfError.Missing w) → conf_of text.now ≡ Err (ConfError.Missing w) }
+    ensures sound { IfOk result IsSound }
 {
     finish(alloc, read_lines(alloc, text)?)
 }

@@ -1,10 +1,10 @@
 //! The lines of a text, and the words of a line.
-ghost use Rattle.std.specs.Prelude.{◌≡◌, ℕ, ◌+◌, ◌<◌, ◌≤◌, ◌-◌, [], ◌∷◌, List, Option, Some, None, length, take, drop, slice_index, codes, if◌then◌else◌, MatchOption, IfSome, IfNone, option_copied};
+ghost use Rattle.std.specs.Prelude.{◌≡◌, ◌<◌, ◌≤◌, [], ◌∷◌, Some, None, length, MatchOption, IfSome, IfNone, option_copied};
 ghost use Rattle.std.specs.List.{prefix_len, position_or_len};
 ghost use Rattle.std.specs.Option.{option_map};
-ghost use Rattle.aprs_conf.specs.Words.{arguments_of, Place, has_open, is_gap, is_open, is_remark, lines_behind, lines_of, without_return, words_from, words_of};
+ghost use Rattle.aprs_conf.specs.Words.{arguments_of, has_open, is_gap, is_remark, lines_of, without_return, words_from, words_of};
 ghost use Rattle.aprs_conf.specs.Words.Place.{Plain, Quoted};
-ghost use Rattle.aprs_conf.specs.Reading.{BeginsWith};
+ghost use Rattle.aprs_conf.specs.Reading.{BeginsWith, lines_behind};
 ghost use Rattle.aprs_conf.specs.Grammar.{five_of, is_hidden_at_most, listen_of, one_of};
 
 use aprs_base::first_place;

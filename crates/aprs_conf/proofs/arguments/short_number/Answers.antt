@@ -1,4 +1,4 @@
-use Rattle.std.proofs.Common.{sym, ap, cond, Some, None, ℕ, Option}
+use Rattle.std.proofs.Common.{sym, ap, cond, Some, None}
 use Rattle.login_pass.specs.Login.{number_from}
 use Rattle.aprs_conf.proofs.NumberLemmas.{too_great}
 use Rattle.aprs_conf.proofs.arguments.short_number.Goals as goal

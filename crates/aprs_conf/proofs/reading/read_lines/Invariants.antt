@@ -1,7 +1,8 @@
 use Rattle.std.proofs.Common.{◌≡◌}
 use Rattle.std.specs.Prelude.{option_copied}
 use Rattle.aprs_conf.specs.Grammar.{drafted, empty}
-use Rattle.aprs_conf.specs.Words.{lines_of, lines_behind}
+use Rattle.aprs_conf.specs.Words.{lines_of}
+use Rattle.aprs_conf.specs.Reading.{lines_behind}
 use Rattle.aprs_conf.proofs.DraftLemmas.{left}
 use Rattle.aprs_conf.proofs.reading.read_lines.Given as goal
 

@@ -1,4 +1,3 @@
-use Rattle.std.proofs.Common.{arith}
 use Rattle.aprs_conf.proofs.WordLemmas.{skip_at, skipped_at}
 use Rattle.aprs_conf.proofs.words.behind_gaps.Goals as goal
 

@@ -1,4 +1,3 @@
-use Rattle.std.proofs.Common.{arith}
 use Rattle.aprs_conf.proofs.WordLemmas.{plain_at}
 use Rattle.aprs_conf.proofs.words.plain_word.Goals as goal
 
