@@ -149,7 +149,6 @@ pub record WritableConf (conf : ConfSeen) : Type 0 where
 
 -- ---- what is read is such
 
-
 one_writable : (args : List (List ℕ)) (text : List ℕ) → one_of args ≡ Some text → list_all is_word args ≡ true → IsWord text
 one_writable [] text h words = cc
 one_writable (a ∷ []) text h words =
@@ -250,10 +249,25 @@ found P test [] x all h = cc
 found P test (y ∷ ys) x all h = found_by P (test y) y x (find test ys) all.0 (found P test ys x all.1) h
 
 rows_writable : Each (λ (row : PortRow). WritableService row.service) ports
-rows_writable =
-    (record { again = refl; kind = refl; proto = refl }, (record { again = refl; kind = refl; proto = refl }, (record { again = refl; kind = refl; proto = refl },
-    (record { again = refl; kind = refl; proto = refl }, (record { again = refl; kind = refl; proto = refl }, (record { again = refl; kind = refl; proto = refl },
-    (record { again = refl; kind = refl; proto = refl }, (record { again = refl; kind = refl; proto = refl }, tt))))))))
+rows_writable = (
+  record { again = refl; kind = refl; proto = refl },
+  (
+    record { again = refl; kind = refl; proto = refl },
+    (
+      record { again = refl; kind = refl; proto = refl },
+      (
+        record { again = refl; kind = refl; proto = refl },
+        (
+          record { again = refl; kind = refl; proto = refl },
+          (
+            record { again = refl; kind = refl; proto = refl },
+            (record { again = refl; kind = refl; proto = refl }, (record { again = refl; kind = refl; proto = refl }, tt)),
+          ),
+        ),
+      ),
+    ),
+  ),
+)
 
 kind_writable_by : (row : Option PortRow) (service : Service) → ((found : PortRow) → row ≡ Some found → WritableService found.service) → option_map (λ (r : PortRow). r.service) row ≡ Some service → WritableService service
 kind_writable_by None service each h = cc
@@ -463,10 +477,19 @@ drafted_writable n draft new (line ∷ lines) h fed s =
 
 empty_writable : WritableDraft empty
 empty_writable = record {
-    server = tt; code = tt; admin = tt; email = tt;
-    listens = tt; few_listens = omega arith; uplinks = tt; few_uplinks = omega arith; group = refl;
-    up_timeout = tt; client_timeout = tt; max_clients = tt;
-  }
+  server = tt;
+  code = tt;
+  admin = tt;
+  email = tt;
+  listens = tt;
+  few_listens = omega arith;
+  uplinks = tt;
+  few_uplinks = omega arith;
+  group = refl;
+  up_timeout = tt;
+  client_timeout = tt;
+  max_clients = tt;
+}
 
 if_some : {A : Type 0} (P : A → Type 0) (o : Option A) (x : A) → If P o → o ≡ Some x → P x
 if_some P None x s h = cc

@@ -176,7 +176,7 @@ groups_say draft None peers is none no_peers =
     ap (λ g. Ok (record draft { group = g })) none ∙ ap (λ ps. Ok (record draft { group = None; peers = ps })) (no_peers ∙ sym is)
 groups_say draft (Some at) peers is none no_peers =
     let own : line_says draft (group_line at peers) ≡ Ok (record draft { group = Some at; peers = peers }) =
-      ap (λ said. unless said fault.Repeated (group_says draft (group_args at peers))) (ap is_some none) ∙ one_group_says draft at peers is in
+    ap (λ said. unless said fault.Repeated (group_says draft (group_args at peers))) (ap is_some none) ∙ one_group_says draft at peers is in
     ap (λ (r : Result DraftSeen ConfFault). r >>= λ d. all_say d []) own
 
 groups_are_lines : (group : Option Addr) (peers : List PeerSpec) → WritableGroup group peers → Each IsLine (group_lines group peers)
@@ -196,32 +196,52 @@ each_map P Q f each (x ∷ xs) all = (each x all.0, each_map P Q f each xs all.1
 lists_are_lines : (conf : ConfSeen) → WritableConf conf → Each IsLine (map listen_line conf.listens ++ (map uplink_line conf.uplinks ++ group_lines conf.group conf.peers))
 lists_are_lines conf is =
     each_append IsLine (map listen_line conf.listens) _ (each_map WritableListen IsLine listen_line listen_is_line conf.listens is.listens)
-      (each_append IsLine (map uplink_line conf.uplinks) _ (each_map WritableUplink IsLine uplink_line uplink_is_line conf.uplinks is.uplinks)
-        (groups_are_lines conf.group conf.peers is.group))
+    (each_append IsLine (map uplink_line conf.uplinks) _ (each_map WritableUplink IsLine uplink_line uplink_is_line conf.uplinks is.uplinks)
+    (groups_are_lines conf.group conf.peers is.group))
 
 conf_are_lines : (conf : ConfSeen) → WritableConf conf → Each IsLine (conf_lines conf)
 conf_are_lines conf is =
     let code : is_word (decimal conf.code) ≡ true = decimal_word conf.code (let small = is.code in omega arith) in
     let up : is_word (decimal conf.up_timeout) ≡ true = decimal_word conf.up_timeout (let small = is.up_timeout.1 in omega arith) in
     let client : is_word (decimal conf.client_timeout) ≡ true = decimal_word conf.client_timeout (let small = is.client_timeout.1 in omega arith) in
-    let most : is_word (decimal conf.max_clients) ≡ true = decimal_word conf.max_clients (let small = is.max_clients.1 in omega arith) in
-    ((refl, rw is.server.word refl), ((refl, rw code refl), ((refl, rw is.admin refl), ((refl, rw is.email refl),
-    ((refl, rw up refl), ((refl, rw client refl), ((refl, rw most refl), lists_are_lines conf is)))))))
+    let most : is_word (decimal conf.max_clients) ≡ true = decimal_word conf.max_clients (let small = is.max_clients.1 in omega arith) in (
+      (refl, rw is.server.word refl),
+      (
+        (refl, rw code refl),
+        (
+          (refl, rw is.admin refl),
+          (
+            (refl, rw is.email refl),
+            ((refl, rw up refl), ((refl, rw client refl), ((refl, rw most refl), lists_are_lines conf is))),
+          ),
+        ),
+      ),
+    )
 
 -- the draft behind the lines that stand first, and behind all
 abbrev first_draft : ConfSeen → DraftSeen
 first_draft conf = record empty {
-    server = Some conf.server; code = Some conf.code; admin = Some conf.admin; email = Some conf.email;
-    up_timeout = Some conf.up_timeout; client_timeout = Some conf.client_timeout; max_clients = Some conf.max_clients;
-  }
+  server = Some conf.server;
+  code = Some conf.code;
+  admin = Some conf.admin;
+  email = Some conf.email;
+  up_timeout = Some conf.up_timeout;
+  client_timeout = Some conf.client_timeout;
+  max_clients = Some conf.max_clients;
+}
 
 abbrev whole_draft : ConfSeen → DraftSeen
 whole_draft conf = record (first_draft conf) { listens = conf.listens; uplinks = conf.uplinks; group = conf.group; peers = conf.peers }
 
 first_say : (conf : ConfSeen) (lines : List (List (List ℕ))) → WritableConf conf → all_say empty (identity_lines conf ++ (limit_lines conf ++ lines)) ≡ all_say (first_draft conf) lines
 first_say conf lines is =
-    rw (is.server.station, code_again conf.code is.code, time_again conf.up_timeout is.up_timeout.0 is.up_timeout.1, time_again conf.client_timeout is.client_timeout.0 is.client_timeout.1,
-        number_again 1 10000 conf.max_clients is.max_clients.0 is.max_clients.1 (let most = is.max_clients.1 in omega arith)) refl
+    rw (
+      is.server.station,
+      code_again conf.code is.code,
+      time_again conf.up_timeout is.up_timeout.0 is.up_timeout.1,
+      time_again conf.client_timeout is.client_timeout.0 is.client_timeout.1,
+      number_again 1 10000 conf.max_clients is.max_clients.0 is.max_clients.1 (let most = is.max_clients.1 in omega arith),
+    ) refl
 
 conf_says : (conf : ConfSeen) → WritableConf conf → all_say empty (conf_lines conf) ≡ Ok (whole_draft conf)
 conf_says conf is =

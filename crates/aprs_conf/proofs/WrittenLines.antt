@@ -147,23 +147,23 @@ sound (b ∷ xs) h =
     let parts = both (no_feed b) (list_all no_feed xs) h in
     let more = sound xs parts.1 in
     let between : Sound (words_from Between (b ∷ xs)) =
-      elim (is_gap b) as (λ g. is_gap b ≡ g → Sound (cond g (words_from Between xs) (cond (is_quote b) (words_from Quoted xs) (with_byte b (words_from Plain xs))))) [
-        | true ↦ λ _. more.0
-        | false ↦ λ gap. elim (is_quote b) as (λ q. is_quote b ≡ q → Sound (cond q (words_from Quoted xs) (with_byte b (words_from Plain xs)))) [
-          | true ↦ λ _. quoted_sound (words_from Quoted xs) more.2
-          | false ↦ λ quote. begun_sound b (words_from Plain xs) parts.0 gap quote more.1
-        ] refl
-      ] refl in
+    elim (is_gap b) as (λ g. is_gap b ≡ g → Sound (cond g (words_from Between xs) (cond (is_quote b) (words_from Quoted xs) (with_byte b (words_from Plain xs))))) [
+      | true ↦ λ _. more.0
+      | false ↦ λ gap. elim (is_quote b) as (λ q. is_quote b ≡ q → Sound (cond q (words_from Quoted xs) (with_byte b (words_from Plain xs)))) [
+        | true ↦ λ _. quoted_sound (words_from Quoted xs) more.2
+        | false ↦ λ quote. begun_sound b (words_from Plain xs) parts.0 gap quote more.1
+      ] refl
+    ] refl in
     let plain : SoundPlain (words_from Plain (b ∷ xs)) =
-      elim (is_gap b) as (λ g. is_gap b ≡ g → SoundPlain (cond g (Some [] ∷ words_from Between xs) (with_byte b (words_from Plain xs)))) [
-        | true ↦ λ _. (refl, refl, more.0)
-        | false ↦ λ gap. plain_more b (words_from Plain xs) parts.0 gap more.1
-      ] refl in
+    elim (is_gap b) as (λ g. is_gap b ≡ g → SoundPlain (cond g (Some [] ∷ words_from Between xs) (with_byte b (words_from Plain xs)))) [
+      | true ↦ λ _. (refl, refl, more.0)
+      | false ↦ λ gap. plain_more b (words_from Plain xs) parts.0 gap more.1
+    ] refl in
     let quoted : SoundQuoted (words_from Quoted (b ∷ xs)) =
-      elim (is_quote b) as (λ q. is_quote b ≡ q → SoundQuoted (cond q (Some [] ∷ words_from Between xs) (with_byte b (words_from Quoted xs)))) [
-        | true ↦ λ _. (refl, refl, more.0)
-        | false ↦ λ quote. quoted_more b (words_from Quoted xs) parts.0 quote more.2
-      ] refl in
+    elim (is_quote b) as (λ q. is_quote b ≡ q → SoundQuoted (cond q (Some [] ∷ words_from Between xs) (with_byte b (words_from Quoted xs)))) [
+      | true ↦ λ _. (refl, refl, more.0)
+      | false ↦ λ quote. quoted_more b (words_from Quoted xs) parts.0 quote more.2
+    ] refl in
     (between, plain, quoted)
 
 -- the words of a line are words that a line can have

@@ -95,7 +95,7 @@ plain_again n small = elim (cases_eq n 0) as (λ _. is_plain (decimal n) ≡ tru
       let first : 48 < slice_index (decimal n) 0 = first_decimal n (omega arith) (omega arith) in
       let other : (slice_index (decimal n) 0 == 48) ≡ false = ne_eqb (slice_index (decimal n) 0) 48 (λ e. omega arith) in
       rw (code_number n small, other) (ends_true (length (decimal n) == 1))
-  ]
+]
   where
     ends_true : (b : Bool) → (b || true) ≡ true
     ends_true true = refl
@@ -188,10 +188,12 @@ octet_again n small = number_again 0 255 n (omega arith) small (omega arith)
 parts_again : (a b c d : ℕ) → IsIp (a ∷ b ∷ c ∷ d ∷ []) → slice_split is_dot (ip_text (a ∷ b ∷ c ∷ d ∷ [])) ≡ decimal a ∷ decimal b ∷ decimal c ∷ decimal d ∷ []
 unfolding ip_text
 parts_again a b c d h =
-    rw (cut_at is_dot 46 refl (decimal a) (dotted b (dotted c (decimal d))) (octet_undotted a h.0),
-        cut_at is_dot 46 refl (decimal b) (dotted c (decimal d)) (octet_undotted b h.1),
-        cut_at is_dot 46 refl (decimal c) (decimal d) (octet_undotted c h.2),
-        never_cut is_dot (decimal d) (octet_undotted d h.3)) refl
+    rw (
+      cut_at is_dot 46 refl (decimal a) (dotted b (dotted c (decimal d))) (octet_undotted a h.0),
+      cut_at is_dot 46 refl (decimal b) (dotted c (decimal d)) (octet_undotted b h.1),
+      cut_at is_dot 46 refl (decimal c) (decimal d) (octet_undotted c h.2),
+      never_cut is_dot (decimal d) (octet_undotted d h.3),
+    ) refl
 
 not_every : (ds rest : List ℕ) → list_all is_digit ds ≡ true → 0 < length ds → same (ds ++ rest) (codes "::") ≡ false
 not_every [] rest h some = absurd (omega arith)
@@ -203,7 +205,7 @@ pub ip_again : (ip : List ℕ) → IsIp ip → ip_of (ip_text ip) ≡ Some ip
 unfolding ip_text
 ip_again (a ∷ b ∷ c ∷ d ∷ []) h =
     let first : same (ip_text (a ∷ b ∷ c ∷ d ∷ [])) (codes "::") ≡ false =
-      (let small = h.0 in not_every (decimal a) (46 ∷ dotted b (dotted c (decimal d))) (decimal_spells a (omega arith)).digits (decimal_some a (omega arith))) in
+    (let small = h.0 in not_every (decimal a) (46 ∷ dotted b (dotted c (decimal d))) (decimal_spells a (omega arith)).digits (decimal_some a (omega arith))) in
     rw (first, parts_again a b c d h, octet_again a h.0, octet_again b h.1, octet_again c h.2, octet_again d h.3) refl
 ip_again [] h = absurd h
 ip_again (a ∷ []) h = absurd h
@@ -306,8 +308,8 @@ ip_bytes : (ip : List ℕ) → IsIp ip → list_all is_ip_byte (ip_text ip) ≡ 
 unfolding ip_text
 ip_bytes (a ∷ b ∷ c ∷ d ∷ []) h =
     dotted_bytes (decimal a) (dotted b (dotted c (decimal d))) (octet_bytes a h.0)
-      (dotted_bytes (decimal b) (dotted c (decimal d)) (octet_bytes b h.1)
-        (dotted_bytes (decimal c) (decimal d) (octet_bytes c h.2) (octet_bytes d h.3)))
+    (dotted_bytes (decimal b) (dotted c (decimal d)) (octet_bytes b h.1)
+    (dotted_bytes (decimal c) (decimal d) (octet_bytes c h.2) (octet_bytes d h.3)))
 ip_bytes [] h = absurd h
 ip_bytes (a ∷ []) h = absurd h
 ip_bytes (a ∷ b ∷ []) h = absurd h

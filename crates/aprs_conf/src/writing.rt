@@ -53,12 +53,19 @@ fn push_spelled(out: &mut Vec<u8>, word: &[u8]) -> Result<(), AllocError>
     push_byte(out, b'"')
 }
 
+/// The blank behind a word, which keeps a CR that ends the word from the end of the line.
+fn end_word(out: &mut Vec<u8>) -> Result<(), AllocError>
+    ensures { OnOk result (out.new.items ≡ out.old.items ++ 32 ∷ []) }
+{
+    push_byte(out, b' ')
+}
+
 /// A word and a blank.
 fn push_word(out: &mut Vec<u8>, word: &[u8]) -> Result<(), AllocError>
     ensures { OnOk result (out.new.items ≡ out.old.items ++ word_text word.now) }
 {
     push_spelled(out, word)?;
-    push_byte(out, b' ')
+    end_word(out)
 }
 
 fn push_digits(out: &mut Vec<u8>, number: u32) -> Result<(), AllocError>
@@ -76,7 +83,7 @@ fn push_number(out: &mut Vec<u8>, number: u32) -> Result<(), AllocError>
     ensures { OnOk result (out.new.items ≡ out.old.items ++ word_text (decimal number)) }
 {
     push_digits(out, number)?;
-    push_byte(out, b' ')
+    end_word(out)
 }
 
 fn push_octet(out: &mut Vec<u8>, octet: u8) -> Result<(), AllocError>

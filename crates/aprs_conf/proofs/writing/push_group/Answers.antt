@@ -11,4 +11,4 @@ returns c =
     let at = c.in-Some.at in
     let pieces = group_pieces (codes "PeerGroup peers udp ") (word_text (ip_text at.ip)) (word_text (decimal at.port)) (flat_map word_text (flat_map peer_words c.args.peers.now)) in
     subst (λ group. OnOk c.push_byte.result (c.push_byte.new.out.items ≡ c.args.out.now.items ++ flat_map line_text (group_lines group c.args.peers.now))) (sym c.in-Some.is)
-      (four_pieces c.push_byte.result _ _ _ _ _ _ _ _ _ _ pieces c.in_ok-push_bytes.ensures c.in_ok-push_at.ensures c.in_ok-push_peers.ensures c.push_byte.ensures)
+    (four_pieces c.push_byte.result _ _ _ _ _ _ _ _ _ _ pieces c.in_ok-push_bytes.ensures c.in_ok-push_at.ensures c.in_ok-push_peers.ensures c.push_byte.ensures)
