@@ -2,6 +2,12 @@ mod DraftLemmas
 mod LineLemmas
 mod NumberLemmas
 mod PeerLemmas
+mod PushLemmas
 mod Rows
-pub mod SoundLemmas
+mod SoundLemmas
 mod WordLemmas
+mod WritableDrafts
+mod WrittenConf
+mod WrittenLines
+mod WrittenNumbers
+mod WrittenWords

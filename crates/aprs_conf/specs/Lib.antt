@@ -4,3 +4,4 @@ pub mod Reading
 pub mod Seen
 pub mod Sound
 pub mod Words
+pub mod Writing

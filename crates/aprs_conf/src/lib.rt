@@ -1,4 +1,4 @@
-//! The configuration of a server: its reading from a text, with the first fault and its line.
+//! The configuration of a server: its reading from a text, with the first fault and its line, and its writing.
 #![tactic(auto)]
 
 mod arguments;
@@ -9,6 +9,9 @@ mod reading;
 mod tests;
 mod types;
 mod words;
+mod writing;
+#[cfg(test)]
+mod writing_tests;
 
 pub use errors::{ConfError, ConfFault, ConfWord};
 pub use reading::read;

@@ -41,7 +41,7 @@ pub fn cut_line(text: &[u8]) -> (&[u8], Option<&[u8]>)
     (without_end(&text[..end]), Some(&text[end + 1..]))
 }
 
-fn is_gap_byte(byte: u8) -> bool
+pub fn is_gap_byte(byte: u8) -> bool
     ensures { result ≡ is_gap byte }
 {
     byte == b' ' || byte == b'\t'

@@ -1,0 +1,171 @@
+-- Lines that are written read as themselves; and no word or line that is read holds a line feed.
+use Rattle.std.proofs.Common.{◌≡◌, ℕ, zero, suc, ◌-◌, ◌==◌, Bool, true, false, cond, List, [], ◌∷◌, ◌++◌, Some, None, take, length, refl, sym, ap, subst, ◌∙◌, arith, append_assoc, append-nil}
+use Rattle.std.specs.Prelude.{not, slice_index}
+use Rattle.std.specs.List.{flat_map, list_all, slice_split, onto_first}
+use Rattle.std.proofs.Math.Seq.{get_or-append_seam}
+use Rattle.std.proofs.lemmas.List.{length-append}
+use Rattle.std.proofs.lemmas.List.Folds.{list_all-append}
+use Rattle.aprs_conf.specs.Words.{is_feed, is_gap, is_quote, with_byte, words_from, words_of, Word, closed, ended, lines_of, without_return}
+use Rattle.aprs_conf.specs.Words.Place.{Between, Plain, Quoted}
+use Rattle.aprs_conf.specs.Writing.{in_quotes, is_bare, spelled, word_text, line_text}
+use Rattle.aprs_conf.proofs.LineLemmas.{line_first}
+use Rattle.aprs_conf.proofs.WrittenWords.{both, unnot, no_feed, no_gap, no_quote, is_word}
+
+-- ---- writing
+
+-- a text is cut at the first byte of a kind
+pub cut_at : (test : ℕ → Bool) (c : ℕ) → test c ≡ true → (xs rest : List ℕ) → list_all (λ x. not (test x)) xs ≡ true → slice_split test (xs ++ c ∷ rest) ≡ xs ∷ slice_split test rest
+cut_at test c is [] rest h = rw is refl
+cut_at test c is (x ∷ xs) rest h =
+    let parts = both (not (test x)) (list_all (λ y. not (test y)) xs) h in
+    rw (unnot (test x) parts.0, cut_at test c is xs rest parts.1) refl
+
+pub never_cut : (test : ℕ → Bool) (xs : List ℕ) → list_all (λ x. not (test x)) xs ≡ true → slice_split test xs ≡ xs ∷ []
+never_cut test [] h = refl
+never_cut test (x ∷ xs) h =
+    let parts = both (not (test x)) (list_all (λ y. not (test y)) xs) h in
+    rw (unnot (test x) parts.0, never_cut test xs parts.1) refl
+
+-- what is written of a word has no line feed
+spelled_feed : (bare : Bool) (word : List ℕ) → list_all no_feed word ≡ true → list_all no_feed (cond bare word (in_quotes word) ++ 32 ∷ []) ≡ true
+spelled_feed true word h = rw (list_all-append no_feed word (32 ∷ []), h) refl
+spelled_feed false word h = rw (append_assoc word (34 ∷ []) (32 ∷ []), list_all-append no_feed word (34 ∷ 32 ∷ []), h) refl
+
+line_feed : (words : List (List ℕ)) → list_all is_word words ≡ true → list_all no_feed (flat_map word_text words) ≡ true
+line_feed [] h = refl
+line_feed (word ∷ words) h =
+    let parts = both (is_word word) (list_all is_word words) h in
+    let fed = both (list_all no_feed word) _ parts.0 in
+    rw (list_all-append no_feed (word_text word) (flat_map word_text words), spelled_feed (is_bare word) word fed.0, line_feed words parts.1) refl
+
+-- and ends in a blank
+ends : (words : List (List ℕ)) (word : List ℕ) → (front : List ℕ) × (flat_map word_text (word ∷ words) ≡ front ++ 32 ∷ [])
+ends [] word = (spelled word, append-nil (word_text word))
+ends (next ∷ words) word =
+    let more = ends words next in
+    (word_text word ++ more.0, ap (λ text. word_text word ++ text) more.1 ∙ sym (append_assoc (word_text word) more.0 (32 ∷ [])))
+
+keeps_blank : (front : List ℕ) → without_return (front ++ 32 ∷ []) ≡ front ++ 32 ∷ []
+keeps_blank front =
+    let size : length (front ++ 32 ∷ []) - 1 ≡ length front = omega (arith, length-append front (32 ∷ [])) in
+    let last : slice_index (front ++ 32 ∷ []) (length (front ++ 32 ∷ []) - 1) ≡ 32 = rw size (get_or-append_seam front 32 [] 0) in
+    ap (λ b. cond (b == 13) (take (length (front ++ 32 ∷ []) - 1) (front ++ 32 ∷ [])) (front ++ 32 ∷ [])) last
+
+-- so a written line is a line
+pub line_read : (word : List ℕ) (words : List (List ℕ)) (rest : List ℕ) → list_all is_word (word ∷ words) ≡ true → lines_of (line_text (word ∷ words) ++ rest) ≡ flat_map word_text (word ∷ words) ∷ lines_of rest
+line_read word words rest h =
+    let line : List ℕ = flat_map word_text (word ∷ words) in
+    let end = ends words word in
+    let kept : without_return line ≡ line = subst (λ text. without_return text ≡ text) (sym end.1) (keeps_blank end.0) in
+    ap lines_of (append_assoc line (10 ∷ []) rest)
+    ∙ ap ended (cut_at is_feed 10 refl line rest (line_feed (word ∷ words) h))
+    ∙ line_first line rest
+    ∙ ap (λ first. first ∷ lines_of rest) kept
+
+-- ---- reading
+
+take_all_pass : (test : ℕ → Bool) (n : ℕ) (xs : List ℕ) → list_all test xs ≡ true → list_all test (take n xs) ≡ true
+take_all_pass test zero xs h = refl
+take_all_pass test (suc n) [] h = refl
+take_all_pass test (suc n) (x ∷ xs) h =
+    let parts = both (test x) (list_all test xs) h in
+    rw (parts.0, take_all_pass test n xs parts.1) refl
+
+-- no line has a line feed
+abbrev pub is_fed : List ℕ → Bool
+is_fed line = list_all no_feed line
+
+onto_feedless : (x : ℕ) (parts : List (List ℕ)) → no_feed x ≡ true → list_all is_fed parts ≡ true → list_all is_fed (onto_first x parts) ≡ true
+onto_feedless x [] fine h = rw fine refl
+onto_feedless x (part ∷ parts) fine h = rw fine h
+
+parts_feedless : (text : List ℕ) → list_all is_fed (slice_split is_feed text) ≡ true
+parts_feedless [] = refl
+parts_feedless (x ∷ xs) =
+    elim (is_feed x) as (λ b. is_feed x ≡ b → list_all is_fed (cond b ([] ∷ slice_split is_feed xs) (onto_first x (slice_split is_feed xs))) ≡ true) [
+      | true ↦ λ _. parts_feedless xs
+      | false ↦ λ e. onto_feedless x (slice_split is_feed xs) (ap not e) (parts_feedless xs)
+    ] refl
+
+return_feedless : (b : Bool) (n : ℕ) (line : List ℕ) → is_fed line ≡ true → is_fed (cond b (take n line) line) ≡ true
+return_feedless true n line h = take_all_pass no_feed n line h
+return_feedless false n line h = h
+
+ended_feedless : (parts : List (List ℕ)) → list_all is_fed parts ≡ true → list_all is_fed (ended parts) ≡ true
+ended_feedless [] h = refl
+ended_feedless (last ∷ []) h = h
+ended_feedless (line ∷ next ∷ more) h =
+    let parts = both (is_fed line) (list_all is_fed (next ∷ more)) h in
+    let kept : is_fed (without_return line) ≡ true = return_feedless (slice_index line (length line - 1) == 13) (length line - 1) line parts.0 in
+    rw (kept, ended_feedless (next ∷ more) parts.1) refl
+
+pub lines_feedless : (text : List ℕ) → list_all is_fed (lines_of text) ≡ true
+lines_feedless text = ended_feedless (slice_split is_feed text) (parts_feedless text)
+
+-- what each of the words is, where the first is what is left of one
+abbrev Sound : List Word → Type 0
+Sound words = list_all is_word (closed words) ≡ true
+
+abbrev SoundPlain : List Word → Type 0
+SoundPlain [] = ⊥
+SoundPlain (None ∷ words) = ⊥
+SoundPlain (Some word ∷ words) = (list_all no_feed word ≡ true) × (list_all no_gap word ≡ true) × Sound words
+
+abbrev SoundQuoted : List Word → Type 0
+SoundQuoted [] = ⊥
+SoundQuoted (None ∷ words) = Sound words
+SoundQuoted (Some word ∷ words) = (list_all no_feed word ≡ true) × (list_all no_quote word ≡ true) × Sound words
+
+plain_more : (b : ℕ) (words : List Word) → no_feed b ≡ true → is_gap b ≡ false → SoundPlain words → SoundPlain (with_byte b words)
+plain_more b [] fine gap h = h
+plain_more b (None ∷ words) fine gap h = h
+plain_more b (Some word ∷ words) fine gap h = (rw fine h.0, rw gap h.1, h.2)
+
+quoted_more : (b : ℕ) (words : List Word) → no_feed b ≡ true → is_quote b ≡ false → SoundQuoted words → SoundQuoted (with_byte b words)
+quoted_more b [] fine quote h = h
+quoted_more b (None ∷ words) fine quote h = h
+quoted_more b (Some word ∷ words) fine quote h = (rw fine h.0, rw quote h.1, h.2)
+
+pub cond_same : (b : Bool) → cond b true true ≡ true
+cond_same true = refl
+cond_same false = refl
+
+quoted_sound : (words : List Word) → SoundQuoted words → Sound words
+quoted_sound [] h = absurd h
+quoted_sound (None ∷ words) h = h
+quoted_sound (Some word ∷ words) h = rw (h.0, h.1, cond_same (is_bare word), h.2) refl
+
+-- a plain word, behind its first byte
+begun_sound : (b : ℕ) (words : List Word) → no_feed b ≡ true → is_gap b ≡ false → is_quote b ≡ false → SoundPlain words → Sound (with_byte b words)
+begun_sound b [] fine gap quote h = absurd h
+begun_sound b (None ∷ words) fine gap quote h = absurd h
+begun_sound b (Some word ∷ words) fine gap quote h = rw (fine, h.0, gap, quote, h.1, h.2) refl
+
+sound : (xs : List ℕ) → list_all no_feed xs ≡ true → Sound (words_from Between xs) × SoundPlain (words_from Plain xs) × SoundQuoted (words_from Quoted xs)
+sound [] h = (refl, (refl, refl, refl), refl)
+sound (b ∷ xs) h =
+    let parts = both (no_feed b) (list_all no_feed xs) h in
+    let more = sound xs parts.1 in
+    let between : Sound (words_from Between (b ∷ xs)) =
+    elim (is_gap b) as (λ g. is_gap b ≡ g → Sound (cond g (words_from Between xs) (cond (is_quote b) (words_from Quoted xs) (with_byte b (words_from Plain xs))))) [
+      | true ↦ λ _. more.0
+      | false ↦ λ gap. elim (is_quote b) as (λ q. is_quote b ≡ q → Sound (cond q (words_from Quoted xs) (with_byte b (words_from Plain xs)))) [
+        | true ↦ λ _. quoted_sound (words_from Quoted xs) more.2
+        | false ↦ λ quote. begun_sound b (words_from Plain xs) parts.0 gap quote more.1
+      ] refl
+    ] refl in
+    let plain : SoundPlain (words_from Plain (b ∷ xs)) =
+    elim (is_gap b) as (λ g. is_gap b ≡ g → SoundPlain (cond g (Some [] ∷ words_from Between xs) (with_byte b (words_from Plain xs)))) [
+      | true ↦ λ _. (refl, refl, more.0)
+      | false ↦ λ gap. plain_more b (words_from Plain xs) parts.0 gap more.1
+    ] refl in
+    let quoted : SoundQuoted (words_from Quoted (b ∷ xs)) =
+    elim (is_quote b) as (λ q. is_quote b ≡ q → SoundQuoted (cond q (Some [] ∷ words_from Between xs) (with_byte b (words_from Quoted xs)))) [
+      | true ↦ λ _. (refl, refl, more.0)
+      | false ↦ λ quote. quoted_more b (words_from Quoted xs) parts.0 quote more.2
+    ] refl in
+    (between, plain, quoted)
+
+-- the words of a line are words that a line can have
+pub words_are : (line : List ℕ) → is_fed line ≡ true → list_all is_word (closed (words_of line)) ≡ true
+words_are line h = (sound line h).0
