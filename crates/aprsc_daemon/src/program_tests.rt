@@ -354,6 +354,16 @@ fn names_the_line_of_a_listener(rt: HostRuntime) -> Result<(), Fail> {
 }
 
 #[test]
+fn reads_at_most_65536_bytes(rt: HostRuntime) -> Result<(), Fail> {
+    let alloc = rt.alloc();
+    let mut conf = CONF.to_vec(alloc)?;
+    conf.resize(65_536, b'\n')?;
+    check_conf(&rt, alloc, conf.as_slice(), 0, b"")?;
+    conf.push(b'\n')?;
+    check_conf(&rt, alloc, conf.as_slice(), 2, b"c: too large\n")
+}
+
+#[test]
 fn opens_the_listeners_that_are_not_idle(rt: HostRuntime) -> Result<(), Fail> {
     let alloc = rt.alloc();
     let more = b"Listen \"d\" fullfeed udp :: 10152\nListen \"o\" clientonly tcp :: 14579\n";
