@@ -71,10 +71,7 @@ pub(crate) fn read_conf(alloc: Global, text: &[u8]) -> Result<Conf, Unfit>
 }
 
 /// The listeners that have a number, in order.
-pub(crate) fn numbered_listens(
-    alloc: Global,
-    listens: &[Listen],
-) -> Result<Vec<ListenSpec>, Memory>
+pub(crate) fn numbered_listens(alloc: Global, listens: &[Listen]) -> Result<Vec<ListenSpec>, Memory>
     ensures { IfOk result (λ specs. specs.items ≡ numbered listens.now) }
 {
     let mut specs = Vec::new(alloc);

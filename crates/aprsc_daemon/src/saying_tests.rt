@@ -2,8 +2,8 @@
 use crate::configuring::Trouble;
 use crate::saying::{listen_failed, too_large, trouble, unread, usage, write_all};
 use crate::{RealFiles, RealSink};
-use aprs_conf::{ConfFault, ConfWord};
 use aprs_base::{FileError, Files, MemSink, Sink, SinkError};
+use aprs_conf::{ConfFault, ConfWord};
 use std::fs;
 use std::test::Fail;
 

@@ -60,7 +60,7 @@ login_station line login is =
     let call = later words in
     let code = later (later call) in
     let parts = station_in (is_keyword (codes "user") (first_text words)) (is_station (first_text call)) (is_keyword (codes "pass") (first_text (later call)))
-        (login_with (first_text call) (code_of (first_text code)) (filter_in line (later code))) login is in
+    (login_with (first_text call) (code_of (first_text code)) (filter_in line (later code))) login is in
     ap is_station (sym (with_call (first_text call) (code_of (first_text code)) (filter_in line (later code)) login parts.1)) ∙ parts.0
 
 -- and so does one that is accepted

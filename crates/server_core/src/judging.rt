@@ -88,7 +88,9 @@ fn is_repeat(moment: u64, parts: &Parts, packet: &Packet) -> bool
 fn is_duplicate(moment: u64, accepted: &[Packet], parts: &Parts) -> bool
     ensures { result ≡ is_duplicate moment accepted.now parts.now }
 {
-    accepted.iter().any(|packet| is_repeat(moment, parts, packet))
+    accepted
+        .iter()
+        .any(|packet| is_repeat(moment, parts, packet))
 }
 
 /// The verdict on a packet from there. `others` are the logins of the other verified links, and `accepted` the packets that

@@ -7,8 +7,8 @@ ghost use Rattle.aprs_history.specs.Texts.{fault_word, login_reply, refusal_repl
 use crate::link::known_line;
 use aprs_base::{Call, Line};
 use aprs_history::{Refusal, Session};
-use login_pass::LoginFault;
 use arrayvec::ArrayVec;
+use login_pass::LoginFault;
 
 /// The reply to a good login.
 pub(crate) fn login_line(server: &Call, session: &Session) -> Line

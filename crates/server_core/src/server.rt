@@ -26,16 +26,14 @@ mod tests;
 
 use crate::acts::Acts;
 use crate::conf::{served_by, server_of};
-use crate::link::Link;
 use crate::judging::{is_comment_line, judge_login, judge_packet};
+use crate::link::Link;
 use crate::links::{
-    all, bring, drop_gone, drop_link, give_room, log_in, lose, offer, origin_at, others, ready, reply,
-    share, take,
+    all, bring, drop_gone, drop_link, give_room, log_in, lose, offer, origin_at, others, ready,
+    reply, share, take,
 };
 use crate::replies::{login_line, refusal_line};
-use aprs_base::{
-    Addr, Chunk, Cut, Event, Line, Memory, Packet, Parts, PortKind, Source,
-};
+use aprs_base::{Addr, Chunk, Cut, Event, Line, Memory, Packet, Parts, PortKind, Source};
 use aprs_body::classify;
 use aprs_conf::Conf;
 use aprs_history::{Refusal, Session, Verdict};
@@ -145,13 +143,7 @@ impl Core {
     }
 
     /// A packet of that link is accepted: it is kept, and goes to the links that want it.
-    fn accept(
-        &mut self,
-        alloc: Global,
-        number: u32,
-        parts: Parts,
-        line: Line,
-    ) -> Result<(), Memory>
+    fn accept(&mut self, alloc: Global, number: u32, parts: Parts, line: Line) -> Result<(), Memory>
         ensures { OnOk result (self.new ≡ with_verdict number (Verdict.Accepted parts line) self.old) }
     {
         let line = Arc::new(alloc, line)?;
