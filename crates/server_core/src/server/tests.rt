@@ -347,81 +347,83 @@ const FIRST: &[u8] = b"user K1ABC pass 14993\r\n";
 
 const OTHER: &[u8] = b"user K1XYZ pass 14986\r\n";
 
+/// How T2TEST sends on what its clients say.
+const RELAYS: [Relay; 10] = [
+    Relay {
+        listener: 0,
+        sender: GATE,
+        receiver: FIRST,
+        said: b"K1ABC>APRS,DIG*,OH7LZB,I:>x\r\n",
+        heard: b"K1ABC>APRS,DIG*,qAR,OH7LZB:>x\r\n",
+    },
+    Relay {
+        listener: 0,
+        sender: OTHER,
+        receiver: FIRST,
+        said: b"K1ABC>APRS,DIG*,OH7LZB,I:>x\r\n",
+        heard: b"K1ABC>APRS,DIG*,qAr,OH7LZB:>x\r\n",
+    },
+    Relay {
+        listener: 0,
+        sender: OTHER,
+        receiver: GATE,
+        said: b"K1ABC>APRS,DIG*,OH7LZB,I:>x\r\n",
+        heard: b"",
+    },
+    Relay {
+        listener: 1,
+        sender: GATE,
+        receiver: FIRST,
+        said: b"K1ABC>APRS,DIG*,OH7LZB,I:>x\r\n",
+        heard: b"K1ABC>APRS,DIG*,qAo,OH7LZB:>x\r\n",
+    },
+    Relay {
+        listener: 1,
+        sender: GATE,
+        receiver: FIRST,
+        said: b"K1ABC>APRS,DIG*:>x\r\n",
+        heard: b"K1ABC>APRS,DIG*,qAO,OH7LZB:>x\r\n",
+    },
+    Relay {
+        listener: 0,
+        sender: GATE,
+        receiver: FIRST,
+        said: b"K1ABC>APRS,DIG*:>x\r\n",
+        heard: b"K1ABC>APRS,DIG*,qAS,OH7LZB:>x\r\n",
+    },
+    Relay {
+        listener: 0,
+        sender: UNVERIFIED,
+        receiver: FIRST,
+        said: b"N0CALL>APRS,WIDE1-1:>hi\r\n",
+        heard: b"N0CALL>APRS,TCPXX*,qAX,T2TEST:>hi\r\n",
+    },
+    Relay {
+        listener: 0,
+        sender: UNVERIFIED,
+        receiver: FIRST,
+        said: b"K1XYZ>APRS:>hi\r\n",
+        heard: b"",
+    },
+    Relay {
+        listener: 0,
+        sender: b"user T2LEAF pass 10963\r\n",
+        receiver: FIRST,
+        said: b"K1ABC>APRS,qAI,K1ABC,T2LEAF:>t\r\n",
+        heard: b"",
+    },
+    Relay {
+        listener: 0,
+        sender: b"user T2LEAF pass 10963\r\n",
+        receiver: OTHER,
+        said: b"K1ABC>APRS,qAI,K1ABC,T2LEAF:>t\r\n",
+        heard: b"K1ABC>APRS,qAI,K1ABC,T2LEAF,T2TEST:>t\r\n",
+    },
+];
+
 #[test]
 fn marks_the_way_of_a_packet(rt: HostRuntime) -> Result<(), Fail> {
-    let relays = [
-        Relay {
-            listener: 0,
-            sender: GATE,
-            receiver: FIRST,
-            said: b"K1ABC>APRS,DIG*,OH7LZB,I:>x\r\n",
-            heard: b"K1ABC>APRS,DIG*,qAR,OH7LZB:>x\r\n",
-        },
-        Relay {
-            listener: 0,
-            sender: OTHER,
-            receiver: FIRST,
-            said: b"K1ABC>APRS,DIG*,OH7LZB,I:>x\r\n",
-            heard: b"K1ABC>APRS,DIG*,qAr,OH7LZB:>x\r\n",
-        },
-        Relay {
-            listener: 0,
-            sender: OTHER,
-            receiver: GATE,
-            said: b"K1ABC>APRS,DIG*,OH7LZB,I:>x\r\n",
-            heard: b"",
-        },
-        Relay {
-            listener: 1,
-            sender: GATE,
-            receiver: FIRST,
-            said: b"K1ABC>APRS,DIG*,OH7LZB,I:>x\r\n",
-            heard: b"K1ABC>APRS,DIG*,qAo,OH7LZB:>x\r\n",
-        },
-        Relay {
-            listener: 1,
-            sender: GATE,
-            receiver: FIRST,
-            said: b"K1ABC>APRS,DIG*:>x\r\n",
-            heard: b"K1ABC>APRS,DIG*,qAO,OH7LZB:>x\r\n",
-        },
-        Relay {
-            listener: 0,
-            sender: GATE,
-            receiver: FIRST,
-            said: b"K1ABC>APRS,DIG*:>x\r\n",
-            heard: b"K1ABC>APRS,DIG*,qAS,OH7LZB:>x\r\n",
-        },
-        Relay {
-            listener: 0,
-            sender: UNVERIFIED,
-            receiver: FIRST,
-            said: b"N0CALL>APRS,WIDE1-1:>hi\r\n",
-            heard: b"N0CALL>APRS,TCPXX*,qAX,T2TEST:>hi\r\n",
-        },
-        Relay {
-            listener: 0,
-            sender: UNVERIFIED,
-            receiver: FIRST,
-            said: b"K1XYZ>APRS:>hi\r\n",
-            heard: b"",
-        },
-        Relay {
-            listener: 0,
-            sender: b"user T2LEAF pass 10963\r\n",
-            receiver: FIRST,
-            said: b"K1ABC>APRS,qAI,K1ABC,T2LEAF:>t\r\n",
-            heard: b"",
-        },
-        Relay {
-            listener: 0,
-            sender: b"user T2LEAF pass 10963\r\n",
-            receiver: OTHER,
-            said: b"K1ABC>APRS,qAI,K1ABC,T2LEAF:>t\r\n",
-            heard: b"K1ABC>APRS,qAI,K1ABC,T2LEAF,T2TEST:>t\r\n",
-        },
-    ];
-    for relay in &relays {
+    for relay in &RELAYS {
         check_relayed(&rt, rt.alloc(), b"T2TEST", relay)?;
     }
     Ok(())
