@@ -4,7 +4,7 @@ use Rattle.aprs_base.specs.declared.packets.ListenSpec.{ListenSpec}
 use Rattle.aprs_history.specs.Setting.{Setting}
 use Rattle.aprs_history.specs.Stands.{CoreSeen, StandsFor}
 use Rattle.aprs_history.specs.History.{History, trace_of}
-use Rattle.aprs_history.specs.Acts.{Act, Closes, due, offer_to}
+use Rattle.aprs_history.specs.Acts.{Closes, due, offer_to}
 use Rattle.server_core.specs.ActsSeen.{ActsSeen}
 
 pub record ConfSeen : Type 0 where

@@ -1,14 +1,13 @@
 //! What the server answers.
-ghost use Rattle.std.specs.Prelude.{◌≡◌, ◌++◌, ◌+◌, ◌≤◌, length, codes};
-ghost use Rattle.std.specs.Option.{option_map};
+ghost use Rattle.std.specs.Prelude.{◌≡◌, ◌++◌, ◌+◌, ◌≤◌, length};
 ghost use Rattle.aprs_base.specs.Bytes.{IsInner};
 ghost use Rattle.aprs_history.specs.Texts.{fault_word, login_reply, refusal_reply, refused_login, verified_word};
 
 use crate::link::known_line;
 use aprs_base::{Call, Line};
 use aprs_history::{Refusal, Session};
-use login_pass::LoginFault;
 use arrayvec::ArrayVec;
+use login_pass::LoginFault;
 
 /// The reply to a good login.
 pub(crate) fn login_line(server: &Call, session: &Session) -> Line

@@ -216,7 +216,10 @@ fn answers_logins(rt: HostRuntime) -> Result<(), Fail> {
         (b"user qAC pass 1\r\n", b"# login refused, bad call\r\n"),
         (b"user N0CALL\r\n", b"# login refused, no pass\r\n"),
         (b"user N0CALL pass x\r\n", b"# login refused, bad pass\r\n"),
-        (b"user T2TEST pass 8385\r\n", b"# login refused, own name\r\n"),
+        (
+            b"user T2TEST pass 8385\r\n",
+            b"# login refused, own name\r\n",
+        ),
         (
             b"user N0CALL\r\nuser N0CALL pass 13023\r\n",
             b"# login refused, no pass\r\n# logresp N0CALL verified, server T2TEST\r\n",
@@ -240,10 +243,7 @@ fn sends_packets_to_the_others(rt: HostRuntime) -> Result<(), Fail> {
     check_heard(&rt, alloc, b"N0CALL>APRS:>hi\r\n", heard)?;
     check_heard(&rt, alloc, b"N0CALL>APRS,WIDE1-1,WIDE2-1:>hi\n", heard)?;
     let sent_on: [(&[u8], &[u8]); 4] = [
-        (
-            b"K1XYZ>APRS:>hi\r\n",
-            b"K1XYZ>APRS,qAS,N0CALL:>hi\r\n",
-        ),
+        (b"K1XYZ>APRS:>hi\r\n", b"K1XYZ>APRS,qAS,N0CALL:>hi\r\n"),
         (
             b"N0CALL-1>APRS:>hi\r\n",
             b"N0CALL-1>APRS,qAS,N0CALL:>hi\r\n",
@@ -314,8 +314,11 @@ fn check_relayed<R: Threads + Sync + Abort>(
 }
 
 const GATE: &[u8] = b"user OH7LZB pass 20900\r\n";
+
 const UNVERIFIED: &[u8] = b"user N0CALL pass -1\r\n";
+
 const FIRST: &[u8] = b"user K1ABC pass 14993\r\n";
+
 const OTHER: &[u8] = b"user K1XYZ pass 14986\r\n";
 
 #[test]
