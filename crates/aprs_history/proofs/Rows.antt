@@ -17,7 +17,7 @@ use Rattle.q_construct.specs.declared.drops.QDrop.TheVariants as drop_for
 use Rattle.aprs_body.specs.Bodies.{body_of}
 use Rattle.login_pass.specs.declared.login_line.LoginFault.TheVariants as fault
 use Rattle.aprs_base.specs.declared.cutting.Cut.TheVariants as cut
-use Rattle.aprs_history.specs.Verdicts.{Scene, verdict_of, is_duplicate}
+use Rattle.aprs_history.specs.Verdicts.{Scene, verdict_of}
 use Rattle.aprs_history.specs.Scenes.{accepted_by, accepted_of, scene_of}
 use Rattle.aprs_history.specs.declared.verdicts.Verdict.{Verdict}
 use Rattle.aprs_history.specs.declared.verdicts.Verdict.TheVariants.{PassedOver, Refused, LoggedIn, Accepted}

@@ -1,32 +1,27 @@
 -- The steps of the core, and the trace that it follows.
-use Rattle.std.proofs.Common.{◌≡◌, ℕ, ◌<◌, ◌≤◌, ◌==◌, ◌∷◌, ◌++◌, [], List, map, filter, refl, sym, ap, ◌∙◌, subst, true, false, Bool, Option, Some, None, IsTrue, max, min, append-nil, arith, ⊎_elim, ◌||◌, if◌then◌else◌, not, cond, ◌^◌, IfOk, Result, Ok, Err, Vec, Global}
-use Rattle.std.specs.List.{list_any, flat_map}
+use Rattle.std.proofs.Common.{◌≡◌, ℕ, ◌<◌, ◌==◌, ◌∷◌, ◌++◌, [], List, map, filter, refl, sym, ap, ◌∙◌, subst, true, false, Option, Some, None, max, min, append-nil, arith, ⊎_elim, ◌||◌, if◌then◌else◌, not, cond, ◌^◌, IfOk, Result, Ok, Err, Vec, Global}
+use Rattle.std.specs.List.{flat_map}
 use Rattle.std.proofs.lemmas.Bool.{true≢false, eqb-true, cases_Bool}
 use Rattle.aprs_base.specs.Held.{held_after}
-use Rattle.aprs_base.specs.Cuts.{cuts_by}
 use Rattle.aprs_base.specs.declared.texts.Addr.{Addr}
 use Rattle.aprs_base.specs.declared.cutting.Cut.{Cut}
-use Rattle.aprs_base.specs.declared.packets.Parts.{Parts}
 use Rattle.aprs_base.specs.declared.packets.PortKind.{PortKind}
-use Rattle.aprs_history.specs.declared.verdicts.Session.{Session}
-use Rattle.aprs_history.specs.declared.verdicts.Refusal.{Refusal}
 use Rattle.aprs_history.specs.declared.verdicts.Verdict.{Verdict}
 use Rattle.aprs_history.specs.declared.verdicts.Verdict.TheVariants.{PassedOver, Refused, LoggedIn, Accepted}
 use Rattle.aprs_history.specs.Setting.{Setting, kind_at}
 use Rattle.aprs_history.specs.Scenes.{is_only, others_of, scene_of, verified_login}
-use Rattle.aprs_history.specs.Verdicts.{Scene, verdict_of}
-use Rattle.aprs_history.specs.Trace.{Trace, Entry, Ticked, Opened, Brought, Said, Roomed, Ended, ByPeer, ByStop, is_live, is_member, is_other, live_links, stopped_links, served_links, last_moment}
+use Rattle.aprs_history.specs.Verdicts.{verdict_of}
+use Rattle.aprs_history.specs.Trace.{Trace, Ticked, Opened, Brought, Said, Roomed, Ended, ByPeer, ByStop, is_live, is_member, is_other, live_links, stopped_links, last_moment}
 use Rattle.aprs_history.specs.Links.{session_of, opening_of, brought_by, gone_links}
-use Rattle.aprs_history.specs.Texts.{login_reply}
 use Rattle.aprs_history.specs.History.{begin_round, end_all}
-use Rattle.aprs_history.specs.Stands.{LinkSeen, CoreSeen, link_seen, Follows}
-use Rattle.server_core.specs.LinkSteps.{at_link, has_that, has_number, is_there, is_another, with_session, with_packet, with_room, with_bytes, new_link_seen, numbers, Rises, session_at, held_at, picked_at, session_kept, held_kept, only_at, only_kept, others_at}
+use Rattle.aprs_history.specs.Stands.{LinkSeen, link_seen, Follows}
+use Rattle.server_core.specs.LinkSteps.{at_link, has_that, has_number, is_there, is_another, with_room, with_bytes, new_link_seen, numbers, Rises, session_at, held_at, picked_at, session_kept, held_kept, only_at, only_kept, others_at}
 use Rattle.aprs_conf.specs.Seen.{ConfSeen}
 use Rattle.server_core.specs.Meaning.{CoreMeaning, setting_of}
 use Rattle.server_core.specs.Kept.{IsKept}
 use Rattle.server_core.specs.Steps.{SameRest, Walks, saying, scene_at, with_verdict}
 use Rattle.server_core.proofs.LinkLemmas.{changed_none, rises_to, rises_push}
-use Rattle.server_core.proofs.WalkLemmas.{with_links, with_moment, follows_begun, going_after, follows_said, follows_roomed, follows_ticked, follows_brought, follows_opened, follows_unserved, follows_ended, follows_stopped}
+use Rattle.server_core.proofs.WalkLemmas.{with_links, follows_begun, going_after, follows_said, follows_roomed, follows_ticked, follows_brought, follows_opened, follows_unserved, follows_ended, follows_stopped}
 
 -- the core with other links
 abbrev pub relinked : List LinkSeen → CoreMeaning → CoreMeaning

@@ -1,9 +1,7 @@
 -- Each entry of a trace, and what it changes of what there is to keep of the links.
-use Rattle.std.proofs.Common.{◌≡◌, ℕ, zero, suc, ◌+◌, ◌-◌, ◌≤◌, ◌<◌, ◌==◌, Bool, true, false, not, ◌&&◌, ◌||◌, List, [], ◌∷◌, ◌++◌, length, map, filter, refl, sym, ap, ◌∙◌, subst, arith, Option, Some, None, ⊎_elim, append-nil, append_assoc, length-append, nat_lt, nat_le, max, min, is_some, drop, eq-eqb, if◌then◌else◌}
-use Rattle.std.specs.List.{list_any, flat_map}
+use Rattle.std.proofs.Common.{◌≡◌, ℕ, ◌+◌, ◌-◌, ◌≤◌, ◌<◌, ◌==◌, Bool, true, false, not, ◌&&◌, List, [], ◌∷◌, ◌++◌, length, map, refl, sym, ap, ◌∙◌, arith, Option, Some, None, ⊎_elim, append-nil, length-append, nat_lt, nat_le, is_some, drop, eq-eqb, if◌then◌else◌}
 use Rattle.std.proofs.lemmas.Bool.{eqb-true, cases_Bool, leb-true, leb-false, le-leb, lt-leb, ltb-true, ltb-false, false_from_ne_true, true_from_ne_false}
 use Rattle.std.proofs.Math.Seq.{drop-append-add}
-use Rattle.std.proofs.lemmas.List.{drop-append-le}
 use Rattle.aprs_base.specs.Held.{held_after}
 use Rattle.aprs_base.specs.declared.texts.Addr.{Addr}
 use Rattle.aprs_base.specs.declared.cutting.Cut.{Cut}
@@ -11,15 +9,14 @@ use Rattle.aprs_base.specs.declared.packets.Parts.{Parts}
 use Rattle.aprs_base.specs.declared.packets.PortKind.{PortKind}
 use Rattle.aprs_history.specs.declared.verdicts.Session.{Session}
 use Rattle.aprs_history.specs.declared.verdicts.Refusal.{Refusal}
-use Rattle.aprs_history.specs.declared.verdicts.Verdict.{Verdict}
 use Rattle.aprs_history.specs.declared.verdicts.Verdict.TheVariants.{PassedOver, Refused, LoggedIn, Accepted}
 use Rattle.aprs_history.specs.Setting.{Setting}
-use Rattle.aprs_history.specs.Trace.{moment_of, Trace, Entry, Ticked, Opened, Brought, Said, Roomed, Took, Lost, Ended, EndReason, FoundGone, ByPeer, ByStop, live_links, stopped_links, served_links, is_live, is_other}
-use Rattle.aprs_history.specs.Links.{brought_by, taken_by, session_of, opening_of, is_gone, gone_links}
-use Rattle.aprs_history.specs.Texts.{Queued, queued, lines_of, text_bytes, ended_line, wants, added_by, login_reply, refusal_reply, reply_lines, banner, kind_wants}
-use Rattle.aprs_history.specs.Stands.{LinkSeen, CoreSeen, link_seen, TookNoMore, Follows}
-use Rattle.server_core.specs.Pending.{with_line, without_bytes, pending_bytes}
-use Rattle.server_core.specs.LinkSteps.{at_link, has_that, has_number, with_room, when_gone, with_taken, with_bytes, with_text, with_session, with_packet, wants_packet, new_link_seen, numbers, number_of, is_there, is_another, is_ready}
+use Rattle.aprs_history.specs.Trace.{moment_of, Trace, Opened, Brought, Said, Roomed, Took, Lost, is_live}
+use Rattle.aprs_history.specs.Links.{brought_by, taken_by, session_of, opening_of}
+use Rattle.aprs_history.specs.Texts.{Queued, queued, lines_of, text_bytes, ended_line, wants, login_reply, refusal_reply, reply_lines, kind_wants}
+use Rattle.aprs_history.specs.Stands.{LinkSeen, link_seen, TookNoMore}
+use Rattle.server_core.specs.Pending.{with_line, pending_bytes}
+use Rattle.server_core.specs.LinkSteps.{at_link, with_room, when_gone, with_taken, with_bytes, with_text, with_session, with_packet, wants_packet, new_link_seen}
 
 pub map_through : {X Y : Type 0} (f : X → Y) (g : Y → Y) (h : X → Y) → ((x : X) → f x ≡ g (h x)) → (xs : List X) → map f xs ≡ map g (map h xs)
 map_through f g h same [] = refl

@@ -1,5 +1,5 @@
 -- A step at the link of one number, among links whose numbers rise.
-use Rattle.std.proofs.Common.{◌≡◌, ℕ, zero, suc, ◌+◌, ◌≤◌, ◌<◌, ◌^◌, Bool, true, false, List, [], ◌∷◌, length, get_or, map, refl, sym, ap, ◌∙◌, subst, arith, eq-eqb, Option, Some, None, slice_set, ⊎_elim, cond, nat_lt, ◌||◌, ◌++◌, take, drop, add-one, filter, le_refl, take_all, append-nil, ◌==◌}
+use Rattle.std.proofs.Common.{◌≡◌, ℕ, zero, suc, ◌+◌, ◌≤◌, ◌<◌, Bool, true, false, List, [], ◌∷◌, length, get_or, map, refl, sym, ap, ◌∙◌, subst, arith, eq-eqb, Some, None, slice_set, ⊎_elim, cond, nat_lt, ◌||◌, ◌++◌, take, drop, add-one, filter, le_refl, take_all, append-nil, ◌==◌}
 use Rattle.std.specs.List.{position, position_or_len, list_any}
 use Rattle.std.proofs.lemmas.Bool.{ltb-true, ltb-false, cases_Bool, false_from_ne_true, eqb-true, true≢false}
 use Rattle.std.proofs.lemmas.List.Sums.{passes_at_first, fails_before_first}
@@ -7,7 +7,7 @@ use Rattle.std.proofs.lemmas.List.Folds.{list_any_none}
 use Rattle.std.proofs.lemmas.List.{drop_all}
 use Rattle.aprs_history.specs.Trace.{is_member}
 use Rattle.aprs_history.specs.Stands.{LinkSeen}
-use Rattle.server_core.specs.LinkSteps.{AreServed, Rises, at_link, has_that, picked_at, with_packet, wants_packet, with_text, has_number, number_of, numbers}
+use Rattle.server_core.specs.LinkSteps.{AreServed, Rises, at_link, has_that, picked_at, with_packet, wants_packet, with_text, has_number, numbers}
 
 -- numbers that differ
 pub not_that : (number : ℕ) (link : LinkSeen) → (link.link ≡ number → ⊥) → has_that number link ≡ false

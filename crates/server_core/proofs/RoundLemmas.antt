@@ -1,27 +1,23 @@
 -- Whole rounds: the history with a round's events, its trace, and the acts that are due after it.
-use Rattle.std.proofs.Common.{◌≡◌, ℕ, zero, suc, ◌+◌, ◌-◌, ◌≤◌, ◌<◌, ◌==◌, Bool, true, false, not, ◌&&◌, ◌||◌, List, [], ◌∷◌, ◌++◌, length, map, filter, refl, sym, ap, ◌∙◌, subst, arith, Option, Some, None, ⊎_elim, append-nil, if◌then◌else◌, cond, nat_lt, IfSome}
-use Rattle.std.proofs.lemmas.Bool.{eqb-true, cases_Bool, false_from_ne_true, true≢false, false≢true}
+use Rattle.std.proofs.Common.{◌≡◌, ℕ, ◌+◌, ◌==◌, Bool, true, false, not, ◌&&◌, ◌||◌, List, [], ◌∷◌, ◌++◌, map, filter, refl, sym, ap, ◌∙◌, arith, append-nil, if◌then◌else◌}
+use Rattle.std.proofs.lemmas.Bool.{eqb-true, false_from_ne_true, true≢false, false≢true}
 use Rattle.std.proofs.lemmas.Bool.{and_parts}
-use Rattle.aprs_base.specs.Outside.{new_link}
 use Rattle.aprs_base.specs.Cuts.{cuts_by}
 use Rattle.aprs_base.specs.declared.cutting.Cut.{Cut}
 use Rattle.aprs_base.specs.declared.events.Event.{Event}
 use Rattle.aprs_base.specs.declared.events.Event.TheVariants as event
-use Rattle.aprs_base.specs.declared.events.Sent.{Sent}
 use Rattle.aprs_base.specs.declared.events.Sent.TheVariants as sent
-use Rattle.aprs_base.specs.declared.events.Happening.{Happening}
 use Rattle.aprs_base.specs.declared.events.Happening.TheVariants as did
-use Rattle.aprs_base.specs.declared.packets.ListenSpec.{ListenSpec}
 use Rattle.aprs_history.specs.Setting.{Setting}
 use Rattle.aprs_history.specs.Scenes.{scene_of}
 use Rattle.aprs_history.specs.Verdicts.{verdict_of}
-use Rattle.aprs_history.specs.Trace.{Trace, Entry, Said, Brought, Roomed, Ended, ByPeer, live_links, stopped_links, served_links, is_live, FoundGone, ByStop}
-use Rattle.aprs_history.specs.Links.{brought_by, session_of, gone_links, is_blocked, taken_by}
-use Rattle.aprs_history.specs.Texts.{lines_of, text_bytes}
-use Rattle.aprs_history.specs.History.{History, open_events, ends_round, is_stop, is_stopped, greatest_link, greater_link, trace_of, with_event, begun, begin_round, bring, say_all, end_all}
-use Rattle.aprs_history.specs.Rounds.{is_whole, with_events, events_trace, greatest_after, stopped_after, listens_after, only_listens}
-use Rattle.aprs_history.specs.Acts.{Act, Offers, Closes, acts_after, due, is_offered, offered_links, offer_to}
-use Rattle.aprs_history.specs.Stands.{LinkSeen, CoreSeen, link_seen, TookNoMore, Follows}
+use Rattle.aprs_history.specs.Trace.{Trace, Said, Brought, Roomed, Ended, ByPeer, live_links, stopped_links, served_links, is_live, ByStop}
+use Rattle.aprs_history.specs.Links.{brought_by, gone_links, is_blocked, taken_by}
+use Rattle.aprs_history.specs.Texts.{lines_of}
+use Rattle.aprs_history.specs.History.{History, open_events, ends_round, is_stop, is_stopped, greatest_link, trace_of, with_event, begun, begin_round, bring, say_all}
+use Rattle.aprs_history.specs.Rounds.{is_whole, with_events, events_trace, greatest_after, stopped_after}
+use Rattle.aprs_history.specs.Acts.{acts_after, due, is_offered, offered_links}
+use Rattle.aprs_history.specs.Stands.{CoreSeen, link_seen, Follows}
 use Rattle.server_core.specs.LinkSteps.{is_ready, number_of, numbers}
 use Rattle.server_core.proofs.FollowLemmas.{queued-left}
 use Rattle.server_core.proofs.WalkLemmas.{going_after, left_none, live_after, filter_seen, numbers_seen}

@@ -1,6 +1,6 @@
 -- What a send leaves of the core, and the history with it.
-use Rattle.std.proofs.Common.{◌≡◌, ℕ, ◌+◌, ◌-◌, ◌≤◌, ◌==◌, Bool, true, false, ◌||◌, List, [], ◌∷◌, length, map, take, min, drop, refl, sym, ap, ◌∙◌, subst, arith, ⊎_elim, length-drop, IsTrue}
-use Rattle.std.proofs.lemmas.Bool.{cases_Bool, true≢false}
+use Rattle.std.proofs.Common.{◌≡◌, ℕ, ◌+◌, ◌-◌, ◌≤◌, ◌==◌, true, false, ◌||◌, List, [], ◌∷◌, length, map, refl, sym, ap, ◌∙◌, arith, ⊎_elim, length-drop}
+use Rattle.std.proofs.lemmas.Bool.{cases_Bool}
 use Rattle.aprs_base.specs.declared.events.Sent.TheVariants as sent
 use Rattle.aprs_base.specs.declared.events.Happening.TheVariants as did
 use Rattle.aprs_base.specs.declared.packets.ListenSpec.{ListenSpec}
@@ -8,10 +8,10 @@ use Rattle.aprs_history.specs.Setting.{Setting}
 use Rattle.aprs_history.specs.Trace.{Trace, served_links, is_member}
 use Rattle.aprs_history.specs.Links.{taken_by}
 use Rattle.aprs_history.specs.Texts.{lines_of, text_bytes, untaken}
-use Rattle.aprs_history.specs.History.{History, trace_of, open_events, is_stopped, greatest_link}
-use Rattle.aprs_history.specs.Rounds.{listens_after, only_listens}
+use Rattle.aprs_history.specs.History.{History, trace_of}
+use Rattle.aprs_history.specs.Rounds.{listens_after}
 use Rattle.aprs_history.specs.Stands.{LinkSeen, CoreSeen, link_seen, Follows, StandsFor}
-use Rattle.server_core.specs.LinkSteps.{at_link, has_number, with_taken, when_gone, pending_at, pending_of, numbers}
+use Rattle.server_core.specs.LinkSteps.{at_link, has_number, with_taken, when_gone, pending_at, pending_of}
 use Rattle.server_core.specs.Meaning.{CoreMeaning, setting_of, Stands}
 use Rattle.server_core.proofs.FollowLemmas.{queued-bytes}
 use Rattle.server_core.proofs.WalkLemmas.{follows_took, follows_lost}

@@ -1,12 +1,11 @@
 -- What a login's verdict says of its call, and that replies are lines.
-use Rattle.std.proofs.Common.{⊎_elim, if◌then◌else◌, [], ◌∷◌, Result, Ok, Err, Option, Some, None, sym, ap, ◌∙◌, ◌≡◌, ℕ, ◌+◌, ◌≤◌, Bool, true, false, ◌&&◌, List, ◌++◌, length, refl, IsTrue, arith, not, codes, nat_le, length-append}
+use Rattle.std.proofs.Common.{⊎_elim, if◌then◌else◌, Result, Ok, Err, Option, Some, None, sym, ap, ◌∙◌, ◌≡◌, ℕ, ◌≤◌, Bool, true, false, List, ◌++◌, length, refl, IsTrue, arith, not, codes, length-append}
 use Rattle.std.proofs.lemmas.Bool.{le-leb}
 use Rattle.std.proofs.lemmas.List.Folds.{list_all-append}
 use Rattle.aprs_base.proofs.CallLemmas.{call_inner, call_short}
 use Rattle.aprs_history.specs.declared.verdicts.Session.{Session}
 use Rattle.aprs_history.specs.Texts.{login_reply, verified_word}
-use Rattle.std.specs.List.{list_all}
-use Rattle.aprs_base.specs.Bytes.{is_call, IsCall, is_construct, is_station, is_inner, IsInner, IsLine}
+use Rattle.aprs_base.specs.Bytes.{IsCall, is_station, IsInner, IsLine}
 use Rattle.aprs_base.specs.declared.packets.Parts.{Parts}
 use Rattle.tnc2_line.specs.Packet.{parts_of, text_of}
 use Rattle.aprs_history.specs.Verdicts.{Scene, login_verdict, line_verdict, verdict_of, packet_verdict, read_and_routed, client_origin, is_comment, is_duplicate}

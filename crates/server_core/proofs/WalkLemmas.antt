@@ -1,7 +1,6 @@
 -- The walk over a round: what the core keeps follows the trace, entry by entry.
-use Rattle.std.proofs.Common.{◌≡◌, ℕ, zero, suc, ◌+◌, ◌-◌, ◌≤◌, ◌<◌, ◌==◌, Bool, true, false, not, ◌&&◌, ◌||◌, List, [], ◌∷◌, ◌++◌, length, map, filter, refl, sym, ap, ◌∙◌, subst, arith, Option, Some, None, ⊎_elim, append-nil, append_assoc, length-append, max, min, drop, eq-eqb, if◌then◌else◌, cond}
-use Rattle.std.specs.List.{list_any, flat_map}
-use Rattle.std.proofs.lemmas.Bool.{eqb-true, cases_Bool, false_from_ne_true, true_from_ne_false, true≢false, false≢true}
+use Rattle.std.proofs.Common.{◌≡◌, ℕ, ◌+◌, ◌≤◌, ◌<◌, ◌==◌, Bool, true, false, not, ◌||◌, List, [], ◌∷◌, ◌++◌, length, map, filter, refl, sym, ap, ◌∙◌, subst, arith, Option, Some, None, ⊎_elim, append-nil, append_assoc, length-append, max, min, eq-eqb, cond}
+use Rattle.std.proofs.lemmas.Bool.{eqb-true, cases_Bool, false_from_ne_true, true≢false}
 use Rattle.std.proofs.lemmas.List.Concat.{flat_map-append}
 use Rattle.aprs_base.specs.Held.{held_after}
 use Rattle.aprs_base.specs.declared.texts.Addr.{Addr}
@@ -13,14 +12,14 @@ use Rattle.aprs_history.specs.declared.verdicts.Refusal.{Refusal}
 use Rattle.aprs_history.specs.declared.verdicts.Verdict.{Verdict}
 use Rattle.aprs_history.specs.declared.verdicts.Verdict.TheVariants.{PassedOver, Refused, LoggedIn, Accepted}
 use Rattle.aprs_history.specs.Setting.{Setting}
-use Rattle.aprs_history.specs.Trace.{Trace, Entry, Ticked, Opened, Brought, Said, Roomed, Took, Lost, Ended, EndReason, FoundGone, ByPeer, ByStop, live_links, stopped_links, served_links, is_live, is_member, is_other, moment_of, last_moment}
-use Rattle.aprs_history.specs.Links.{brought_by, taken_by, session_of, opening_of, is_gone, gone_links}
+use Rattle.aprs_history.specs.Trace.{Trace, Ticked, Opened, Brought, Said, Roomed, Took, Lost, Ended, EndReason, FoundGone, ByPeer, ByStop, live_links, stopped_links, served_links, is_member, is_other, moment_of, last_moment}
+use Rattle.aprs_history.specs.Links.{brought_by, taken_by, is_gone, gone_links}
 use Rattle.aprs_history.specs.Scenes.{accepted_of, accepted_by}
-use Rattle.aprs_history.specs.Texts.{Queued, queued, lines_of, text_bytes, ended_line, wants, added_by, login_reply, refusal_reply, banner, kind_wants}
+use Rattle.aprs_history.specs.Texts.{lines_of, text_bytes, ended_line, added_by, login_reply, refusal_reply}
 use Rattle.aprs_history.specs.Stands.{LinkSeen, CoreSeen, link_seen, TookNoMore, Follows}
 use Rattle.aprs_history.specs.History.{end_all, begin_round}
-use Rattle.server_core.specs.LinkSteps.{after_verdict, with_reply, at_link, has_that, has_number, with_room, when_gone, with_taken, with_bytes, with_text, with_session, with_packet, new_link_seen, numbers, number_of, is_there, is_another, Rises}
-use Rattle.server_core.proofs.FollowLemmas.{map_through, seen-number, roomed_seen, lost_seen, took_seen, brought_seen, refused_seen, replied_seen, passed_seen, login_seen, accepted_seen, opened_seen, new_seen, text_size}
+use Rattle.server_core.specs.LinkSteps.{after_verdict, with_reply, at_link, with_room, when_gone, with_taken, with_bytes, with_text, with_session, with_packet, new_link_seen, numbers, is_there, is_another, Rises}
+use Rattle.server_core.proofs.FollowLemmas.{map_through, roomed_seen, lost_seen, took_seen, brought_seen, refused_seen, replied_seen, passed_seen, login_seen, accepted_seen, opened_seen, new_seen}
 
 -- ---- lists of numbers
 

@@ -1,13 +1,12 @@
 -- The walk over a whole round, and what stands after it.
-use Rattle.std.proofs.Common.{◌≡◌, ℕ, suc, ◌+◌, ◌<◌, Bool, true, false, ◌||◌, List, [], ◌∷◌, ◌++◌, length, map, filter, refl, sym, ap, ◌∙◌, subst, arith, Option, Some, None, if◌then◌else◌, IfOk, OnOk, Result, Ok, Err, get_or, drop, drop-cons, add-one}
+use Rattle.std.proofs.Common.{◌≡◌, ℕ, suc, ◌+◌, ◌<◌, Bool, true, false, ◌||◌, List, [], ◌∷◌, ◌++◌, length, map, filter, refl, sym, ap, ◌∙◌, subst, None, if◌then◌else◌, IfOk, OnOk, Result, Ok, Err, get_or, drop, drop-cons, add-one}
 use Rattle.std.proofs.lemmas.Bool.{true≢false, false≢true}
 use Rattle.aprs_base.specs.declared.events.Event.{Event}
 use Rattle.aprs_base.specs.declared.events.Event.TheVariants as event
-use Rattle.aprs_history.specs.Setting.{Setting}
 use Rattle.aprs_history.specs.Trace.{Trace, live_links, stopped_links}
-use Rattle.aprs_history.specs.History.{History, ends_round, is_stop, is_stopped, trace_of, with_event, begin_round}
+use Rattle.aprs_history.specs.History.{History, ends_round, is_stop, trace_of, with_event, begin_round}
 use Rattle.aprs_history.specs.Rounds.{AreFresh, is_whole, with_events, events_trace, greatest_after, stopped_after}
-use Rattle.aprs_history.specs.Acts.{Act, Closes, due, acts_after, offer_to, offered_links}
+use Rattle.aprs_history.specs.Acts.{Closes, offer_to, offered_links}
 use Rattle.aprs_history.specs.Stands.{Follows, StandsFor}
 use Rattle.server_core.specs.ActsSeen.{ActsSeen}
 use Rattle.server_core.specs.LinkSteps.{is_ready, number_of, numbers}

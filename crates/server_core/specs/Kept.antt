@@ -1,5 +1,5 @@
 -- What is true of every core.
-use Rattle.std.specs.Prelude.{ℕ, ◌<◌, ◌^◌, IsTrue}
+use Rattle.std.specs.Prelude.{◌<◌, ◌^◌, IsTrue}
 use Rattle.aprs_base.specs.Bytes.{is_station}
 use Rattle.server_core.specs.LinkSteps.{Rises, numbers}
 use Rattle.server_core.specs.Meaning.{CoreMeaning}

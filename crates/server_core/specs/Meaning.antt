@@ -6,7 +6,7 @@ use Rattle.aprs_conf.specs.declared.types.Listen.{Listen}
 use Rattle.aprs_history.specs.Setting.{Setting}
 use Rattle.aprs_history.specs.Stands.{CoreSeen, StandsFor}
 use Rattle.aprs_history.specs.History.{History, trace_of}
-use Rattle.aprs_history.specs.Acts.{Act, Closes, due, offer_to}
+use Rattle.aprs_history.specs.Acts.{Closes, due, offer_to}
 use Rattle.server_core.specs.ActsSeen.{ActsSeen}
 
 -- the listeners that have a number, in order: those that aren't idle

@@ -1,11 +1,10 @@
 -- How far the walk over a round's events has come.
-use Rattle.std.specs.Prelude.{◌≡◌, ℕ, Bool, true, false, List, [], ◌∷◌, ⊤}
+use Rattle.std.specs.Prelude.{◌≡◌, ℕ, true, false, List, [], ◌∷◌, ⊤}
 use Rattle.aprs_base.specs.declared.events.Event.{Event}
 use Rattle.aprs_history.specs.Trace.{Trace, live_links, stopped_links}
 use Rattle.aprs_history.specs.Rounds.{AreFresh, events_trace, greatest_after, is_whole, stopped_after}
 use Rattle.aprs_history.specs.Stands.{Follows}
 use Rattle.server_core.specs.Meaning.{CoreMeaning, setting_of}
-use Rattle.server_core.specs.Steps.{Walks}
 
 -- where events are left no stop has come, and they end the round
 abbrev pub GoesOn : List Event → CoreMeaning → Type 0

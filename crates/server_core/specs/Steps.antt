@@ -1,15 +1,15 @@
 -- What a core keeps while it walks over the events of a round.
-use Rattle.std.specs.Prelude.{◌≡◌, ℕ, ◌||◌, [], ◌∷◌, List}
+use Rattle.std.specs.Prelude.{◌≡◌, ℕ, ◌||◌, [], ◌∷◌}
 use Rattle.aprs_base.specs.Outside.{new_link}
 use Rattle.aprs_base.specs.declared.cutting.Cut.{Cut}
 use Rattle.aprs_base.specs.declared.events.Event.{Event}
 use Rattle.aprs_history.specs.Setting.{Setting}
-use Rattle.aprs_history.specs.Trace.{Trace, Entry, Said, stopped_links}
+use Rattle.aprs_history.specs.Trace.{Trace, Said, stopped_links}
 use Rattle.aprs_history.specs.declared.verdicts.Verdict.{Verdict}
 use Rattle.aprs_history.specs.Scenes.{scene_of}
 use Rattle.aprs_history.specs.Verdicts.{Scene, verdict_of}
 use Rattle.aprs_history.specs.History.{greater_link, is_stop}
-use Rattle.aprs_history.specs.Stands.{CoreSeen, Follows}
+use Rattle.aprs_history.specs.Stands.{Follows}
 use Rattle.server_core.specs.LinkSteps.{after_verdict, only_at, others_at, session_at}
 use Rattle.server_core.specs.Meaning.{CoreMeaning, setting_of}
 

@@ -1,11 +1,11 @@
 //! The verdict on a line.
-ghost use Rattle.std.specs.Prelude.{◌≡◌, ◌-◌, ◌≤◌, ◌&&◌, List, ℕ, IsTrue, IfOk, Result, length, take, nat_lt};
-ghost use Rattle.std.specs.List.{list_any, suffix_len};
+ghost use Rattle.std.specs.Prelude.{◌≡◌, ◌-◌, ◌≤◌, ◌&&◌, IsTrue, IfOk, Result, length};
+ghost use Rattle.std.specs.List.{suffix_len};
 ghost use Rattle.aprs_base.specs.Bytes.{is_blank, is_station};
-ghost use Rattle.aprs_history.specs.Keys.{Key, is_same_key, is_text, key_of, without_last_blanks};
-ghost use Rattle.aprs_history.specs.Verdicts.{is_comment, is_duplicate, is_repeat, login_verdict, packet_verdict, read_and_routed, routed};
+ghost use Rattle.aprs_history.specs.Keys.{is_same_key, key_of, without_last_blanks};
+ghost use Rattle.aprs_history.specs.Verdicts.{is_comment, is_duplicate, is_repeat, login_verdict, packet_verdict, read_and_routed};
 ghost use Rattle.login_pass.specs.Login.{login_of};
-ghost use Rattle.q_construct.specs.Rule.{has_station, process_of};
+ghost use Rattle.q_construct.specs.Rule.{has_station};
 ghost use Rattle.tnc2_line.specs.Packet.{IsParts, parts_of, text_of};
 
 use aprs_base::{Call, Line, Packet, Parts};

@@ -1,5 +1,5 @@
 //! What the core keeps of a link.
-ghost use Rattle.std.specs.Prelude.{◌≡◌, IsTrue, IfSome, ℕ, ◌≤◌, ◌<◌, List, ◌++◌, Some, None, OnOk, IfOk, length, min, take, map, option_map, true, false};
+ghost use Rattle.std.specs.Prelude.{◌≡◌, IsTrue, IfSome, ℕ, ◌≤◌, ◌<◌, List, ◌++◌, Some, None, OnOk, IfOk, length, min, take, option_map, true, false};
 ghost use Rattle.std.specs.Arc.{arc_value};
 ghost use Rattle.aprs_base.specs.Held.{held_after};
 ghost use Rattle.server_core.specs.LinkSteps.{is_ready, list_of, new_link_seen, number_of, wants_packet, when_gone, with_bytes, with_packet, with_room, with_session, with_taken, with_text};

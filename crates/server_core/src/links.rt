@@ -1,14 +1,12 @@
 //! The links of the core, in the order of their numbers.
-ghost use Rattle.std.specs.Prelude.{◌≡◌, ℕ, ◌≤◌, ◌<◌, ◌^◌, ◌++◌, [], IsTrue, List, None, Some, OnOk, IfOk, min, take, MatchOption, IfSome, IsSome, length, map, slice_get, option_map, position, filter, not, true, false};
+ghost use Rattle.std.specs.Prelude.{◌≡◌, ℕ, ◌≤◌, ◌<◌, ◌^◌, ◌++◌, [], IsTrue, List, None, Some, OnOk, IfOk, min, take, IfSome, length, map, option_map, position, filter};
 ghost use Rattle.std.specs.Arc.{arc_value};
-ghost use Rattle.aprs_history.specs.Stands.{LinkSeen};
 ghost use Rattle.server_core.specs.LinkSteps.{Rises, at_link, list_of, only_at, other_login, others_at, number_of, has_that, held_at, is_another, is_ready, is_there, numbers, pending_at, session_at, when_gone, with_bytes, with_packet, with_room, with_session, with_taken, with_text};
 ghost use Rattle.aprs_base.specs.Bytes.{is_station};
 ghost use Rattle.aprs_base.specs.Cuts.{cuts_by};
 ghost use Rattle.aprs_base.specs.Held.{held_after};
 ghost use Rattle.aprs_history.specs.Verdicts.{client_origin};
 ghost use Rattle.q_construct.specs.Rule.{has_station};
-ghost use Rattle.server_core.specs.Pending.{pending_bytes};
 
 use crate::link::Link;
 use aprs_base::{Call, Cut, Line, Memory};

@@ -1,5 +1,5 @@
 //! The lines that a link has still to take.
-ghost use Rattle.std.specs.Prelude.{◌≡◌, ℕ, ◌+◌, ◌-◌, ◌≤◌, ◌<◌, ◌++◌, List, [], OnOk, IsTrue, ◌↔◌, length, take, drop, min};
+ghost use Rattle.std.specs.Prelude.{◌≡◌, ◌+◌, ◌-◌, ◌≤◌, ◌<◌, ◌++◌, [], OnOk, IsTrue, ◌↔◌, length, take, drop, min};
 ghost use Rattle.std.specs.Arc.{arc_value};
 ghost use Rattle.aprs_history.specs.Texts.{ended_line};
 ghost use Rattle.server_core.specs.Pending.{pending_bytes, with_line, without_bytes};

@@ -1,6 +1,5 @@
 //! What the server answers.
-ghost use Rattle.std.specs.Prelude.{◌≡◌, ◌++◌, ◌+◌, ◌≤◌, length, codes};
-ghost use Rattle.std.specs.Option.{option_map};
+ghost use Rattle.std.specs.Prelude.{◌≡◌, ◌++◌, ◌+◌, ◌≤◌, length};
 ghost use Rattle.aprs_base.specs.Bytes.{IsInner};
 ghost use Rattle.aprs_history.specs.Texts.{fault_word, login_reply, refusal_reply, refused_login, verified_word};
 

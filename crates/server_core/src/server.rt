@@ -1,17 +1,17 @@
 //! The core: it takes a round of events, and says what is to be done.
-ghost use Rattle.std.specs.Prelude.{◌≡◌, ◌∷◌, [], ◌≤◌, ◌<◌, ◌||◌, ℕ, IsTrue, IfOk, OnOk, IfSome, List, length, false, true, None, filter, map, min, take, if◌then◌else◌};
+ghost use Rattle.std.specs.Prelude.{◌≡◌, ◌∷◌, [], ◌≤◌, ◌<◌, ℕ, IsTrue, IfOk, OnOk, IfSome, List, length, false, true, None, filter, map, min, take, if◌then◌else◌};
 ghost use Rattle.std.specs.Arc.{arc_value};
 ghost use Rattle.aprs_base.specs.Bytes.{is_station};
 ghost use Rattle.aprs_base.specs.Outside.{new_link};
-ghost use Rattle.aprs_history.specs.Trace.{Trace, Entry, EndReason, Brought, ByPeer, ByStop, Ended, Opened, Roomed, Ticked, is_live, live_links, stopped_links};
-ghost use Rattle.aprs_history.specs.Links.{brought_by, session_of};
+ghost use Rattle.aprs_history.specs.Trace.{Trace, Brought, ByPeer, ByStop, Ended, Opened, Roomed, Ticked, is_live, live_links};
+ghost use Rattle.aprs_history.specs.Links.{brought_by};
 ghost use Rattle.aprs_base.specs.Cuts.{cuts_by};
 ghost use Rattle.aprs_history.specs.Setting.{kind_at};
 ghost use Rattle.aprs_history.specs.Scenes.{accepted_by};
 ghost use Rattle.aprs_history.specs.Verdicts.{line_verdict, verdict_of};
 ghost use Rattle.aprs_history.specs.declared.verdicts.Verdict.{Verdict};
 ghost use Rattle.aprs_history.specs.Stands.{Follows};
-ghost use Rattle.aprs_history.specs.History.{History, begin_round, end_all, greater_link, is_stop, say_all, trace_of, with_bytes_of, with_event};
+ghost use Rattle.aprs_history.specs.History.{History, begin_round, end_all, say_all, trace_of, with_bytes_of, with_event};
 ghost use Rattle.aprs_history.specs.Rounds.{AreFresh, events_trace, greatest_after, is_whole, only_listens, stopped_after, with_events};
 ghost use Rattle.aprs_history.specs.Texts.{untaken};
 ghost use Rattle.server_core.specs.LinkSteps.{AreServed, Rises, has_number, is_ready, number_of, numbers, pending_at, session_at};
@@ -33,7 +33,7 @@ use crate::links::{
     reply, share, take,
 };
 use crate::replies::{login_line, refusal_line};
-use aprs_base::{Addr, Chunk, Cut, Event, Line, Memory, Packet, Parts, PortKind, Source};
+use aprs_base::{Addr, Cut, Event, Line, Memory, Packet, Parts, Source};
 use aprs_body::classify;
 use aprs_conf::Conf;
 use aprs_history::{Refusal, Session, Verdict};

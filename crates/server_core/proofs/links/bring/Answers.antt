@@ -1,11 +1,10 @@
 use Rattle.std.proofs.Math.Seq.{map-set_same}
 use Rattle.server_core.specs.LinkSteps.{number_of}
-use Rattle.std.proofs.Common.{◌≡◌, ◌^◌, ◌++◌, ap, sym, ◌∙◌, Some, None, [], Option}
+use Rattle.std.proofs.Common.{◌≡◌, ◌^◌, ◌++◌, ap, sym, ◌∙◌, Some, None}
 use Rattle.std.specs.List.{position}
 use Rattle.aprs_base.specs.Held.{Held, held_after}
 use Rattle.aprs_base.specs.Cuts.{cuts_by}
-use Rattle.aprs_history.specs.Stands.{LinkSeen}
-use Rattle.server_core.specs.LinkSteps.{has_that, held_at, held_kept, with_bytes}
+use Rattle.server_core.specs.LinkSteps.{has_that, held_kept, with_bytes}
 use Rattle.server_core.proofs.LinkLemmas.{changed_by, picked_found, picked_none}
 use Rattle.server_core.proofs.links.bring.Goals as goal
 

@@ -1,6 +1,6 @@
 use Rattle.std.proofs.Common.{rules}
 use Rattle.std.proofs.lemmas.List.Elements.{filter_from_retain}
-use Rattle.server_core.specs.LinkSteps.{is_there, is_another}
+use Rattle.server_core.specs.LinkSteps.{is_there}
 use Rattle.server_core.proofs.links.drop_gone.Goals as goal
 
 pub returns : goal.returns

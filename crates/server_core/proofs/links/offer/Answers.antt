@@ -1,4 +1,4 @@
-use Rattle.std.proofs.Common.{ℕ, List, [], length, min, take, ◌≡◌, ap, sym, ◌∙◌, arith}
+use Rattle.std.proofs.Common.{[], length, min, take, ◌≡◌, ap, sym, ◌∙◌, arith}
 use Rattle.server_core.specs.LinkSteps.{pending_at, pending_of}
 use Rattle.server_core.proofs.PartLemmas.{take_nil}
 use Rattle.server_core.proofs.LinkLemmas.{picked_found, picked_none}

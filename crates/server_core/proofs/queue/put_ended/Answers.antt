@@ -1,6 +1,5 @@
-use Rattle.std.proofs.Common.{◌≡◌, ℕ, ◌+◌, ◌-◌, ◌++◌, ◌∷◌, [], List, length, take, drop, min, sym, ◌∙◌, ap, arith, length-drop}
+use Rattle.std.proofs.Common.{◌≡◌, ℕ, ◌+◌, ◌-◌, ◌++◌, ◌∷◌, [], List, length, take, drop, min, sym, ◌∙◌, ap, arith}
 use Rattle.std.proofs.lemmas.List.{drop-append-le}
-use Rattle.aprs_history.specs.Texts.{ended_line}
 use Rattle.server_core.proofs.PartLemmas.{drop-to_lf, put_twice}
 use Rattle.server_core.proofs.queue.put_ended.Goals as goal
 

@@ -1,4 +1,4 @@
-use Rattle.std.proofs.Common.{◌≡◌, ℕ, ◌+◌, ◌-◌, ◌<◌, ◌++◌, ◌∷◌, [], List, length, take, drop, min, map, sym, ◌∙◌, ap, arith, ◌≤◌}
+use Rattle.std.proofs.Common.{◌≡◌, ◌+◌, ◌-◌, ◌<◌, ◌++◌, ◌∷◌, length, take, drop, min, map, sym, ◌∙◌, ap, arith, ◌≤◌}
 use Rattle.std.specs.Arc.{arc_value}
 use Rattle.std.proofs.lemmas.List.{drop_all, length-map}
 use Rattle.aprs_history.specs.Texts.{ended_line, text_bytes}

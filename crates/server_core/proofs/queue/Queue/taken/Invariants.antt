@@ -1,4 +1,4 @@
-use Rattle.std.proofs.Common.{◌≡◌, ◌≤◌, ◌+◌, length, map}
+use Rattle.std.proofs.Common.{◌≡◌, ◌≤◌, length, map}
 use Rattle.std.specs.Arc.{arc_value}
 use Rattle.aprs_history.specs.Texts.{queued, text_bytes}
 use Rattle.server_core.proofs.queue.Queue.taken.Given as goal

@@ -1,4 +1,4 @@
-use Rattle.std.proofs.Common.{◌≡◌, subst, sym, ap, ◌∙◌, map, filter}
+use Rattle.std.proofs.Common.{subst, sym, ap, ◌∙◌, map, filter}
 use Rattle.server_core.specs.Kept.{IsKept}
 use Rattle.server_core.specs.LinkSteps.{AreServed, Rises, is_ready, number_of}
 use Rattle.server_core.specs.Meaning.{CoreMeaning}

@@ -1,11 +1,9 @@
-use Rattle.std.proofs.Common.{◌≡◌, ◌^◌, ◌≤◌, subst, sym, ap, ◌∙◌, arith, refl, map}
-use Rattle.server_core.specs.LinkSteps.{Rises, numbers, at_link, with_room, is_another}
-use Rattle.server_core.specs.Meaning.{CoreMeaning, setting_of}
+use Rattle.std.proofs.Common.{◌^◌, subst, sym, arith}
 use Rattle.server_core.specs.Steps.{Walks}
 use Rattle.std.proofs.lemmas.Result.{on_ok_weaker}
 use Rattle.server_core.proofs.LinkLemmas.{rises_to}
 use Rattle.aprs_history.specs.Links.{brought_by}
-use Rattle.server_core.proofs.CoreLemmas.{walks_brought, walks_unmoved, held_now, held_never, unmoved_ok}
+use Rattle.server_core.proofs.CoreLemmas.{walks_brought, held_now, held_never, unmoved_ok}
 use Rattle.server_core.proofs.server.Core.bring.Goals as goal
 
 pub bring-requires : goal.bring-requires

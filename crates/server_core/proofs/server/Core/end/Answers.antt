@@ -1,6 +1,5 @@
-use Rattle.std.proofs.Common.{◌≡◌, ◌^◌, ◌≤◌, subst, sym, ap, ◌∙◌, arith, refl, map}
-use Rattle.server_core.specs.LinkSteps.{Rises, numbers, at_link, with_room, is_another}
-use Rattle.server_core.specs.Meaning.{CoreMeaning, setting_of}
+use Rattle.std.proofs.Common.{subst, sym}
+use Rattle.server_core.specs.LinkSteps.{Rises, numbers, is_another}
 use Rattle.server_core.specs.Steps.{Walks}
 use Rattle.server_core.proofs.LinkLemmas.{rises_filter}
 use Rattle.server_core.proofs.CoreLemmas.{walks_ended, walks_no_end}

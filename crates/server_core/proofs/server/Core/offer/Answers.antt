@@ -1,4 +1,4 @@
-use Rattle.std.proofs.Common.{◌≡◌, take, min, length, ap, ◌∙◌}
+use Rattle.std.proofs.Common.{take, min, length, ap, ◌∙◌}
 use Rattle.server_core.specs.Meaning.{setting_of}
 use Rattle.aprs_history.specs.History.{trace_of}
 use Rattle.server_core.proofs.SendLemmas.{pending_now}

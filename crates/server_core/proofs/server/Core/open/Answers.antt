@@ -1,6 +1,6 @@
-use Rattle.std.proofs.Common.{◌≡◌, ◌^◌, ◌<◌, ◌≤◌, ◌++◌, ◌∷◌, [], subst, sym, ap, ◌∙◌, arith, refl, map}
-use Rattle.server_core.specs.LinkSteps.{number_of, Rises, numbers, at_link, with_room, is_another}
-use Rattle.server_core.specs.Meaning.{CoreMeaning, setting_of}
+use Rattle.std.proofs.Common.{◌<◌, ◌++◌, ◌∷◌, [], subst, sym, ap, ◌∙◌, arith}
+use Rattle.server_core.specs.LinkSteps.{number_of}
+use Rattle.server_core.specs.Meaning.{CoreMeaning}
 use Rattle.server_core.specs.Steps.{Walks}
 use Rattle.server_core.proofs.CoreLemmas.{walks_served, walks_unserved, kept_above, kept_links, kept_pushed}
 use Rattle.server_core.proofs.server.Core.open.Goals as goal

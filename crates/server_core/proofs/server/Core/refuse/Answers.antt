@@ -1,4 +1,4 @@
-use Rattle.std.proofs.Common.{◌^◌, ◌≤◌, arith}
+use Rattle.std.proofs.Common.{◌^◌, arith}
 use Rattle.server_core.proofs.LinkLemmas.{rises_to}
 use Rattle.server_core.proofs.server.Core.refuse.Goals as goal
 

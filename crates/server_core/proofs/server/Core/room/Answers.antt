@@ -1,6 +1,5 @@
-use Rattle.std.proofs.Common.{◌≡◌, ◌^◌, ◌≤◌, subst, sym, ap, ◌∙◌, arith, refl, map}
-use Rattle.server_core.specs.LinkSteps.{Rises, numbers, at_link, with_room, is_another}
-use Rattle.server_core.specs.Meaning.{CoreMeaning, setting_of}
+use Rattle.std.proofs.Common.{◌^◌, subst, sym, arith, refl}
+use Rattle.server_core.specs.LinkSteps.{with_room}
 use Rattle.server_core.specs.Steps.{Walks}
 use Rattle.server_core.proofs.LinkLemmas.{rises_to, rises_at}
 use Rattle.server_core.proofs.CoreLemmas.{walks_roomed, walks_no_room}

@@ -1,5 +1,3 @@
-use Rattle.std.proofs.Common.{◌≡◌}
-use Rattle.std.proofs.lemmas.Result.{on_ok_weaker}
 use Rattle.server_core.proofs.WholeRoundLemmas.{WholeRound, round_stands, acts_ok, stands_ok}
 use Rattle.server_core.proofs.server.Core.round.Goals as goal
 

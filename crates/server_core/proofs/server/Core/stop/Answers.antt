@@ -1,6 +1,5 @@
 use Rattle.std.proofs.Common.{subst, sym, ap}
-use Rattle.aprs_history.specs.Stands.{Follows}
-use Rattle.server_core.specs.Meaning.{CoreMeaning, setting_of}
+use Rattle.server_core.specs.Meaning.{CoreMeaning}
 use Rattle.server_core.specs.Steps.{Walks}
 use Rattle.server_core.proofs.CoreLemmas.{follows_stop}
 use Rattle.server_core.proofs.server.Core.stop.Goals as goal

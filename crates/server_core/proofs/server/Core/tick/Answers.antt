@@ -1,6 +1,4 @@
-use Rattle.std.proofs.Common.{◌≡◌, ◌^◌, ◌≤◌, subst, sym, ap, ◌∙◌, arith, refl, map, max}
-use Rattle.server_core.specs.LinkSteps.{Rises, numbers, at_link, with_room, is_another}
-use Rattle.server_core.specs.Meaning.{CoreMeaning, setting_of}
+use Rattle.std.proofs.Common.{subst, sym, ap, ◌∙◌, max}
 use Rattle.server_core.specs.Steps.{Walks}
 use Rattle.server_core.proofs.CoreLemmas.{walks_ticked}
 use Rattle.server_core.proofs.server.Core.tick.Goals as goal

@@ -1,8 +1,8 @@
-use Rattle.std.proofs.Common.{◌≡◌, ◌^◌, ◌≤◌, length, subst, sym, ap, ◌∙◌, arith, refl}
-use Rattle.server_core.specs.LinkSteps.{numbers, at_link, with_taken, when_gone, pending_at}
+use Rattle.std.proofs.Common.{◌^◌, ◌≤◌, length, subst, sym, ap, ◌∙◌, arith, refl}
+use Rattle.server_core.specs.LinkSteps.{numbers, at_link, with_taken, pending_at}
 use Rattle.server_core.specs.Meaning.{CoreMeaning, Stands}
 use Rattle.server_core.proofs.LinkLemmas.{rises_to, rises_at, numbers_kept, at_keeps}
-use Rattle.server_core.proofs.SendLemmas.{stands_took, stands_gone}
+use Rattle.server_core.proofs.SendLemmas.{stands_took}
 use Rattle.server_core.proofs.server.Core.took.Goals as goal
 
 pub take-requires-clause-rises : goal.take-requires-clause-rises
