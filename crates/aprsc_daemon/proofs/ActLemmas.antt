@@ -1,19 +1,17 @@
 -- A run goes on by a send or a close.
-use Rattle.std.proofs.Common.{◌≡◌, ℕ, zero, suc, ◌+◌, ◌-◌, ◌<◌, ◌≤◌, ◌==◌, Bool, true, false, ◌||◌, List, [], ◌∷◌, ◌++◌, length, take, drop, map, refl, sym, ap, ◌∙◌, subst, arith, Option, ⊎_elim, eq-eqb, min, length-take, get_or}
+use Rattle.std.proofs.Common.{◌≡◌, ℕ, zero, suc, ◌<◌, ◌==◌, Bool, true, false, ◌||◌, List, [], ◌∷◌, ◌++◌, length, take, drop, map, refl, sym, ap, ◌∙◌, subst, arith, Option, ⊎_elim, eq-eqb, min, length-take, get_or}
 use Rattle.std.specs.Option.{option_map}
 use Rattle.std.proofs.lemmas.Bool.{cases_Bool, eqb-true, false_from_ne_true, true≢false}
 use Rattle.aprs_base.specs.Outside.{Told, with_done, IsOutcome}
 use Rattle.aprs_base.specs.declared.events.Sent.{Sent}
 use Rattle.aprs_base.specs.declared.events.Sent.TheVariants as sent
-use Rattle.aprs_base.specs.declared.events.Happening.{Happening}
 use Rattle.aprs_base.specs.declared.events.Happening.TheVariants as did
 use Rattle.aprs_history.specs.Setting.{Setting}
-use Rattle.aprs_history.specs.Trace.{Trace, is_member}
-use Rattle.aprs_history.specs.Links.{taken_by}
-use Rattle.aprs_history.specs.Texts.{untaken, lines_of, text_bytes}
+use Rattle.aprs_history.specs.Trace.{is_member}
+use Rattle.aprs_history.specs.Texts.{untaken}
 use Rattle.aprs_history.specs.History.{History, is_stopped, trace_of}
 use Rattle.aprs_history.specs.Acts.{Act, Offers, Closes, MayCome, due, but_first, offer_to}
-use Rattle.aprs_history.specs.Runs.{AppendsRun, listens_in}
+use Rattle.aprs_history.specs.Runs.{AppendsRun}
 use Rattle.server_core.specs.LinkSteps.{Rises}
 use Rattle.server_core.specs.Meaning.{CoreMeaning, Stands, setting_of}
 use Rattle.server_core.proofs.WalkLemmas.{member_below}

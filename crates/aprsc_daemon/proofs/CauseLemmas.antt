@@ -1,5 +1,5 @@
 -- From what a part of the program did to the cause of its status.
-use Rattle.std.proofs.Common.{◌≡◌, ◌⊎◌, inl, inr, ℕ, ◌≤◌, ◌<◌, List, [], length, refl, sym, ap, ◌∙◌, subst, Option, Some, None, Result, Ok, Err, ⊎_elim, arith}
+use Rattle.std.proofs.Common.{◌≡◌, ◌⊎◌, inl, inr, ℕ, ◌≤◌, ◌<◌, List, [], length, refl, sym, ap, ◌∙◌, subst, Option, Some, None, Result, Ok, ⊎_elim, arith}
 use Rattle.std.specs.Bool.{⊤}
 use Rattle.aprs_base.specs.Outside.{Rose}
 use Rattle.aprs_base.specs.Stores.{Holds, bytes_named}

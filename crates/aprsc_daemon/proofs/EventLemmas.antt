@@ -12,11 +12,11 @@ use Rattle.aprs_history.specs.Setting.{Setting}
 use Rattle.aprs_history.specs.History.{History, ends_round, is_round_event, is_stop, is_stopped, open_events, greater_link}
 use Rattle.aprs_history.specs.Rounds.{is_whole, with_events, AreFresh, greatest_after}
 use Rattle.aprs_history.specs.Acts.{Act, MayCome, due, acts_after}
-use Rattle.aprs_history.specs.Runs.{AppendsRun, listens_in}
+use Rattle.aprs_history.specs.Runs.{AppendsRun}
 use Rattle.server_core.specs.Meaning.{CoreMeaning, setting_of}
 use Rattle.server_core.proofs.RoundLemmas.{more_events}
 use Rattle.server_core.proofs.WholeRoundLemmas.{no_stop}
-use Rattle.aprsc_daemon.specs.Phases.{is_partial, Counted, Gathering, Idle, Resting}
+use Rattle.aprsc_daemon.specs.Phases.{is_partial, Counted, Gathering, Idle}
 use Rattle.aprsc_daemon.proofs.RunLemmas.{run_goes_on}
 
 not_false : (b : Bool) → not b ≡ true → b ≡ false

@@ -1,5 +1,5 @@
 -- Worked words and texts: what the definitions make of them.
-use Rattle.std.specs.Prelude.{◌≡◌, ℕ, List, [], ◌∷◌, ◌++◌, Some, None, Ok, Err, refl, codes, Result}
+use Rattle.std.specs.Prelude.{◌≡◌, List, [], ◌∷◌, ◌++◌, Some, None, refl, codes}
 use Rattle.std.specs.Fmt.{decimal}
 use Rattle.std.proofs.Common.{lit<, ap, ◌∙◌, sym, append-nil, Option}
 use Rattle.std.proofs.lemmas.Fmt.{decimal_digit}
@@ -10,8 +10,6 @@ use Rattle.aprs_base.specs.declared.events.Event.TheVariants as event
 use Rattle.aprs_base.specs.declared.events.Happening.{Happening}
 use Rattle.aprs_base.specs.declared.events.Happening.TheVariants as did
 use Rattle.aprs_base.specs.declared.events.Sent.TheVariants as sent
-use Rattle.aprs_base.specs.declared.packets.PortKind.TheVariants as kind
-use Rattle.aprs_conf.specs.Seen.{ConfSeen}
 use Rattle.aprsc_daemon.specs.Phases.{Brings, events_in}
 use Rattle.aprs_conf.specs.declared.errors.ConfFault.TheVariants as fault
 use Rattle.aprs_conf.specs.declared.errors.ConfWord.TheVariants as word

@@ -1,5 +1,5 @@
 -- A run goes on by one happening.
-use Rattle.std.proofs.Common.{◌≡◌, ℕ, zero, suc, ◌+◌, ◌<◌, Bool, true, false, List, [], ◌∷◌, ◌++◌, length, take, drop, refl, sym, ap, ◌∙◌, subst, arith, append-nil, append_assoc, Option, Some, None, get_or, add-one, drop-cons}
+use Rattle.std.proofs.Common.{◌≡◌, ℕ, zero, suc, ◌+◌, ◌<◌, Bool, List, [], ◌∷◌, ◌++◌, length, take, drop, refl, sym, ap, ◌∙◌, subst, arith, append-nil, append_assoc, Option, Some, None, get_or, add-one, drop-cons}
 use Rattle.std.specs.Option.{option_map}
 use Rattle.std.proofs.lemmas.List.{take_more}
 use Rattle.aprs_base.specs.Outside.{Told, with_done, with_listen}
@@ -8,9 +8,9 @@ use Rattle.aprs_base.specs.declared.events.Happening.TheVariants as did
 use Rattle.aprs_base.specs.declared.packets.ListenSpec.{ListenSpec}
 use Rattle.aprs_history.specs.Setting.{Setting}
 use Rattle.aprs_history.specs.History.{History, in_order, is_stopped}
-use Rattle.aprs_history.specs.Rounds.{listens_after, only_listens}
-use Rattle.aprs_history.specs.Acts.{Act, Listens, IsRun, MayCome, due, but_first, listens_from}
-use Rattle.aprs_history.specs.Runs.{AppendsRun, told_after, listens_in, are_listens}
+use Rattle.aprs_history.specs.Rounds.{listens_after}
+use Rattle.aprs_history.specs.Acts.{Act, Listens, MayCome, due, but_first, listens_from}
+use Rattle.aprs_history.specs.Runs.{AppendsRun, told_after, listens_in}
 use Rattle.aprsc_daemon.specs.Phases.{Listening}
 
 -- nothing has happened yet

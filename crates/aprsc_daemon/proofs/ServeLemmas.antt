@@ -1,5 +1,5 @@
 -- From one round to the next.
-use Rattle.std.proofs.Common.{drop, le_refl, arith, ⊎_elim, ◌≡◌, ℕ, ◌≤◌, Bool, true, false, List, [], ◌∷◌, ◌++◌, length, map, refl, sym, ap, ◌∙◌, subst, Option}
+use Rattle.std.proofs.Common.{drop, le_refl, arith, ⊎_elim, ◌≡◌, ℕ, ◌≤◌, true, false, List, [], ◌∷◌, ◌++◌, length, map, refl, sym, ap, ◌∙◌, subst, Option}
 use Rattle.std.proofs.lemmas.Bool.{cases_Bool}
 use Rattle.std.proofs.lemmas.List.{drop_all}
 use Rattle.aprs_conf.specs.declared.types.Listen.{Listen}
@@ -7,14 +7,14 @@ use Rattle.aprs_conf.specs.Seen.{ConfSeen}
 use Rattle.aprs_base.specs.Outside.{Told}
 use Rattle.aprs_base.specs.declared.events.Event.{Event}
 use Rattle.aprs_history.specs.Setting.{Setting}
-use Rattle.aprs_history.specs.History.{History, is_stopped, trace_of}
+use Rattle.aprs_history.specs.History.{History, trace_of}
 use Rattle.aprs_history.specs.Texts.{untaken}
 use Rattle.aprs_history.specs.Rounds.{with_events, listens_after, only_listens}
 use Rattle.aprs_history.specs.Acts.{Closes, due, listens_from, offer_to}
-use Rattle.aprs_history.specs.Runs.{AppendsRun, listens_in}
+use Rattle.aprs_history.specs.Runs.{AppendsRun}
 use Rattle.server_core.specs.ActsSeen.{ActsSeen}
 use Rattle.server_core.specs.Meaning.{AreActs, CoreMeaning, Stands, numbered, setting_of}
-use Rattle.aprsc_daemon.specs.Phases.{Finished, Gathering, Idle, Listening, Offering, Resting}
+use Rattle.aprsc_daemon.specs.Phases.{Finished, Gathering, Listening, Offering, Resting}
 use Rattle.aprsc_daemon.proofs.RunLemmas.{run_weaker}
 
 pub begins_offers : (s : Setting) (start now : Option Told) (core new : CoreMeaning) (events : List Event) (acts : ActsSeen) (offers closes : List ℕ) → offers ≡ acts.offers → closes ≡ acts.closes → new.conf ≡ core.conf

@@ -1,6 +1,6 @@
 -- Why the program ends with each of its statuses, and what it leaves.
-use Rattle.std.specs.Prelude.{◌≡◌, ◌⊎◌, ℕ, ◌<◌, ◌≤◌, List, [], take, length, true, Option, Some, None, Ok, Err, IfSome, ⊤}
-use Rattle.aprs_base.specs.Outside.{Rose, Told, WireShown}
+use Rattle.std.specs.Prelude.{◌≡◌, ◌⊎◌, ℕ, ◌<◌, ◌≤◌, List, take, length, true, Option, Some, None, Ok, ⊤}
+use Rattle.aprs_base.specs.Outside.{Rose, WireShown}
 use Rattle.aprs_base.specs.Stores.{FilesShown, Holds, SinkShown}
 use Rattle.aprs_base.specs.declared.files.MemFile.{MemFile}
 use Rattle.aprs_history.specs.Setting.{Setting}

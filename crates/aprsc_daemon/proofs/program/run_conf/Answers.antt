@@ -1,4 +1,4 @@
-use Rattle.std.proofs.Common.{◌≡◌, refl, inr}
+use Rattle.std.proofs.Common.{refl, inr}
 use Rattle.aprsc_daemon.specs.Saying.{listen_failed_text}
 use Rattle.aprsc_daemon.proofs.CauseLemmas.{ended_cause, listener_cause, memory_cause}
 use Rattle.aprsc_daemon.proofs.program.run_conf.Goals as goal

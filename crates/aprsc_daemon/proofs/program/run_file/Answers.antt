@@ -1,4 +1,4 @@
-use Rattle.std.proofs.Common.{◌≡◌, refl, ap, inl, Err}
+use Rattle.std.proofs.Common.{refl, ap, inl, Err}
 use Rattle.aprsc_daemon.specs.Saying.{too_large_text, unread_text}
 use Rattle.aprsc_daemon.proofs.CauseLemmas.{big_cause, memory_cause, unread_cause}
 use Rattle.aprsc_daemon.proofs.program.run_file.Goals as goal

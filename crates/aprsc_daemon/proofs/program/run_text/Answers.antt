@@ -1,4 +1,4 @@
-use Rattle.std.proofs.Common.{◌≡◌, refl, ap, inl, Err, arith, ◌≤◌, length}
+use Rattle.std.proofs.Common.{refl, ap, inl, Err, arith}
 use Rattle.aprsc_daemon.specs.Saying.{trouble_text}
 use Rattle.aprsc_daemon.proofs.CauseLemmas.{trouble_cause, memory_cause}
 use Rattle.aprsc_daemon.proofs.ServeLemmas.{numbered_short}

@@ -1,4 +1,4 @@
-use Rattle.std.proofs.Common.{◌≡◌, length, ap, sym}
+use Rattle.std.proofs.Common.{length, ap}
 use Rattle.server_core.specs.Meaning.{numbered, setting_of}
 use Rattle.aprsc_daemon.specs.Phases.{Listening, Resting}
 use Rattle.aprsc_daemon.proofs.RunLemmas.{run_weaker}

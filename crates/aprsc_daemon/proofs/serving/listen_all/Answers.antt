@@ -1,7 +1,4 @@
-use Rattle.std.proofs.Common.{◌≡◌, ◌≤◌, ◌+◌, ◌∷◌, ◌++◌, [], take, drop, refl, sym, ap, ◌∙◌, subst, arith, le_refl, ◌<◌, length, get_or}
-use Rattle.aprs_history.specs.Runs.{AppendsRun}
-use Rattle.aprs_history.specs.Setting.{Setting}
-use Rattle.aprs_history.specs.History.{History}
+use Rattle.std.proofs.Common.{◌≡◌, refl, arith, le_refl, ◌<◌, length}
 use Rattle.aprsc_daemon.specs.Phases.{Listening}
 use Rattle.aprsc_daemon.proofs.RunLemmas.{run_begins, listened, listed_at, run_weaker, run_told, listens_begin}
 use Rattle.std.specs.Bool.{⊤}
