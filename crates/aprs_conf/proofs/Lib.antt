@@ -10,4 +10,5 @@ mod WritableDrafts
 mod WrittenConf
 mod WrittenLines
 mod WrittenNumbers
+mod WrittenRows
 mod WrittenWords

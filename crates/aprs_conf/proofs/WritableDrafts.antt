@@ -21,7 +21,7 @@ use Rattle.aprs_conf.specs.Grammar.{◌>>=◌, after, at_line, at_of, conf_of, c
 use Rattle.aprs_conf.specs.Seen.{ConfSeen, DraftSeen}
 use Rattle.aprs_conf.specs.Words.{Word, closed, has_open, is_remark, lines_of, words_of}
 use Rattle.aprs_conf.specs.Writing.{kind_name, proto_name}
-use Rattle.aprs_conf.proofs.WrittenLines.{is_fed, lines_feedless, words_are}
+use Rattle.aprs_conf.proofs.WrittenLines.{is_feedless, lines_feedless, words_are}
 use Rattle.aprs_conf.proofs.WrittenNumbers.{IsIp, code_small, cond_some, ip_small, time_small, within}
 use Rattle.aprs_conf.proofs.WrittenWords.{both, is_word}
 
@@ -457,7 +457,7 @@ words_say_writable false draft new words h fine s =
     let ended = unless_ok (has_open words) fault.OpenQuote (line_says draft (closed words)) new h in
     line_writable draft new (closed words) ended.1 fine s
 
-after_writable : (draft new : DraftSeen) (line : List ℕ) → after draft line ≡ Ok new → is_fed line ≡ true → WritableDraft draft → WritableDraft new
+after_writable : (draft new : DraftSeen) (line : List ℕ) → after draft line ≡ Ok new → is_feedless line ≡ true → WritableDraft draft → WritableDraft new
 unfolding after
 after_writable draft new line h fed s = words_say_writable (is_remark (words_of line)) draft new (words_of line) h (words_are line fed) s
 
@@ -465,10 +465,10 @@ at_line_ok : {A : Type 0} (n : ℕ) (r : Result A ConfFault) (x : A) → at_line
 at_line_ok n (Ok y) x h = cc
 at_line_ok n (Err e) x h = cc
 
-drafted_writable : (n : ℕ) (draft new : DraftSeen) (lines : List (List ℕ)) → drafted n draft lines ≡ Ok new → list_all is_fed lines ≡ true → WritableDraft draft → WritableDraft new
+drafted_writable : (n : ℕ) (draft new : DraftSeen) (lines : List (List ℕ)) → drafted n draft lines ≡ Ok new → list_all is_feedless lines ≡ true → WritableDraft draft → WritableDraft new
 drafted_writable n draft new [] h fed s = subst WritableDraft (ok_is draft new h) s
 drafted_writable n draft new (line ∷ lines) h fed s =
-    let parts = both (is_fed line) (list_all is_fed lines) fed in
+    let parts = both (is_feedless line) (list_all is_feedless lines) fed in
     let more = bind_ok (at_line n (after draft line)) (λ d. drafted (next n) d lines) new h in
     let own = at_line_ok n (after draft line) more.0 more.1.0 in
     drafted_writable (next n) more.0 new lines more.1.1 parts.1 (after_writable draft more.0 line own parts.0 s)

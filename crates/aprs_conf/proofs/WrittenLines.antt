@@ -72,34 +72,34 @@ take_all_pass test (suc n) (x ∷ xs) h =
     rw (parts.0, take_all_pass test n xs parts.1) refl
 
 -- no line has a line feed
-abbrev pub is_fed : List ℕ → Bool
-is_fed line = list_all no_feed line
+abbrev pub is_feedless : List ℕ → Bool
+is_feedless line = list_all no_feed line
 
-onto_feedless : (x : ℕ) (parts : List (List ℕ)) → no_feed x ≡ true → list_all is_fed parts ≡ true → list_all is_fed (onto_first x parts) ≡ true
+onto_feedless : (x : ℕ) (parts : List (List ℕ)) → no_feed x ≡ true → list_all is_feedless parts ≡ true → list_all is_feedless (onto_first x parts) ≡ true
 onto_feedless x [] fine h = rw fine refl
 onto_feedless x (part ∷ parts) fine h = rw fine h
 
-parts_feedless : (text : List ℕ) → list_all is_fed (slice_split is_feed text) ≡ true
+parts_feedless : (text : List ℕ) → list_all is_feedless (slice_split is_feed text) ≡ true
 parts_feedless [] = refl
 parts_feedless (x ∷ xs) =
-    elim (is_feed x) as (λ b. is_feed x ≡ b → list_all is_fed (cond b ([] ∷ slice_split is_feed xs) (onto_first x (slice_split is_feed xs))) ≡ true) [
+    elim (is_feed x) as (λ b. is_feed x ≡ b → list_all is_feedless (cond b ([] ∷ slice_split is_feed xs) (onto_first x (slice_split is_feed xs))) ≡ true) [
       | true ↦ λ _. parts_feedless xs
       | false ↦ λ e. onto_feedless x (slice_split is_feed xs) (ap not e) (parts_feedless xs)
     ] refl
 
-return_feedless : (b : Bool) (n : ℕ) (line : List ℕ) → is_fed line ≡ true → is_fed (cond b (take n line) line) ≡ true
+return_feedless : (b : Bool) (n : ℕ) (line : List ℕ) → is_feedless line ≡ true → is_feedless (cond b (take n line) line) ≡ true
 return_feedless true n line h = take_all_pass no_feed n line h
 return_feedless false n line h = h
 
-ended_feedless : (parts : List (List ℕ)) → list_all is_fed parts ≡ true → list_all is_fed (ended parts) ≡ true
+ended_feedless : (parts : List (List ℕ)) → list_all is_feedless parts ≡ true → list_all is_feedless (ended parts) ≡ true
 ended_feedless [] h = refl
 ended_feedless (last ∷ []) h = h
 ended_feedless (line ∷ next ∷ more) h =
-    let parts = both (is_fed line) (list_all is_fed (next ∷ more)) h in
-    let kept : is_fed (without_return line) ≡ true = return_feedless (slice_index line (length line - 1) == 13) (length line - 1) line parts.0 in
+    let parts = both (is_feedless line) (list_all is_feedless (next ∷ more)) h in
+    let kept : is_feedless (without_return line) ≡ true = return_feedless (slice_index line (length line - 1) == 13) (length line - 1) line parts.0 in
     rw (kept, ended_feedless (next ∷ more) parts.1) refl
 
-pub lines_feedless : (text : List ℕ) → list_all is_fed (lines_of text) ≡ true
+pub lines_feedless : (text : List ℕ) → list_all is_feedless (lines_of text) ≡ true
 lines_feedless text = ended_feedless (slice_split is_feed text) (parts_feedless text)
 
 -- what each of the words is, where the first is what is left of one
@@ -167,5 +167,5 @@ sound (b ∷ xs) h =
     (between, plain, quoted)
 
 -- the words of a line are words that a line can have
-pub words_are : (line : List ℕ) → is_fed line ≡ true → list_all is_word (closed (words_of line)) ≡ true
+pub words_are : (line : List ℕ) → is_feedless line ≡ true → list_all is_word (closed (words_of line)) ≡ true
 words_are line h = (sound line h).0
