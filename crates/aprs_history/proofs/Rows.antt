@@ -20,7 +20,7 @@ use Rattle.aprs_base.specs.declared.cutting.Cut.TheVariants as cut
 use Rattle.aprs_history.specs.Verdicts.{Scene, verdict_of}
 use Rattle.aprs_history.specs.Scenes.{accepted_by, accepted_of, scene_of}
 use Rattle.aprs_history.specs.declared.verdicts.Verdict.{Verdict}
-use Rattle.aprs_history.specs.declared.verdicts.Verdict.TheVariants.{PassedOver, Refused, LoggedIn, Accepted}
+use Rattle.aprs_history.specs.declared.verdicts.Verdict.TheVariants.{PassedOver, Refused, LoggedIn, Filtered, Accepted}
 use Rattle.aprs_history.specs.declared.verdicts.Refusal.TheVariants as refusal
 use Rattle.login_pass.specs.Passcode.{passcode_of}
 
@@ -116,6 +116,7 @@ abbrev link_of : List ℕ → Bool → Bool → List (List ℕ) → Scene
 link_of login verified only others = record {
   server = codes "T2TEST";
   only = only;
+  filters = only;
   session = Some (record { call = login; verified = verified });
   others = others;
   moment = 1000;
@@ -123,7 +124,7 @@ link_of login verified only others = record {
 }
 
 abbrev stranger : Scene
-stranger = record { server = codes "T2TEST"; only = false; session = None; others = []; moment = 1000; accepted = [] }
+stranger = record { server = codes "T2TEST"; only = false; filters = false; session = None; others = []; moment = 1000; accepted = [] }
 
 abbrev verdict_on : Scene → List ℕ → Verdict
 verdict_on scene text = verdict_of scene (cut.Line text)
@@ -131,18 +132,19 @@ verdict_on scene text = verdict_of scene (cut.Line text)
 abbrev sent_on : Verdict → Option (List ℕ)
 sent_on PassedOver = None
 sent_on (Refused why) = None
-sent_on (LoggedIn session) = None
+sent_on (LoggedIn session answer) = None
+sent_on (Filtered answer) = None
 sent_on (Accepted parts line) = Some line
 
-logged_in : verdict_on stranger (codes "user N0CALL pass 13023 vers t 1") ≡ LoggedIn (record { call = codes "N0CALL"; verified = true })
+logged_in : verdict_on stranger (codes "user N0CALL pass 13023 vers t 1") ≡ LoggedIn (record { call = codes "N0CALL"; verified = true }) None
 unfolding login_of passcode_of
 logged_in = refl
 
-other_code : verdict_on stranger (codes "user N0CALL pass 13024 vers t 1") ≡ LoggedIn (record { call = codes "N0CALL"; verified = false })
+other_code : verdict_on stranger (codes "user N0CALL pass 13024 vers t 1") ≡ LoggedIn (record { call = codes "N0CALL"; verified = false }) None
 unfolding login_of passcode_of
 other_code = refl
 
-no_code : verdict_on stranger (codes "USER N0CALL PASS -1") ≡ LoggedIn (record { call = codes "N0CALL"; verified = false })
+no_code : verdict_on stranger (codes "USER N0CALL PASS -1") ≡ LoggedIn (record { call = codes "N0CALL"; verified = false }) None
 unfolding login_of passcode_of
 no_code = refl
 

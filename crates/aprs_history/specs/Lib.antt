@@ -6,6 +6,7 @@ pub mod Rounds
 pub mod Runs
 pub mod Scenes
 pub mod Setting
+pub mod Sights
 pub mod Stands
 pub mod Texts
 pub mod Trace

@@ -2,9 +2,12 @@
 use Rattle.std.specs.Prelude.{ℕ, ◌==◌, ◌+◌, Bool, true, false, nat_lt, List, [], ◌∷◌, ◌++◌, Option, Some, None, filter, if◌then◌else◌}
 use Rattle.aprs_base.specs.declared.packets.PortKind.{PortKind}
 use Rattle.aprs_base.specs.declared.texts.Addr.{Addr}
+use Rattle.filter_lang.specs.Terms.{TermSeen}
+use Rattle.aprs_history.specs.declared.verdicts.FilterAnswer.{FilterAnswer}
+use Rattle.aprs_history.specs.declared.verdicts.FilterAnswer.TheVariants.{Active, Denied}
 use Rattle.aprs_history.specs.declared.verdicts.Session.{Session}
 use Rattle.aprs_history.specs.declared.verdicts.Verdict.{Verdict}
-use Rattle.aprs_history.specs.declared.verdicts.Verdict.TheVariants.{PassedOver, Refused, LoggedIn, Accepted}
+use Rattle.aprs_history.specs.declared.verdicts.Verdict.TheVariants.{PassedOver, Refused, LoggedIn, Filtered, Accepted}
 use Rattle.aprs_history.specs.Trace.{Trace, Opened, Brought, Said, Roomed, Took, Lost, moment_of, live_links}
 
 -- a link's opening: what it serves, where it came from, and when
@@ -37,9 +40,10 @@ brought_by (Brought from bytes ∷ earlier) link = if link == from then brought_
 brought_by (entry ∷ earlier) link = brought_by earlier link
 
 abbrev pub session_after : Verdict → Option Session → Option Session
-session_after (LoggedIn session) before = Some session
+session_after (LoggedIn session answer) before = Some session
 session_after PassedOver before = before
 session_after (Refused refusal) before = before
+session_after (Filtered answer) before = before
 session_after (Accepted parts line) before = before
 
 -- the last accepted login
@@ -48,6 +52,26 @@ session_of [] link = None
 session_of (Opened serves opened from ∷ earlier) link = if link == opened then None else session_of earlier link
 session_of (Said by cut verdict ∷ earlier) link = if link == by then session_after verdict (session_of earlier link) else session_of earlier link
 session_of (entry ∷ earlier) link = session_of earlier link
+
+-- a filter that is refused leaves the one before
+abbrev pub filter_by : FilterAnswer → List TermSeen → List TermSeen
+filter_by (Active terms reply) before = terms
+filter_by (Denied fault) before = before
+
+abbrev pub filter_after : Verdict → List TermSeen → List TermSeen
+filter_after (LoggedIn session None) before = before
+filter_after (LoggedIn session (Some answer)) before = filter_by answer before
+filter_after (Filtered answer) before = filter_by answer before
+filter_after PassedOver before = before
+filter_after (Refused refusal) before = before
+filter_after (Accepted parts line) before = before
+
+-- the last filter that was accepted, or else the empty one
+abbrev pub filter_of : Trace → ℕ → List TermSeen
+filter_of [] link = []
+filter_of (Opened serves opened from ∷ earlier) link = if link == opened then [] else filter_of earlier link
+filter_of (Said by cut verdict ∷ earlier) link = if link == by then filter_after verdict (filter_of earlier link) else filter_of earlier link
+filter_of (entry ∷ earlier) link = filter_of earlier link
 
 -- how many bytes of its text it took
 abbrev pub taken_by : Trace → ℕ → ℕ

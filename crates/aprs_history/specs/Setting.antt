@@ -1,5 +1,5 @@
 -- What a history is judged by: the server's call, and its numbered listeners.
-use Rattle.std.specs.Prelude.{ℕ, List, Option, Some, None, slice_get}
+use Rattle.std.specs.Prelude.{ℕ, Bool, true, false, List, Option, Some, None, slice_get}
 use Rattle.aprs_base.specs.declared.packets.ListenSpec.{ListenSpec}
 use Rattle.aprs_base.specs.declared.packets.PortKind.{PortKind}
 use Rattle.aprs_base.specs.declared.packets.PortKind.TheVariants as kind
@@ -24,3 +24,12 @@ kind_of_spec (Some spec) = client_kind spec.kind
 -- what the listener of that number serves to clients
 abbrev pub kind_at : Setting → ℕ → Option PortKind
 kind_at setting listener = kind_of_spec (slice_get setting.listens listener)
+
+-- the kinds of port whose links have a filter
+abbrev pub is_filter_kind : PortKind → Bool
+is_filter_kind kind.Igate = true
+is_filter_kind kind.Only = true
+is_filter_kind kind.Full = false
+is_filter_kind kind.Dupe = false
+is_filter_kind kind.Submit = false
+is_filter_kind kind.Core = false

@@ -2,11 +2,16 @@
 use Rattle.std.specs.Prelude.{◌≡◌, ℕ, ◌≤◌, Bool, List, length, map, Option}
 use Rattle.aprs_base.specs.Held.{Held, held_after}
 use Rattle.aprs_base.specs.PacketSeen.{PacketSeen}
+use Rattle.filter_lang.specs.Terms.{TermSeen}
+use Rattle.filter_eval.specs.declared.seen.Seen.{Seen}
+use Rattle.station_table.specs.Stations.{StationsSeen}
+use Rattle.station_table.specs.Last.{Agrees}
 use Rattle.aprs_history.specs.Setting.{Setting}
 use Rattle.aprs_history.specs.declared.verdicts.Session.{Session}
 use Rattle.aprs_history.specs.Trace.{Trace, moment_of, served_links}
-use Rattle.aprs_history.specs.Links.{Opening, opening_of, last_heard, brought_by, session_of, taken_by, is_blocked, is_gone}
+use Rattle.aprs_history.specs.Links.{Opening, opening_of, last_heard, brought_by, session_of, filter_of, taken_by, is_blocked, is_gone}
 use Rattle.aprs_history.specs.Scenes.{accepted_of}
+use Rattle.aprs_history.specs.Sights.{friends_of, own_place}
 use Rattle.aprs_history.specs.Texts.{Queued, queued, lines_of, text_bytes}
 use Rattle.aprs_history.specs.History.{History, open_events, is_stopped, greatest_link, trace_of}
 
@@ -17,6 +22,9 @@ pub record LinkSeen : Type 0 where
   pub last : ℕ
   pub held : Held
   pub session : Option Session
+  pub filter : List TermSeen
+  pub friends : List (Option Seen)
+  pub mine : Option Seen
   pub queue : Queued
   pub blocked : Bool
   pub gone : Bool
@@ -26,11 +34,13 @@ pub record CoreSeen : Type 0 where
   pub moment : ℕ
   pub links : List LinkSeen
   pub accepted : List PacketSeen
+  pub stations : StationsSeen
   pub greatest : ℕ
   pub stopped : Bool
 
--- what there is to keep of a link: its opening, its last bytes' moment, the rest of its bytes, its login,
--- the lines that it hasn't wholly taken, and whether it is blocked or was found gone
+-- what there is to keep of a link: its opening, its last bytes' moment, the rest of its bytes, its login, its filter with where
+-- the calls that it names were last seen, where its own login was, the lines that it hasn't wholly taken, and whether it is
+-- blocked or was found gone
 unfoldable pub link_seen : Setting → Trace → ℕ → LinkSeen
 link_seen setting trace link = record {
   link = link;
@@ -38,6 +48,9 @@ link_seen setting trace link = record {
   last = last_heard trace link;
   held = held_after (brought_by trace link);
   session = session_of trace link;
+  filter = filter_of trace link;
+  friends = friends_of trace link;
+  mine = own_place trace link;
   queue = queued (lines_of setting trace link) (taken_by trace link);
   blocked = is_blocked trace link;
   gone = is_gone trace link;
@@ -52,6 +65,7 @@ pub record Follows (setting : Setting) (core : CoreSeen) (trace : Trace) : Type 
   pub moment : core.moment ≡ moment_of trace
   pub links : core.links ≡ map (link_seen setting trace) (served_links trace)
   pub accepted : core.accepted ≡ accepted_of trace
+  pub stations : Agrees core.stations (accepted_of trace)
   pub took : TookNoMore setting trace
 
 -- a core stands for a history whose rounds are finished

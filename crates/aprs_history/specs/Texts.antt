@@ -1,18 +1,26 @@
 -- The text that each link is to take, line by line, and what of it is still to be taken.
 use Rattle.std.specs.Prelude.{ℕ, ◌==◌, ◌+◌, ◌-◌, ◌&&◌, Bool, true, false, not, nat_le, is_some, List, [], ◌∷◌, ◌++◌, length, drop, codes, Option, Some, None, if◌then◌else◌}
 use Rattle.std.specs.List.{flat_map}
+use Rattle.std.specs.Fmt.{decimal}
+use Rattle.aprs_base.specs.PacketSeen.{PacketSeen}
 use Rattle.aprs_base.specs.declared.packets.PortKind.{PortKind}
 use Rattle.aprs_base.specs.declared.packets.PortKind.TheVariants as kind
 use Rattle.aprs_history.specs.Setting.{Setting}
 use Rattle.login_pass.specs.declared.login_line.LoginFault.{LoginFault}
 use Rattle.login_pass.specs.declared.login_line.LoginFault.TheVariants as fault
+use Rattle.aprs_history.specs.declared.verdicts.FilterAnswer.{FilterAnswer}
+use Rattle.aprs_history.specs.declared.verdicts.FilterAnswer.TheVariants.{Active, Denied}
+use Rattle.aprs_history.specs.declared.verdicts.FilterFault.{FilterFault}
+use Rattle.aprs_history.specs.declared.verdicts.FilterFault.TheVariants as filter_fault
 use Rattle.aprs_history.specs.declared.verdicts.Session.{Session}
 use Rattle.aprs_history.specs.declared.verdicts.Refusal.{Refusal}
 use Rattle.aprs_history.specs.declared.verdicts.Refusal.TheVariants as refusal
 use Rattle.aprs_history.specs.declared.verdicts.Verdict.{Verdict}
-use Rattle.aprs_history.specs.declared.verdicts.Verdict.TheVariants.{PassedOver, Refused, LoggedIn, Accepted}
-use Rattle.aprs_history.specs.Trace.{Trace, Opened, Said, is_live}
+use Rattle.aprs_history.specs.declared.verdicts.Verdict.TheVariants.{PassedOver, Refused, LoggedIn, Filtered, Accepted}
+use Rattle.aprs_history.specs.Trace.{Trace, Opened, Said, is_live, moment_of}
 use Rattle.aprs_history.specs.Links.{Opening, opening_of, session_of, taken_by}
+use Rattle.aprs_history.specs.Scenes.{packet_of}
+use Rattle.aprs_history.specs.Sights.{filter_passes}
 
 -- a line with its end, and lines one after another
 abbrev pub ended_line : List ℕ → List ℕ
@@ -51,6 +59,28 @@ refusal_reply (refusal.Packet why) = None
 refusal_reply (refusal.Path why) = None
 refusal_reply refusal.Duplicate = None
 
+-- what is told of a filter that is refused
+abbrev pub refused_filter : List ℕ → List ℕ
+refused_filter words = codes "# filter refused, " ++ words
+
+abbrev pub excess_words : ℕ → List ℕ
+excess_words letter = if letter == 42 then codes "too many terms" else codes "too many " ++ letter ∷ []
+
+abbrev pub filter_words : FilterFault → List ℕ
+filter_words filter_fault.NoFilters = codes "this port has no filter"
+filter_words filter_fault.Long = codes "too long"
+filter_words (filter_fault.Term n) = codes "term " ++ decimal n
+filter_words (filter_fault.TooMany letter) = excess_words letter
+
+-- the reply to a filter
+abbrev pub filter_reply : FilterAnswer → List ℕ
+filter_reply (Active terms reply) = reply
+filter_reply (Denied why) = refused_filter (filter_words why)
+
+abbrev pub login_filter_reply : Option FilterAnswer → List (List ℕ)
+login_filter_reply None = []
+login_filter_reply (Some answer) = filter_reply answer ∷ []
+
 abbrev pub reply_lines : Option (List ℕ) → List (List ℕ)
 reply_lines None = []
 reply_lines (Some line) = line ∷ []
@@ -59,29 +89,33 @@ abbrev pub banner_of : Option PortKind → List (List ℕ)
 banner_of None = []
 banner_of (Some kind) = banner ∷ []
 
--- what a port of each kind sends of the accepted packets of others
-abbrev pub is_full_kind : PortKind → Bool
-is_full_kind kind.Full = true
-is_full_kind kind.Igate = false
-is_full_kind kind.Only = false
-is_full_kind kind.Dupe = false
-is_full_kind kind.Submit = false
-is_full_kind kind.Core = false
+-- whether a port of that kind sends an accepted packet of another link, as the link's filter passes it or not
+abbrev pub kind_wants : PortKind → Bool → Bool
+kind_wants kind.Full passes = true
+kind_wants kind.Igate passes = passes
+kind_wants kind.Only passes = passes
+kind_wants kind.Dupe passes = false
+kind_wants kind.Submit passes = false
+kind_wants kind.Core passes = false
 
-abbrev pub kind_wants : Option Opening → Bool
-kind_wants None = false
-kind_wants (Some opening) = is_full_kind opening.kind
+abbrev pub port_wants : Option Opening → Bool → Bool
+port_wants None passes = false
+port_wants (Some opening) passes = kind_wants opening.kind passes
 
--- whether a link is sent an accepted packet: it lives, has logged in, isn't the one that it came from, and its port's kind wants it
-abbrev pub wants : Trace → ℕ → ℕ → Bool
-wants trace from link = not (from == link) && is_live trace link && is_some (session_of trace link) && kind_wants (opening_of trace link)
+-- whether a link is sent an accepted packet: it lives, has logged in, isn't the one that it came from, and its port wants it
+abbrev pub wants : Trace → ℕ → PacketSeen → ℕ → Bool
+wants trace from packet link =
+    not (from == link) && is_live trace link && is_some (session_of trace link) && port_wants (opening_of trace link) (filter_passes trace packet link)
 
 -- what a verdict on a line of one link adds to the text of another or of the same
 abbrev pub added_by : Setting → Trace → ℕ → Verdict → ℕ → List (List ℕ)
 added_by setting earlier from PassedOver link = []
 added_by setting earlier from (Refused why) link = if link == from then reply_lines (refusal_reply why) else []
-added_by setting earlier from (LoggedIn session) link = if link == from then login_reply setting.server session ∷ [] else []
-added_by setting earlier from (Accepted parts line) link = if wants earlier from link then line ∷ [] else []
+added_by setting earlier from (LoggedIn session answer) link =
+    if link == from then login_reply setting.server session ∷ login_filter_reply answer else []
+added_by setting earlier from (Filtered answer) link = if link == from then filter_reply answer ∷ [] else []
+added_by setting earlier from (Accepted parts line) link =
+    if wants earlier from (packet_of from (moment_of earlier) parts line) link then line ∷ [] else []
 
 -- the lines of a link's text, in order, from its opening on
 abbrev pub lines_of : Setting → Trace → ℕ → List (List ℕ)

@@ -1,31 +1,41 @@
 -- What becomes of a line: each line has one verdict (aprs-is.net, Connecting, and q Construct).
-use Rattle.std.specs.Prelude.{ℕ, ◌-◌, ◌==◌, ◌&&◌, Bool, nat_lt, List, codes, Option, Some, None, Result, Ok, Err, if◌then◌else◌}
-use Rattle.std.specs.List.{list_any, starts_with}
+use Rattle.std.specs.Prelude.{ℕ, ◌-◌, ◌==◌, ◌&&◌, Bool, true, nat_lt, List, [], ◌∷◌, ◌++◌, take, drop, codes, Option, Some, None, option_map, Result, Ok, Err, if◌then◌else◌}
+use Rattle.std.specs.List.{list_any, prefix_len, starts_with}
+use Rattle.aprs_base.specs.Bytes.{is_blank}
 use Rattle.aprs_base.specs.PacketSeen.{PacketSeen}
 use Rattle.aprs_base.specs.declared.packets.Parts.{Parts}
 use Rattle.aprs_base.specs.declared.cutting.Cut.{Cut}
 use Rattle.aprs_base.specs.declared.cutting.Cut.TheVariants as cut
 use Rattle.tnc2_line.specs.Packet.{parts_of, text_of}
 use Rattle.tnc2_line.specs.declared.reading.LineFault.{LineFault}
-use Rattle.login_pass.specs.Login.{login_of, is_verified}
+use Rattle.login_pass.specs.Login.{login_of, is_keyword, is_verified, trimmed}
 use Rattle.login_pass.specs.declared.login_line.Login.{Login}
 use Rattle.login_pass.specs.declared.login_line.LoginFault.{LoginFault}
+use Rattle.filter_lang.specs.Canonical.{canonical}
+use Rattle.filter_lang.specs.Grammar.{terms_of}
+use Rattle.filter_lang.specs.Terms.{TermSeen}
+use Rattle.filter_lang.specs.declared.errors.FilterError.{FilterError}
+use Rattle.filter_lang.specs.declared.errors.FilterError.TheVariants as error
 use Rattle.q_construct.specs.Rule.{process_of}
 use Rattle.q_construct.specs.declared.origins.Origin.{Origin}
 use Rattle.q_construct.specs.declared.origins.Origin.TheVariants as origin
 use Rattle.q_construct.specs.declared.drops.QDrop.{QDrop}
 use Rattle.aprs_history.specs.Keys.{Key, key_of, is_same_key, is_text}
+use Rattle.aprs_history.specs.declared.verdicts.FilterAnswer.{FilterAnswer}
+use Rattle.aprs_history.specs.declared.verdicts.FilterAnswer.TheVariants.{Active, Denied}
+use Rattle.aprs_history.specs.declared.verdicts.FilterFault.TheVariants as filter_fault
 use Rattle.aprs_history.specs.declared.verdicts.Session.{Session}
 use Rattle.aprs_history.specs.declared.verdicts.Refusal.{Refusal}
 use Rattle.aprs_history.specs.declared.verdicts.Refusal.TheVariants as refusal
 use Rattle.aprs_history.specs.declared.verdicts.Verdict.{Verdict}
-use Rattle.aprs_history.specs.declared.verdicts.Verdict.TheVariants.{PassedOver, Refused, LoggedIn, Accepted}
+use Rattle.aprs_history.specs.declared.verdicts.Verdict.TheVariants.{PassedOver, Refused, LoggedIn, Filtered, Accepted}
 
--- what a line meets: the server's call; whether the link's port is for clients alone; the link's login, and those of the other
--- verified links; and the packets that were accepted before, up to this moment
+-- what a line meets: the server's call; whether the link's port is for clients alone, and whether it has filters; the link's
+-- login, and those of the other verified links; and the packets that were accepted before, up to this moment
 pub record Scene : Type 0 where
   pub server : List ℕ
   pub only : Bool
+  pub filters : Bool
   pub session : Option Session
   pub others : List (List ℕ)
   pub moment : ℕ
@@ -35,11 +45,67 @@ pub record Scene : Type 0 where
 abbrev pub is_comment : List ℕ → Bool
 is_comment text = starts_with ◌==◌ text (codes "#")
 
+-- ---- filters (aprs-is.net, Server-side Filter Commands)
+
+-- the reply to a filter that holds from now on
+abbrev pub active_reply : List TermSeen → List ℕ
+active_reply terms = codes "# filter " ++ (canonical terms ++ codes " active")
+
+-- what becomes of a filter that reads so; no text reads as want of memory
+abbrev pub answer_by : Result (List TermSeen) FilterError → FilterAnswer
+answer_by (Ok terms) = Active terms (active_reply terms)
+answer_by (Err error.Long) = Denied filter_fault.Long
+answer_by (Err (error.Term n)) = Denied (filter_fault.Term n)
+answer_by (Err (error.TooMany letter)) = Denied (filter_fault.TooMany letter)
+answer_by (Err error.Memory) = Denied filter_fault.Long
+
+-- what becomes of a filter's text, on a port with filters or without
+abbrev pub answer_of : Bool → List ℕ → FilterAnswer
+answer_of filters text = if filters then answer_by (terms_of text) else Denied filter_fault.NoFilters
+
+-- so many bytes from there
+abbrev pub text_at : List ℕ → ℕ × ℕ → List ℕ
+text_at line at = take at.1 (drop at.0 line)
+
+-- the text without the blanks at both ends
+abbrev pub unpadded : List ℕ → List ℕ
+unpadded text = text_at text (trimmed 0 text)
+
+abbrev pub ends_word : List ℕ → Bool
+ends_word [] = true
+ends_word (b ∷ bytes) = is_blank b
+
+-- what follows the word `filter`, which has no case
+abbrev pub after_filter : List ℕ → Option (List ℕ)
+after_filter text = if is_keyword (codes "filter") (take 6 text) && ends_word (drop 6 text) then Some (drop 6 text) else None
+
+abbrev pub without_first_blanks : List ℕ → List ℕ
+without_first_blanks text = drop (prefix_len is_blank text) text
+
+-- the filter that a command sets: `#`, perhaps blanks, the word `filter`, and then the text up to the line's end
+abbrev pub filter_command : List ℕ → Option (List ℕ)
+filter_command line = option_map unpadded (after_filter (without_first_blanks (drop 1 line)))
+
+-- a comment or command, which only a link that has logged in may give
+abbrev pub command_verdict : Bool → Option Session → Option (List ℕ) → Verdict
+command_verdict filters None text = PassedOver
+command_verdict filters (Some session) None = PassedOver
+command_verdict filters (Some session) (Some text) = Filtered (answer_of filters text)
+
+-- ---- logins
+
+-- what becomes of a login's filter, where it has one
+abbrev pub login_answer : Bool → List ℕ → Option (ℕ × ℕ) → Option FilterAnswer
+login_answer filters line at = option_map (λ place. answer_of filters (text_at line place)) at
+
 -- a login is good where it isn't the server's own call
-abbrev pub login_verdict : List ℕ → Result Login LoginFault → Verdict
-login_verdict server (Err fault) = Refused (refusal.Login fault)
-login_verdict server (Ok login) =
-    if is_text login.call server then Refused refusal.OwnName else LoggedIn (record { call = login.call; verified = is_verified login })
+abbrev pub login_verdict : List ℕ → Bool → List ℕ → Result Login LoginFault → Verdict
+login_verdict server filters line (Err fault) = Refused (refusal.Login fault)
+login_verdict server filters line (Ok login) =
+    if is_text login.call server then Refused refusal.OwnName
+    else LoggedIn (record { call = login.call; verified = is_verified login }) (login_answer filters line login.filter)
+
+-- ---- packets
 
 abbrev pub client_origin : Bool → Session → Origin
 client_origin only session = origin.Client session.call session.verified only
@@ -66,11 +132,11 @@ packet_verdict now accepted (Ok parts) = if is_duplicate now accepted parts then
 
 -- the verdict on a line that is no comment: before the login it is a login, after it a packet
 abbrev pub line_verdict : Scene → Option Session → List ℕ → Verdict
-line_verdict scene None text = login_verdict scene.server (login_of text)
+line_verdict scene None text = login_verdict scene.server scene.filters text (login_of text)
 line_verdict scene (Some session) text =
     packet_verdict scene.moment scene.accepted (read_and_routed scene.server (client_origin scene.only session) scene.others (parts_of text))
 
 -- the verdict on what a link said
 abbrev pub verdict_of : Scene → Cut → Verdict
 verdict_of scene cut.Long = Refused refusal.Long
-verdict_of scene (cut.Line text) = if is_comment text then PassedOver else line_verdict scene scene.session text
+verdict_of scene (cut.Line text) = if is_comment text then command_verdict scene.filters scene.session (filter_command text) else line_verdict scene scene.session text

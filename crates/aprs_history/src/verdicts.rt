@@ -2,6 +2,7 @@
 ghost use Rattle.std.specs.Prelude.{◌≡◌};
 
 use aprs_base::{Call, Line, Parts};
+use filter_lang::FilterSet;
 use login_pass::LoginFault;
 use q_construct::QDrop;
 use tnc2_line::LineFault;
@@ -30,12 +31,37 @@ pub enum Refusal {
     Duplicate,
 }
 
+/// Why a filter is refused.
+#[derive(Clone, Copy, PartialEq, Eq, Debug)]
+pub enum FilterFault {
+    /// The port has no filters.
+    NoFilters,
+    /// Its text has more than 480 bytes.
+    Long,
+    /// The term of this number, counted from 1, is none.
+    Term(u16),
+    /// A tenth term of this letter, or a 65th term of any, with the letter `*`.
+    TooMany(u8),
+}
+
+/// What becomes of a filter.
+#[derive(Debug, Drop)]
+pub enum FilterAnswer {
+    /// It holds from now on. With it the reply, which has its canonical text.
+    Active(FilterSet, Line),
+    /// It is refused, and the link's filter stays as it is.
+    Denied(FilterFault),
+}
+
 /// What a line is: each has one verdict.
-#[derive(PartialEq, Eq, Debug, Drop)]
+#[derive(Debug, Drop)]
 pub enum Verdict {
     PassedOver,
     Refused(Refusal),
-    LoggedIn(Session),
+    /// A login, perhaps with a filter.
+    LoggedIn(Session, Option<FilterAnswer>),
+    /// A filter command.
+    Filtered(FilterAnswer),
     /// A packet, its parts and its line as they are sent on.
     Accepted(Parts, Line),
 }
