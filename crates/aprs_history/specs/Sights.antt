@@ -1,14 +1,15 @@
 -- Where stations were last seen as a link's filter meets them, and which packets it passes (aprs-is.net, Server-side Filter
 -- Commands).
-use Rattle.std.specs.Prelude.{ℕ, Bool, is_some, List, map, Option, Some, None}
+use Rattle.std.specs.Prelude.{ℕ, Bool, List, map, Option, Some, None}
 use Rattle.std.specs.Option.{option_and_then}
 use Rattle.aprs_base.specs.PacketSeen.{PacketSeen}
 use Rattle.filter_lang.specs.Terms.{TermSeen}
 use Rattle.filter_lang.specs.declared.terms.What.{What}
 use Rattle.filter_lang.specs.declared.terms.What.TheVariants as what
-use Rattle.filter_eval.specs.Passes.{fresh, passes_of}
+use Rattle.filter_eval.specs.Passes.{fresh, is_some_and, passes_of}
 use Rattle.filter_eval.specs.declared.seen.Seen.{Seen}
-use Rattle.station_table.specs.Last.{fresh_gate, last_gate, last_place}
+use Rattle.station_table.specs.Last.{last_gate, last_place}
+use Rattle.station_table.specs.Stations.{is_young}
 use Rattle.aprs_history.specs.declared.verdicts.Session.{Session}
 use Rattle.aprs_history.specs.Trace.{Trace, moment_of}
 use Rattle.aprs_history.specs.Links.{filter_of, session_of}
@@ -26,7 +27,7 @@ sighting accepted now call = fresh now (last_place accepted call)
 
 -- whether it is a gate
 abbrev pub is_gate_at : List PacketSeen → ℕ → List ℕ → Bool
-is_gate_at accepted now call = is_some (fresh_gate now (last_gate accepted call))
+is_gate_at accepted now call = is_some_and (is_young now) (last_gate accepted call)
 
 -- where the call that a term names was last seen
 abbrev pub friend_in : List PacketSeen → ℕ → TermSeen → Option Seen

@@ -63,8 +63,13 @@ refusal_reply refusal.Duplicate = None
 abbrev pub refused_filter : List ℕ → List ℕ
 refused_filter words = codes "# filter refused, " ++ words
 
+-- the kinds of which there may be nine are `r`, `f` and `a`
 abbrev pub excess_words : ℕ → List ℕ
-excess_words letter = if letter == 42 then codes "too many terms" else codes "too many " ++ letter ∷ []
+excess_words letter =
+    if letter == 42 then codes "too many terms"
+    else if letter == 114 then codes "too many r"
+    else if letter == 102 then codes "too many f"
+    else codes "too many a"
 
 abbrev pub filter_words : FilterFault → List ℕ
 filter_words filter_fault.NoFilters = codes "this port has no filter"

@@ -1,16 +1,26 @@
 -- What each happening changes of a link.
-use Rattle.std.specs.Prelude.{◌≡◌, ℕ, ◌<◌, ◌==◌, ◌≤◌, Bool, true, false, nat_lt, List, [], ◌∷◌, ◌++◌, length, map, not, ◌&&◌, is_some, Option, Some, None, if◌then◌else◌}
-use Rattle.std.specs.List.{list_any, flat_map}
+use Rattle.std.specs.Prelude.{◌≡◌, ℕ, ◌<◌, ◌==◌, ◌≤◌, Bool, true, false, nat_le, nat_lt, List, [], ◌∷◌, ◌++◌, length, map, not, ◌&&◌, is_some, Option, Some, None, if◌then◌else◌}
+use Rattle.std.specs.List.{list_any, flat_map, zip}
+use Rattle.std.specs.Option.{option_and_then}
+use Rattle.aprs_base.specs.PacketSeen.{PacketSeen}
 use Rattle.aprs_base.specs.Bytes.{is_station}
 use Rattle.aprs_base.specs.Held.{Held, held_after}
+use Rattle.filter_lang.specs.Terms.{TermSeen}
+use Rattle.filter_eval.specs.Passes.{fresh, is_some_and, is_text, passes_of}
+use Rattle.filter_eval.specs.declared.seen.Seen.{Seen}
+use Rattle.station_table.specs.Stations.{StationsSeen, gate_at, is_young, noted, place_at, seen_in}
+use Rattle.aprs_history.specs.declared.verdicts.FilterAnswer.{FilterAnswer}
+use Rattle.aprs_history.specs.declared.verdicts.FilterAnswer.TheVariants.{Active, Denied}
 use Rattle.aprs_history.specs.declared.verdicts.Session.{Session}
 use Rattle.aprs_history.specs.Stands.{LinkSeen, CoreSeen}
 use Rattle.aprs_history.specs.Trace.{is_member}
 use Rattle.aprs_history.specs.Links.{Opening}
 use Rattle.aprs_history.specs.declared.verdicts.Verdict.{Verdict}
-use Rattle.aprs_history.specs.declared.verdicts.Verdict.TheVariants.{PassedOver, Refused, LoggedIn, Accepted}
-use Rattle.aprs_history.specs.Scenes.{accepted_by, is_only, verified_login}
-use Rattle.aprs_history.specs.Texts.{kind_wants, banner, login_reply, refusal_reply}
+use Rattle.aprs_history.specs.declared.verdicts.Verdict.TheVariants.{PassedOver, Refused, LoggedIn, Filtered, Accepted}
+use Rattle.aprs_history.specs.Scenes.{has_filters, is_only, packet_of, verified_login}
+use Rattle.aprs_history.specs.Sights.{named_call}
+use Rattle.aprs_history.specs.Texts.{banner, filter_reply, filter_words, login_reply, port_wants, refusal_reply, refused_filter}
+use Rattle.server_core.specs.declared.link.SourcePlace.{SourcePlace}
 use Rattle.server_core.specs.Pending.{with_line, without_bytes, pending_bytes}
 
 abbrev pub has_that : ℕ → LinkSeen → Bool
@@ -35,8 +45,54 @@ with_bytes moment held link = record link { last = moment; held = held }
 abbrev pub with_text : List ℕ → LinkSeen → LinkSeen
 with_text line link = record link { queue = with_line link.queue line }
 
-abbrev pub with_session : Session → List ℕ → LinkSeen → LinkSeen
-with_session session reply link = record link { session = Some session; queue = with_line link.queue reply }
+abbrev pub with_session : Session → Option Seen → List ℕ → LinkSeen → LinkSeen
+with_session session mine reply link = record link { session = Some session; mine = mine; queue = with_line link.queue reply }
+
+-- where a call was last seen, by a table
+abbrev pub place_young : ℕ → StationsSeen → List ℕ → Option Seen
+place_young now stations call = fresh now (place_at stations call)
+
+-- where the call that a term names was last seen
+abbrev pub found_in : ℕ → StationsSeen → TermSeen → Option Seen
+found_in now stations term = option_and_then (place_young now stations) (named_call term.what)
+
+abbrev pub with_filter : List TermSeen → List (Option Seen) → List ℕ → LinkSeen → LinkSeen
+with_filter terms friends reply link = record link { filter = terms; friends = friends; queue = with_line link.queue reply }
+
+-- after an answer to a filter, where the calls that its terms name are found so
+abbrev pub with_answer : (TermSeen → Option Seen) → FilterAnswer → LinkSeen → LinkSeen
+with_answer found (Active terms reply) link = with_filter terms (map found terms) reply link
+with_answer found (Denied why) link = with_text (refused_filter (filter_words why)) link
+
+-- whether a term names a call whose position it asks for
+abbrev pub is_named : List ℕ → TermSeen → Bool
+is_named call term = is_some_and (is_text call) (named_call term.what)
+
+abbrev pub names_one : List ℕ → List TermSeen → Bool
+names_one call terms = list_any (is_named call) terms
+
+-- where a term's call was last seen, once a station was seen
+abbrev pub friend_seen : List ℕ → Seen → TermSeen × Option Seen → Option Seen
+friend_seen call seen term = if is_named call term.0 then Some seen else term.1
+
+-- where the link's own login was
+abbrev pub login_seen : List ℕ → Seen → Option Session → Option Seen → Option Seen
+login_seen call seen None before = before
+login_seen call seen (Some session) before = if is_text call session.call then Some seen else before
+
+-- a station was seen
+abbrev pub with_seen : List ℕ → Option Seen → LinkSeen → LinkSeen
+with_seen call None link = link
+with_seen call (Some seen) link =
+    record link { friends = map (friend_seen call seen) (zip link.filter link.friends); mine = login_seen call seen link.session link.mine }
+
+-- what an accepted packet says of where its source is
+abbrev pub with_places : PacketSeen → LinkSeen → LinkSeen
+with_places packet link = with_seen packet.parts.source (seen_in packet) link
+
+-- positions that count no more are let go
+abbrev pub at_moment : ℕ → LinkSeen → LinkSeen
+at_moment now link = record link { friends = map (fresh now) link.friends; mine = fresh now link.mine }
 
 abbrev pub number_of : LinkSeen → ℕ
 number_of link = link.link
@@ -78,12 +134,21 @@ session_at number links = picked_at session_kept None number links
 abbrev pub held_at : ℕ → List LinkSeen → Option Held
 held_at number links = picked_at held_kept None number links
 
--- whether a link is sent an accepted packet of another
-abbrev pub wants_packet : ℕ → LinkSeen → Bool
-wants_packet from link = not (from == link.link) && is_some link.session && kind_wants link.opening
+-- whether the link's filter passes a packet
+abbrev pub passes_packet : PacketSeen → SourcePlace → LinkSeen → Bool
+passes_packet packet source link = passes_of link.filter packet link.friends link.mine source.place source.gate
 
-abbrev pub with_packet : ℕ → List ℕ → LinkSeen → LinkSeen
-with_packet from line link = if wants_packet from link then with_text line link else link
+-- whether a link is sent an accepted packet of another
+abbrev pub wants_packet : ℕ → PacketSeen → SourcePlace → LinkSeen → Bool
+wants_packet from packet source link =
+    not (from == link.link) && is_some link.session && port_wants link.opening (passes_packet packet source link)
+
+abbrev pub with_copy : ℕ → PacketSeen → SourcePlace → LinkSeen → LinkSeen
+with_copy from packet source link = if wants_packet from packet source link then with_text packet.line link else link
+
+-- it is tested by what was known before it
+abbrev pub with_packet : ℕ → PacketSeen → SourcePlace → LinkSeen → LinkSeen
+with_packet from packet source link = with_places packet (with_copy from packet source link)
 
 -- a link that has just been opened
 abbrev pub new_link_seen : ℕ → Opening → LinkSeen
@@ -93,6 +158,9 @@ new_link_seen number opening = record {
   last = opening.moment;
   held = held_after [];
   session = None;
+  filter = [];
+  friends = [];
+  mine = None;
   queue = record { lines = banner ∷ []; offset = 0 };
   blocked = false;
   gone = false;
@@ -115,6 +183,13 @@ only_kept link = is_only link.opening
 abbrev pub only_at : ℕ → List LinkSeen → Bool
 only_at number links = picked_at only_kept false number links
 
+-- whether its port has filters
+abbrev pub filters_kept : LinkSeen → Bool
+filters_kept link = has_filters link.opening
+
+abbrev pub filters_at : ℕ → List LinkSeen → Bool
+filters_at number links = picked_at filters_kept false number links
+
 -- a login is a station's call
 abbrev pub is_login : Option Session → Bool
 is_login None = true
@@ -136,14 +211,48 @@ abbrev pub with_reply : ℕ → Option (List ℕ) → List LinkSeen → List Lin
 with_reply number None links = links
 with_reply number (Some line) links = map (at_link number (with_text line)) links
 
+-- where a call was last seen, by the table
+abbrev pub sighting_in : CoreSeen → List ℕ → Option Seen
+sighting_in core call = place_young core.moment core.stations call
+
+abbrev pub source_found : CoreSeen → List ℕ → SourcePlace
+source_found core call = record { place = sighting_in core call; gate = is_some_and (is_young core.moment) (gate_at core.stations call) }
+
+-- what is kept after an answer to a filter
+abbrev pub after_answer : ℕ → FilterAnswer → CoreSeen → CoreSeen
+after_answer number answer core = record core { links = map (at_link number (with_answer (found_in core.moment core.stations) answer)) core.links }
+
+abbrev pub after_login_answer : ℕ → Option FilterAnswer → CoreSeen → CoreSeen
+after_login_answer number None core = core
+after_login_answer number (Some answer) core = after_answer number answer core
+
+abbrev pub after_login : List ℕ → ℕ → Session → CoreSeen → CoreSeen
+after_login server number session core =
+    record core { links = map (at_link number (with_session session (sighting_in core session.call) (login_reply server session))) core.links }
+
+abbrev pub after_packet : ℕ → PacketSeen → CoreSeen → CoreSeen
+after_packet number packet core = record core {
+  links = map (with_packet number packet (source_found core packet.parts.source)) core.links;
+  accepted = core.accepted ++ packet ∷ [];
+  stations = noted packet core.stations;
+}
+
 -- what is kept after a verdict on what a link said
 abbrev pub after_verdict : List ℕ → ℕ → Verdict → CoreSeen → CoreSeen
 after_verdict server number PassedOver core = core
 after_verdict server number (Refused why) core = record core { links = with_reply number (refusal_reply why) core.links }
-after_verdict server number (LoggedIn session) core =
-    record core { links = map (at_link number (with_session session (login_reply server session))) core.links }
-after_verdict server number (Accepted parts line) core =
-    record core { links = map (with_packet number line) core.links; accepted = core.accepted ++ accepted_by number core.moment (Accepted parts line) }
+after_verdict server number (LoggedIn session answer) core = after_login_answer number answer (after_login server number session core)
+after_verdict server number (Filtered answer) core = after_answer number answer core
+after_verdict server number (Accepted parts line) core = after_packet number (packet_of number core.moment parts line) core
+
+-- a filter has 64 terms at most
+abbrev pub has_few : FilterAnswer → Bool
+has_few (Active terms reply) = nat_le (length terms) 64
+has_few (Denied why) = true
+
+abbrev pub all_few : Option FilterAnswer → Bool
+all_few None = true
+all_few (Some answer) = has_few answer
 
 -- each of these numbers is a link's
 abbrev pub AreServed : List ℕ → List LinkSeen → Type 0

@@ -10,7 +10,7 @@ use Rattle.aprs_history.specs.Scenes.{scene_of}
 use Rattle.aprs_history.specs.Verdicts.{Scene, verdict_of}
 use Rattle.aprs_history.specs.History.{greater_link, is_stop}
 use Rattle.aprs_history.specs.Stands.{Follows}
-use Rattle.server_core.specs.LinkSteps.{after_verdict, only_at, others_at, session_at}
+use Rattle.server_core.specs.LinkSteps.{after_verdict, filters_at, only_at, others_at, session_at}
 use Rattle.server_core.specs.Meaning.{CoreMeaning, setting_of}
 
 -- the core follows the trace so far, and no stop has come
@@ -39,6 +39,7 @@ abbrev pub scene_at : CoreMeaning → ℕ → Scene
 scene_at core number = record {
   server = core.conf.server;
   only = only_at number core.seen.links;
+  filters = filters_at number core.seen.links;
   session = session_at number core.seen.links;
   others = others_at number core.seen.links;
   moment = core.seen.moment;

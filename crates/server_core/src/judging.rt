@@ -1,17 +1,22 @@
 //! The verdict on a line.
-ghost use Rattle.std.specs.Prelude.{◌≡◌, ◌-◌, ◌≤◌, ◌&&◌, IsTrue, IfOk, Result, length};
-ghost use Rattle.std.specs.List.{suffix_len};
+ghost use Rattle.std.specs.Prelude.{◌≡◌, ◌-◌, ◌≤◌, ◌&&◌, IsTrue, IfOk, Option, Result, is_some, length, option_map};
+ghost use Rattle.std.specs.List.{prefix_len, suffix_len};
+ghost use Rattle.filter_lang.specs.Grammar.{terms_of};
+ghost use Rattle.aprs_history.specs.declared.verdicts.Session.{Session};
 ghost use Rattle.aprs_base.specs.Bytes.{is_blank, is_station};
 ghost use Rattle.aprs_history.specs.Keys.{is_same_key, key_of, without_last_blanks};
-ghost use Rattle.aprs_history.specs.Verdicts.{is_comment, is_duplicate, is_repeat, login_verdict, packet_verdict, read_and_routed};
+ghost use Rattle.aprs_history.specs.Verdicts.{after_filter, answer_by, answer_of, command_verdict, filter_command, is_comment, is_duplicate, is_repeat, login_answer, login_verdict, packet_verdict, read_and_routed, text_at, unpadded};
 ghost use Rattle.login_pass.specs.Login.{login_of};
 ghost use Rattle.q_construct.specs.Rule.{has_station};
 ghost use Rattle.tnc2_line.specs.Packet.{IsParts, parts_of, text_of};
 
-use aprs_base::{Call, Line, Packet, Parts};
-use aprs_history::{Refusal, Session, Verdict};
+use crate::replies::active_line;
+use aprs_base::{Call, Line, Memory, Packet, Parts};
+use aprs_history::{FilterAnswer, FilterFault, Refusal, Session, Verdict};
+use filter_lang::FilterError;
 use login_pass::read_login;
 use q_construct::{Origin, process};
+use std::alloc::Global;
 use tnc2_line::{read, write};
 
 /// For how many seconds a packet is taken as a copy of one that was accepted.
@@ -24,19 +29,137 @@ pub(crate) fn is_comment_line(line: &Line) -> bool
     line.bytes().starts_with(b"#")
 }
 
+/// How many blanks a text begins with.
+fn first_blanks(text: &[u8]) -> usize
+    ensures { result ≡ prefix_len is_blank text.now }
+{
+    text.iter().take_while(|byte| **byte == b' ').count()
+}
+
+/// So many bytes from there on, as far as there are.
+fn text_at(text: &[u8], start: usize, count: usize) -> &[u8]
+    ensures { result.now ≡ text_at text.now (start, count) }
+{
+    let rest = &text[start.min(text.len())..];
+    &rest[..count.min(rest.len())]
+}
+
+/// The text without the blanks at both ends.
+fn unpadded(text: &[u8]) -> &[u8]
+    ensures { result.now ≡ unpadded text.now }
+{
+    let first = first_blanks(text);
+    let count = text
+        .len()
+        .saturating_sub(first)
+        .saturating_sub(last_blanks(text));
+    text_at(text, first, count)
+}
+
+/// What follows the word `filter`, where the text is it or begins with it and a blank.
+fn after_filter(text: &[u8]) -> Option<&[u8]>
+    ensures { option_map (λ rest. rest.now) result ≡ after_filter text.now }
+{
+    let (word, rest) = text.split_at(text.len().min(6));
+    if !word.eq_ignore_ascii_case(b"filter") {
+        return None;
+    }
+    match rest {
+        [] | [b' ', ..] => Some(rest),
+        _ => None,
+    }
+}
+
+/// The filter that a command sets: `#`, perhaps blanks, the word `filter`, and then the filter.
+fn filter_command(line: &Line) -> Option<&[u8]>
+    ensures { option_map (λ filter. filter.now) result ≡ filter_command line.now }
+{
+    let text = line.bytes();
+    let command = &text[text.len().min(1)..];
+    let rest = after_filter(&command[first_blanks(command)..])?;
+    Some(unpadded(rest))
+}
+
+/// What becomes of a filter whose text was read, or is off the grammar.
+fn answer_to(alloc: Global, text: &[u8]) -> Result<FilterAnswer, Memory>
+    ensures { IfOk result (λ answer. answer ≡ answer_by (terms_of text.now)) }
+{
+    match filter_lang::read(alloc, text) {
+        Ok(filter) => {
+            let line = active_line(alloc, text, &filter)?;
+            Ok(FilterAnswer::Active(filter, line))
+        }
+        Err(FilterError::Long) => Ok(FilterAnswer::Denied(FilterFault::Long)),
+        Err(FilterError::Term(number)) => Ok(FilterAnswer::Denied(FilterFault::Term(number))),
+        Err(FilterError::TooMany(letter)) => Ok(FilterAnswer::Denied(FilterFault::TooMany(letter))),
+        Err(FilterError::Memory) => Err(Memory),
+    }
+}
+
+/// What becomes of a filter's text, on a port with filters or without.
+fn answer(alloc: Global, filters: bool, text: &[u8]) -> Result<FilterAnswer, Memory>
+    ensures { IfOk result (λ answer. answer ≡ answer_of filters text.now) }
+{
+    if !filters {
+        return Ok(FilterAnswer::Denied(FilterFault::NoFilters));
+    }
+    answer_to(alloc, text)
+}
+
+/// The verdict on a comment or a command of a link that has logged in or hasn't.
+pub(crate) fn judge_command(
+    alloc: Global,
+    filters: bool,
+    session: bool,
+    line: &Line,
+) -> Result<Verdict, Memory>
+    ensures { (login : Option Session) → is_some login ≡ session → IfOk result (λ verdict. verdict ≡ command_verdict filters login (filter_command line.now)) }
+{
+    if !session {
+        return Ok(Verdict::PassedOver);
+    }
+    match filter_command(line) {
+        Some(text) => Ok(Verdict::Filtered(answer(alloc, filters, text)?)),
+        None => Ok(Verdict::PassedOver),
+    }
+}
+
+/// What becomes of a login's filter, where it has one.
+fn login_answer(
+    alloc: Global,
+    filters: bool,
+    line: &Line,
+    place: Option<(u16, u16)>,
+) -> Result<Option<FilterAnswer>, Memory>
+    ensures { IfOk result (λ given. given ≡ login_answer filters line.now place) }
+{
+    let Some((start, count)) = place else {
+        return Ok(None);
+    };
+    let text = text_at(line.bytes(), usize::from(start), usize::from(count));
+    Ok(Some(answer(alloc, filters, text)?))
+}
+
 /// The verdict on a login, which is good where it isn't the server's own call.
-pub(crate) fn judge_login(server: &Call, line: &Line) -> Verdict
-    ensures { result ≡ login_verdict server.now (login_of line.now) }
+pub(crate) fn judge_login(
+    alloc: Global,
+    server: &Call,
+    filters: bool,
+    line: &Line,
+) -> Result<Verdict, Memory>
+    ensures { IfOk result (λ verdict. verdict ≡ login_verdict server.now filters line.now (login_of line.now)) }
 {
     match read_login(line) {
-        Err(fault) => Verdict::Refused(Refusal::Login(fault)),
-        Ok(login) if login.call == *server => Verdict::Refused(Refusal::OwnName),
+        Err(fault) => Ok(Verdict::Refused(Refusal::Login(fault))),
+        Ok(login) if login.call == *server => Ok(Verdict::Refused(Refusal::OwnName)),
         Ok(login) => {
+            let answer = login_answer(alloc, filters, line, login.filter)?;
             let verified = login.verified();
-            Verdict::LoggedIn(Session {
+            let session = Session {
                 call: login.call,
                 verified,
-            })
+            };
+            Ok(Verdict::LoggedIn(session, answer))
         }
     }
 }

@@ -2,22 +2,35 @@
 ghost use Rattle.std.specs.Prelude.{◌≡◌, IsTrue, IfSome, ℕ, ◌≤◌, ◌<◌, List, ◌++◌, Some, None, OnOk, IfOk, length, min, take, option_map, true, false};
 ghost use Rattle.std.specs.Arc.{arc_value};
 ghost use Rattle.aprs_base.specs.Held.{held_after};
-ghost use Rattle.server_core.specs.LinkSteps.{is_ready, list_of, new_link_seen, number_of, wants_packet, when_gone, with_bytes, with_packet, with_room, with_session, with_taken, with_text};
+ghost use Rattle.server_core.specs.LinkSteps.{at_moment, is_ready, list_of, new_link_seen, number_of, passes_packet, wants_packet, when_gone, with_bytes, with_copy, with_filter, with_packet, with_room, with_seen, with_session, with_taken, with_text};
 ghost use Rattle.aprs_base.specs.Bytes.{IsLine, is_station};
 ghost use Rattle.aprs_history.specs.Verdicts.{client_origin};
-ghost use Rattle.aprs_history.specs.Scenes.{is_only, is_only_kind, verified_login};
+ghost use Rattle.aprs_history.specs.Scenes.{has_filters, is_only, is_only_kind, verified_login};
 ghost use Rattle.q_construct.specs.Rule.{has_station};
 ghost use Rattle.aprs_base.specs.Cuts.{cuts_by};
-ghost use Rattle.aprs_history.specs.Texts.{is_full_kind};
+ghost use Rattle.aprs_history.specs.Texts.{port_wants};
+ghost use Rattle.filter_eval.specs.Passes.{is_some_and, is_text};
 ghost use Rattle.server_core.specs.Pending.{pending_bytes};
 
+use crate::places::{forget_friends, see_friend, still_seen};
 use crate::queue::Queue;
-use aprs_base::{Addr, Call, Cut, Cutter, Line, Memory, PortKind, copy_call};
+use aprs_base::{Addr, Call, Cut, Cutter, Line, Memory, Packet, PortKind, copy_call};
 use aprs_history::Session;
+use arrayvec::ArrayVec;
+use filter_eval::{Friends, Seen, passes};
+use filter_lang::FilterSet;
 use q_construct::Origin;
+use station_table::seen_in;
 use std::alloc::Global;
 use std::marker::Model;
 use std::sync::Arc;
+
+/// Where a packet's source was last seen, and whether it is a gate.
+#[derive(Clone, Copy)]
+pub(crate) struct SourcePlace {
+    pub place: Option<Seen>,
+    pub gate: bool,
+}
 
 #[derive(Drop)]
 pub(crate) struct Link {
@@ -29,6 +42,10 @@ pub(crate) struct Link {
     pub last: u64,
     pub cutter: Cutter,
     pub session: Option<Session>,
+    pub filter: FilterSet,
+    /// Where the calls of the filter's terms were last seen, and its own login.
+    pub friends: Friends,
+    pub mine: Option<Seen>,
     pub queue: Queue,
     pub blocked: bool,
     pub gone: bool,
@@ -36,7 +53,7 @@ pub(crate) struct Link {
 
 impl Model for Link {
     ghost use Rattle.std.specs.Prelude.{Some};
-    ghost use Rattle.std.specs.Prelude.{IsTrue};
+    ghost use Rattle.std.specs.Prelude.{◌≡◌, IsTrue, length};
     ghost use Rattle.aprs_history.specs.Stands.{LinkSeen};
     ghost use Rattle.server_core.specs.LinkSteps.{is_login};
 
@@ -48,12 +65,15 @@ impl Model for Link {
       last = l.last;
       held = l.cutter;
       session = l.session;
+      filter = l.filter;
+      friends = l.friends;
+      mine = l.mine;
       queue = l.queue;
       blocked = l.blocked;
       gone = l.gone;
     } };
 
-    ghost invariant = { λ l. IsTrue (is_login l.session) };
+    ghost invariant = { λ l. IsTrue (is_login l.session) × (length l.friends ≡ length l.filter) };
 }
 
 impl Link {
@@ -77,6 +97,13 @@ impl Link {
             last: moment,
             cutter: Cutter::new(),
             session: None,
+            filter: FilterSet {
+                terms: Vec::new(alloc),
+            },
+            friends: Friends {
+                at: ArrayVec::new(),
+            },
+            mine: None,
             queue,
             blocked: false,
             gone: false,
@@ -100,15 +127,45 @@ impl Link {
         Ok(())
     }
 
-    /// The link has logged in, and is told so.
-    pub fn log_in(&mut self, session: Session, reply: Arc<Line>) -> Result<(), Memory>
+    /// The link has logged in, and is told so. Its login was last seen there.
+    pub fn log_in(
+        &mut self,
+        session: Session,
+        mine: Option<Seen>,
+        reply: Arc<Line>,
+    ) -> Result<(), Memory>
         requires { IsTrue (is_station session.call) }
         ensures number { self.new.link ≡ self.old.link }
-        ensures ok { OnOk result (self.new ≡ with_session session (arc_value reply) self.old) }
+        ensures ok { OnOk result (self.new ≡ with_session session mine (arc_value reply) self.old) }
     {
         self.queue.push(reply)?;
         self.session = Some(session);
+        self.mine = mine;
         Ok(())
+    }
+
+    /// The link has another filter, and is told so. The calls of its terms were last seen there.
+    pub fn set_filter(
+        &mut self,
+        filter: FilterSet,
+        friends: Friends,
+        reply: Arc<Line>,
+    ) -> Result<(), Memory>
+        requires { length friends ≡ length filter }
+        ensures number { self.new.link ≡ self.old.link }
+        ensures ok { OnOk result (self.new ≡ with_filter filter friends (arc_value reply) self.old) }
+    {
+        self.queue.push(reply)?;
+        self.filter = filter;
+        self.friends = friends;
+        Ok(())
+    }
+
+    /// Whether its port has filters.
+    pub fn has_filters(&self) -> bool
+        ensures { result ≡ has_filters self.now.opening }
+    {
+        matches!(self.kind, PortKind::Igate | PortKind::Only)
     }
 
     /// Where its lines come from, once it has logged in.
@@ -136,22 +193,97 @@ impl Link {
         }
     }
 
-    /// Whether it is sent a packet that came from another link.
-    pub fn wants(&self, from: u32) -> bool
-        ensures { result ≡ wants_packet from self.now }
+    /// Whether its filter passes a packet.
+    fn passes(&self, packet: &Packet, source: &SourcePlace) -> bool
+        ensures { result ≡ passes_packet packet.now source.now self.now }
     {
-        self.number != from && self.session.is_some() && is_full(self.kind)
+        passes(
+            &self.filter,
+            packet,
+            &self.friends,
+            self.mine,
+            source.place,
+            source.gate,
+        )
+    }
+
+    /// Whether its port sends it a packet that came from another link.
+    fn port_wants(&self, packet: &Packet, source: &SourcePlace) -> bool
+        ensures { result ≡ port_wants self.now.opening (passes_packet packet.now source.now self.now) }
+    {
+        match self.kind {
+            PortKind::Full => true,
+            PortKind::Igate | PortKind::Only => self.passes(packet, source),
+            PortKind::Dupe | PortKind::Submit | PortKind::Core => false,
+        }
+    }
+
+    /// Whether it is sent a packet that came from another link.
+    pub fn wants(&self, from: u32, packet: &Packet, source: &SourcePlace) -> bool
+        ensures { result ≡ wants_packet from packet.now source.now self.now }
+    {
+        self.number != from && self.session.is_some() && self.port_wants(packet, source)
     }
 
     /// Takes a packet that came from another link, where it wants it.
-    pub fn hear(&mut self, from: u32, line: &Arc<Line>) -> Result<(), Memory>
+    fn take_copy(
+        &mut self,
+        from: u32,
+        packet: &Packet,
+        source: &SourcePlace,
+    ) -> Result<(), Memory>
         ensures number { self.new.link ≡ self.old.link }
-        ensures ok { OnOk result (self.new ≡ with_packet from (arc_value line.now) self.old) }
+        ensures ok { OnOk result (self.new ≡ with_copy from packet.now source.now self.old) }
     {
-        if self.wants(from) {
-            self.push(line.clone()?)?;
+        if self.wants(from, packet, source) {
+            self.push(packet.line.clone()?)?;
         }
         Ok(())
+    }
+
+    /// A station was seen there.
+    fn see(&mut self, call: &Call, seen: Seen)
+        ensures { self.new ≡ with_seen call.now (Some seen) self.old }
+    {
+        see_friend(call, seen, &self.filter, &mut self.friends);
+        if self.is_login(call) {
+            self.mine = Some(seen);
+        }
+    }
+
+    /// Hears of an accepted packet: it takes it, where it wants it, and sees where its source is.
+    pub fn hear(
+        &mut self,
+        from: u32,
+        packet: &Packet,
+        source: &SourcePlace,
+    ) -> Result<(), Memory>
+        ensures number { self.new.link ≡ self.old.link }
+        ensures ok { OnOk result (self.new ≡ with_packet from packet.now source.now self.old) }
+    {
+        self.take_copy(from, packet, source)?;
+        if let Some(seen) = seen_in(packet) {
+            self.see(&packet.parts.source, seen);
+        }
+        Ok(())
+    }
+
+    /// Lets go of positions that count no more.
+    pub fn forget(&mut self, now: u64)
+        ensures { self.new ≡ at_moment now self.old }
+    {
+        forget_friends(now, &mut self.friends);
+        self.mine = still_seen(now, self.mine);
+    }
+
+    /// Whether it has logged in with this call.
+    fn is_login(&self, call: &Call) -> bool
+        ensures { result ≡ is_some_and (λ session. is_text call.now session.call) self.now.session }
+    {
+        match &self.session {
+            Some(session) => session.call == *call,
+            None => false,
+        }
     }
 
     pub fn number(&self) -> u32
@@ -202,16 +334,6 @@ impl Link {
         ensures { result ≡ is_ready self.now }
     {
         !self.blocked && !self.queue.is_empty()
-    }
-}
-
-/// Whether a port of this kind sends every accepted packet.
-fn is_full(kind: PortKind) -> bool
-    ensures { result ≡ is_full_kind kind }
-{
-    match kind {
-        PortKind::Full => true,
-        _ => false,
     }
 }
 

@@ -1,16 +1,18 @@
 //! The links of the core, in the order of their numbers.
-ghost use Rattle.std.specs.Prelude.{◌≡◌, ℕ, ◌≤◌, ◌<◌, ◌^◌, ◌++◌, [], IsTrue, List, None, Some, OnOk, IfOk, min, take, IfSome, length, map, option_map, position, filter};
+ghost use Rattle.std.specs.Prelude.{◌≡◌, ℕ, ◌≤◌, ◌<◌, ◌^◌, ◌++◌, [], IsTrue, List, None, Some, OnOk, IfOk, is_some, min, take, IfSome, length, map, option_map, position, filter};
 ghost use Rattle.std.specs.Arc.{arc_value};
-ghost use Rattle.server_core.specs.LinkSteps.{Rises, at_link, list_of, only_at, other_login, others_at, number_of, has_that, held_at, is_another, is_ready, is_there, numbers, pending_at, session_at, when_gone, with_bytes, with_packet, with_room, with_session, with_taken, with_text};
+ghost use Rattle.server_core.specs.LinkSteps.{Rises, at_link, at_moment, filters_at, list_of, only_at, other_login, others_at, number_of, has_that, held_at, is_another, is_ready, is_there, numbers, pending_at, session_at, when_gone, with_bytes, with_filter, with_packet, with_room, with_session, with_taken, with_text};
 ghost use Rattle.aprs_base.specs.Bytes.{is_station};
 ghost use Rattle.aprs_base.specs.Cuts.{cuts_by};
 ghost use Rattle.aprs_base.specs.Held.{held_after};
 ghost use Rattle.aprs_history.specs.Verdicts.{client_origin};
 ghost use Rattle.q_construct.specs.Rule.{has_station};
 
-use crate::link::Link;
-use aprs_base::{Call, Cut, Line, Memory};
+use crate::link::{Link, SourcePlace};
+use aprs_base::{Call, Cut, Line, Memory, Packet};
 use aprs_history::Session;
+use filter_eval::{Friends, Seen};
+use filter_lang::FilterSet;
 use q_construct::Origin;
 use std::alloc::Global;
 use std::sync::Arc;
@@ -68,15 +70,29 @@ pub(crate) fn offer(links: &[Link], number: u32, out: &mut [u8]) -> usize
     }
 }
 
-/// Gives an accepted packet to every other link that wants it.
-pub(crate) fn share(links: &mut Vec<Link>, from: u32, line: &Arc<Line>) -> Result<(), Memory>
+/// All links hear of an accepted packet: those that want it take it.
+pub(crate) fn share(
+    links: &mut Vec<Link>,
+    from: u32,
+    packet: &Packet,
+    source: &SourcePlace,
+) -> Result<(), Memory>
     ensures numbers { numbers links.new.items ≡ numbers links.old.items }
-    ensures ok { OnOk result (links.new.items ≡ map (with_packet from (arc_value line.now)) links.old.items) }
+    ensures ok { OnOk result (links.new.items ≡ map (with_packet from packet.now source.now) links.old.items) }
 {
     for link in links.iter_mut() {
-        link.hear(from, line)?;
+        link.hear(from, packet, source)?;
     }
     Ok(())
+}
+
+/// All links let go of positions that count no more.
+pub(crate) fn forget_places(links: &mut Vec<Link>, now: u64)
+    ensures { links.new.items ≡ map (at_moment now) links.old.items }
+{
+    for link in links.iter_mut() {
+        link.forget(now);
+    }
 }
 
 /// The links that a send found gone leave.
@@ -125,6 +141,26 @@ pub(crate) fn origin_at(links: &[Link], number: u32) -> Option<Origin>
     }
 }
 
+/// Whether the port of that link has filters.
+pub(crate) fn has_filters_at(links: &[Link], number: u32) -> bool
+    ensures { result ≡ filters_at number links.now }
+{
+    match place_of(links, number) {
+        Some(place) => links[place].has_filters(),
+        None => false,
+    }
+}
+
+/// Whether that link has logged in.
+pub(crate) fn has_session_at(links: &[Link], number: u32) -> bool
+    ensures { result ≡ is_some (session_at number links.now) }
+{
+    match place_of(links, number) {
+        Some(place) => links[place].session.is_some(),
+        None => false,
+    }
+}
+
 /// The login of a link, where it is verified and the link's number is another.
 fn other_call(link: &Link, number: u32) -> Option<Call>
     ensures { list_of result ≡ other_login number link.now }
@@ -168,16 +204,39 @@ pub(crate) fn log_in(
     links: &mut Vec<Link>,
     number: u32,
     session: Session,
+    mine: Option<Seen>,
     reply: Arc<Line>,
 ) -> Result<(), Memory>
     requires rises { Rises 0 (numbers links.old.items) (2 ^ 32) }
     requires station { IsTrue (is_station session.call) }
     ensures numbers { numbers links.new.items ≡ numbers links.old.items }
-    ensures ok { OnOk result (links.new.items ≡ map (at_link number (with_session session (arc_value reply))) links.old.items) }
+    ensures ok { OnOk result (links.new.items ≡ map (at_link number (with_session session mine (arc_value reply))) links.old.items) }
 {
     match place_of(links.as_slice(), number) {
         Some(place) => {
-            links[place].log_in(session, reply)?;
+            links[place].log_in(session, mine, reply)?;
+            Ok(())
+        }
+        None => Ok(()),
+    }
+}
+
+/// The link of that number has another filter.
+pub(crate) fn set_filter(
+    links: &mut Vec<Link>,
+    number: u32,
+    filter: FilterSet,
+    friends: Friends,
+    reply: Arc<Line>,
+) -> Result<(), Memory>
+    requires rises { Rises 0 (numbers links.old.items) (2 ^ 32) }
+    requires many { length friends ≡ length filter }
+    ensures numbers { numbers links.new.items ≡ numbers links.old.items }
+    ensures ok { OnOk result (links.new.items ≡ map (at_link number (with_filter filter friends (arc_value reply))) links.old.items) }
+{
+    match place_of(links.as_slice(), number) {
+        Some(place) => {
+            links[place].set_filter(filter, friends, reply)?;
             Ok(())
         }
         None => Ok(()),

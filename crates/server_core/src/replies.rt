@@ -1,13 +1,18 @@
 //! What the server answers.
-ghost use Rattle.std.specs.Prelude.{◌≡◌, ◌++◌, ◌+◌, ◌≤◌, length};
+ghost use Rattle.std.specs.Prelude.{◌≡◌, ◌++◌, ◌+◌, ◌≤◌, IfOk, Ok, codes, length};
 ghost use Rattle.aprs_base.specs.Bytes.{IsInner};
-ghost use Rattle.aprs_history.specs.Texts.{fault_word, login_reply, refusal_reply, refused_login, verified_word};
+ghost use Rattle.aprs_history.specs.Verdicts.{active_reply};
+ghost use Rattle.filter_lang.specs.Grammar.{terms_of};
+ghost use Rattle.std.specs.Fmt.{decimal};
+ghost use Rattle.aprs_history.specs.Texts.{excess_words, fault_word, filter_words, login_reply, refusal_reply, refused_filter, refused_login, verified_word};
 
 use crate::link::known_line;
-use aprs_base::{Call, Line};
-use aprs_history::{Refusal, Session};
+use aprs_base::{Call, Line, Memory};
+use aprs_history::{FilterFault, Refusal, Session};
 use arrayvec::ArrayVec;
+use filter_lang::FilterSet;
 use login_pass::LoginFault;
+use std::alloc::Global;
 
 /// The reply to a good login.
 pub(crate) fn login_line(server: &Call, session: &Session) -> Line
@@ -53,6 +58,64 @@ fn refused_line(word: &[u8]) -> Line
     append(&mut text, b"# login refused, ");
     append(&mut text, word);
     known_line(text.as_slice())
+}
+
+/// The reply to a filter that was read of the text, which has its canonical text.
+pub(crate) fn active_line(alloc: Global, _text: &[u8], filter: &FilterSet) -> Result<Line, Memory>
+    requires { terms_of _text.now ≡ Ok filter.now }
+    ensures { IfOk result (λ line. line ≡ active_reply filter.now) }
+{
+    let written = filter.write(alloc)?;
+    let mut text = ArrayVec::new();
+    append(&mut text, b"# filter ");
+    append(&mut text, written.as_bytes());
+    append(&mut text, b" active");
+    Ok(known_line(text.as_slice()))
+}
+
+/// The reply to a filter that is refused.
+pub(crate) fn denied_line(alloc: Global, fault: FilterFault) -> Result<Line, Memory>
+    ensures { IfOk result (λ line. line ≡ refused_filter (filter_words fault)) }
+{
+    match fault {
+        FilterFault::NoFilters => Ok(denied_for(b"this port has no filter")),
+        FilterFault::Long => Ok(denied_for(b"too long")),
+        FilterFault::Term(number) => denied_term(alloc, number),
+        FilterFault::TooMany(letter) => Ok(denied_for(excess_word(letter))),
+    }
+}
+
+/// What there is too much of: terms of a letter, or of all.
+fn excess_word(letter: u8) -> &'static [u8]
+    ensures word { result.now ≡ excess_words letter }
+    ensures short { IsInner result.now × (length result.now ≤ 30) }
+{
+    match letter {
+        b'*' => b"too many terms".as_slice(),
+        b'r' => b"too many r".as_slice(),
+        b'f' => b"too many f".as_slice(),
+        _ => b"too many a".as_slice(),
+    }
+}
+
+fn denied_for(word: &[u8]) -> Line
+    requires { IsInner word.now × (length word.now ≤ 30) }
+    ensures { result ≡ refused_filter word.now }
+{
+    let mut text = ArrayVec::new();
+    append(&mut text, b"# filter refused, ");
+    append(&mut text, word);
+    known_line(text.as_slice())
+}
+
+fn denied_term(alloc: Global, number: u16) -> Result<Line, Memory>
+    ensures { IfOk result (λ line. line ≡ refused_filter (codes "term " ++ decimal number)) }
+{
+    let digits = number.to_string(alloc)?;
+    let mut word = ArrayVec::<u8, 510>::new();
+    append(&mut word, b"term ");
+    append(&mut word, digits.as_bytes());
+    Ok(denied_for(word.as_slice()))
 }
 
 /// How the reply speaks of the login.

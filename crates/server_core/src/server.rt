@@ -7,14 +7,15 @@ ghost use Rattle.aprs_history.specs.Trace.{Trace, Brought, ByPeer, ByStop, Ended
 ghost use Rattle.aprs_history.specs.Links.{brought_by};
 ghost use Rattle.aprs_base.specs.Cuts.{cuts_by};
 ghost use Rattle.aprs_history.specs.Setting.{kind_at};
-ghost use Rattle.aprs_history.specs.Scenes.{accepted_by};
-ghost use Rattle.aprs_history.specs.Verdicts.{line_verdict, verdict_of};
+ghost use Rattle.aprs_history.specs.Scenes.{packet_of};
+ghost use Rattle.aprs_history.specs.Verdicts.{command_verdict, filter_command, line_verdict, verdict_of};
+ghost use Rattle.aprs_history.specs.declared.verdicts.FilterAnswer.{FilterAnswer};
 ghost use Rattle.aprs_history.specs.declared.verdicts.Verdict.{Verdict};
 ghost use Rattle.aprs_history.specs.Stands.{Follows};
 ghost use Rattle.aprs_history.specs.History.{History, begin_round, end_all, say_all, trace_of, with_bytes_of, with_event};
 ghost use Rattle.aprs_history.specs.Rounds.{AreFresh, events_trace, greatest_after, is_whole, only_listens, stopped_after, with_events};
 ghost use Rattle.aprs_history.specs.Texts.{untaken};
-ghost use Rattle.server_core.specs.LinkSteps.{AreServed, Rises, has_number, is_ready, number_of, numbers, pending_at, session_at};
+ghost use Rattle.server_core.specs.LinkSteps.{AreServed, Rises, after_login, after_packet, all_few, filters_at, has_few, has_number, is_ready, number_of, numbers, pending_at, session_at, source_found};
 ghost use Rattle.aprs_base.specs.declared.events.Happening.{Happening};
 ghost use Rattle.aprs_base.specs.declared.events.Sent.{Sent};
 ghost use Rattle.server_core.specs.Meaning.{AreActs, Stands, numbered, setting_of};
@@ -26,18 +27,22 @@ mod tests;
 
 use crate::acts::Acts;
 use crate::conf::{served_by, server_of};
-use crate::judging::{is_comment_line, judge_login, judge_packet};
-use crate::link::Link;
+use crate::judging::{is_comment_line, judge_command, judge_login, judge_packet};
+use crate::link::{Link, SourcePlace};
 use crate::links::{
-    all, bring, drop_gone, drop_link, give_room, log_in, lose, offer, origin_at, others, ready,
-    reply, share, take,
+    all, bring, drop_gone, drop_link, forget_places, give_room, has_filters_at, has_session_at,
+    log_in, lose, offer, origin_at, others, ready, reply, set_filter, share, take,
 };
-use crate::replies::{login_line, refusal_line};
+use crate::places::friends_found;
+use crate::replies::{denied_line, login_line, refusal_line};
 use aprs_base::{Addr, Cut, Event, Line, Memory, Packet, Parts, Source};
 use aprs_body::classify;
 use aprs_conf::Conf;
-use aprs_history::{Refusal, Session, Verdict};
+use aprs_history::{FilterAnswer, Refusal, Session, Verdict};
+use filter_lang::FilterSet;
+use station_table::Stations;
 use std::alloc::Global;
+use std::hash::RandomState;
 use std::marker::{Model, Sync};
 use std::sync::Arc;
 use std::thread::Threads;
@@ -50,7 +55,7 @@ const MOST_OFFERED: usize = 65_536;
 
 /// The packet that a link sent, with what its body says.
 fn packet_from(link: u32, moment: u64, parts: Parts, line: Arc<Line>) -> Packet
-    ensures { result ∷ [] ≡ accepted_by link moment (Verdict.Accepted parts (arc_value line)) }
+    ensures { result ≡ packet_of link moment parts (arc_value line) }
 {
     let body = classify(&parts.dest, parts.body.as_slice());
     Packet {
@@ -70,6 +75,8 @@ pub struct Core {
     links: Vec<Link>,
     /// All packets that were accepted, in order.
     accepted: Vec<Packet>,
+    /// Where stations were last seen, and which are gates.
+    stations: Stations,
     greatest: u32,
     stopped: bool,
 }
@@ -80,9 +87,9 @@ impl Model for Core {
 
     ghost Value = { CoreMeaning };
 
-    ghost view = { λ c. record { conf = c.conf; seen = record { moment = c.moment; links = c.links.items; accepted = c.accepted.items; greatest = c.greatest; stopped = c.stopped } } };
+    ghost view = { λ c. record { conf = c.conf; seen = record { moment = c.moment; links = c.links.items; accepted = c.accepted.items; stations = c.stations; greatest = c.greatest; stopped = c.stopped } } };
 
-    ghost invariant = { λ c. IsKept (record { conf = c.conf; seen = record { moment = c.moment; links = c.links.items; accepted = c.accepted.items; greatest = c.greatest; stopped = c.stopped } }) };
+    ghost invariant = { λ c. IsKept (record { conf = c.conf; seen = record { moment = c.moment; links = c.links.items; accepted = c.accepted.items; stations = c.stations; greatest = c.greatest; stopped = c.stopped } }) };
 }
 
 impl Core {
@@ -99,7 +106,8 @@ impl Core {
         ensures { IfOk result (λ verdict. verdict ≡ line_verdict (scene_at self.now number) (session_at number self.now.seen.links) line.now) }
     {
         let Some(origin) = origin_at(self.links.as_slice(), number) else {
-            return Ok(judge_login(server_of(&self.conf), line));
+            let filters = has_filters_at(self.links.as_slice(), number);
+            return judge_login(alloc, server_of(&self.conf), filters, line);
         };
         let others = others(alloc, self.links.as_slice(), number)?;
         Ok(judge_packet(
@@ -112,13 +120,22 @@ impl Core {
         ))
     }
 
+    /// The verdict on a comment or a command of that link.
+    fn judge_comment(&self, alloc: Global, number: u32, line: &Line) -> Result<Verdict, Memory>
+        ensures { IfOk result (λ verdict. verdict ≡ command_verdict (filters_at number self.now.seen.links) (session_at number self.now.seen.links) (filter_command line.now)) }
+    {
+        let filters = has_filters_at(self.links.as_slice(), number);
+        let session = has_session_at(self.links.as_slice(), number);
+        judge_command(alloc, filters, session, line)
+    }
+
     /// The verdict on what the link of that number said.
     fn judge(&self, alloc: Global, number: u32, cut: &Cut) -> Result<Verdict, Memory>
         ensures { IfOk result (λ verdict. verdict ≡ verdict_of (scene_at self.now number) cut.now) }
     {
         match cut {
             Cut::Long => Ok(Verdict::Refused(Refusal::Long)),
-            Cut::Line(line) if is_comment_line(line) => Ok(Verdict::PassedOver),
+            Cut::Line(line) if is_comment_line(line) => self.judge_comment(alloc, number, line),
             Cut::Line(line) => self.judge_line(alloc, number, line),
         }
     }
@@ -134,23 +151,92 @@ impl Core {
     }
 
     /// The link of that number has logged in, and is told so.
-    fn log_in(&mut self, alloc: Global, number: u32, session: Session) -> Result<(), Memory>
+    fn open_session(&mut self, alloc: Global, number: u32, session: Session) -> Result<(), Memory>
         requires { IsTrue (is_station session.call) }
-        ensures { OnOk result (self.new ≡ with_verdict number (Verdict.LoggedIn session) self.old) }
+        ensures { OnOk result (self.new ≡ record self.old { seen = after_login self.old.conf.server number session self.old.seen }) }
     {
+        let mine = self.stations.place_of(&session.call, self.moment);
         let line = Arc::new(alloc, login_line(server_of(&self.conf), &session))?;
-        log_in(&mut self.links, number, session, line)
+        log_in(&mut self.links, number, session, mine, line)
     }
 
-    /// A packet of that link is accepted: it is kept, and goes to the links that want it.
+    /// The link of that number has another filter, and is told so.
+    fn set_filter(
+        &mut self,
+        alloc: Global,
+        number: u32,
+        filter: FilterSet,
+        line: Line,
+    ) -> Result<(), Memory>
+        requires { length filter ≤ 64 }
+        ensures { OnOk result (self.new ≡ with_verdict number (Verdict.Filtered (FilterAnswer.Active filter line)) self.old) }
+    {
+        let friends = friends_found(&self.stations, self.moment, &filter);
+        let line = Arc::new(alloc, line)?;
+        set_filter(&mut self.links, number, filter, friends, line)
+    }
+
+    /// The answer to a filter.
+    fn answer(&mut self, alloc: Global, number: u32, answer: FilterAnswer) -> Result<(), Memory>
+        requires { IsTrue (has_few answer) }
+        ensures { OnOk result (self.new ≡ with_verdict number (Verdict.Filtered answer) self.old) }
+    {
+        match answer {
+            FilterAnswer::Active(filter, line) => self.set_filter(alloc, number, filter, line),
+            FilterAnswer::Denied(fault) => {
+                let line = Arc::new(alloc, denied_line(alloc, fault)?)?;
+                reply(&mut self.links, number, line)
+            }
+        }
+    }
+
+    /// The link of that number has logged in, perhaps with a filter.
+    fn log_in(
+        &mut self,
+        alloc: Global,
+        number: u32,
+        session: Session,
+        answer: Option<FilterAnswer>,
+    ) -> Result<(), Memory>
+        requires station { IsTrue (is_station session.call) }
+        requires few { IsTrue (all_few answer) }
+        ensures { OnOk result (self.new ≡ with_verdict number (Verdict.LoggedIn session answer) self.old) }
+    {
+        self.open_session(alloc, number, session)?;
+        match answer {
+            Some(answer) => self.answer(alloc, number, answer),
+            None => Ok(()),
+        }
+    }
+
+    /// Where a packet's source was last seen, and whether it is a gate.
+    fn source_of(&self, packet: &Packet) -> SourcePlace
+        ensures { result ≡ source_found self.now.seen packet.now.parts.source }
+    {
+        SourcePlace {
+            place: self.stations.place_of(&packet.parts.source, self.moment),
+            gate: self.stations.is_gate(&packet.parts.source, self.moment),
+        }
+    }
+
+    /// An accepted packet goes to the links that want it, tells where its source is, and is kept.
+    fn keep(&mut self, alloc: Global, number: u32, packet: Packet) -> Result<(), Memory>
+        ensures { OnOk result (self.new ≡ record self.old { seen = after_packet number packet self.old.seen }) }
+    {
+        let source = self.source_of(&packet);
+        share(&mut self.links, number, &packet, &source)?;
+        self.stations.note(alloc, &packet)?;
+        self.accepted.push(packet)?;
+        Ok(())
+    }
+
+    /// A packet of that link is accepted.
     fn accept(&mut self, alloc: Global, number: u32, parts: Parts, line: Line) -> Result<(), Memory>
         ensures { OnOk result (self.new ≡ with_verdict number (Verdict.Accepted parts line) self.old) }
     {
         let line = Arc::new(alloc, line)?;
-        share(&mut self.links, number, &line)?;
-        self.accepted
-            .push(packet_from(number, self.moment, parts, line))?;
-        Ok(())
+        let packet = packet_from(number, self.moment, parts, line);
+        self.keep(alloc, number, packet)
     }
 
     /// What the link of that number said: it is judged, and what comes of it is done.
@@ -160,7 +246,8 @@ impl Core {
         match self.judge(alloc, number, cut)? {
             Verdict::PassedOver => Ok(()),
             Verdict::Refused(refusal) => self.refuse(alloc, number, &refusal),
-            Verdict::LoggedIn(session) => self.log_in(alloc, number, session),
+            Verdict::LoggedIn(session, answer) => self.log_in(alloc, number, session, answer),
+            Verdict::Filtered(answer) => self.answer(alloc, number, answer),
             Verdict::Accepted(parts, line) => self.accept(alloc, number, parts, line),
         }
     }
@@ -237,6 +324,7 @@ impl Core {
         ensures rest { SameRest self.old self.new }
     {
         self.moment = moment.min(LAST_MOMENT).max(self.moment);
+        forget_places(&mut self.links, self.moment);
     }
 
     /// Bytes came on a link: they are cut, and each line is heard.
@@ -403,7 +491,12 @@ impl Core {
 
     /// A core for this configuration and this many workers, which have no effect yet. It stands for the history of its
     /// listeners alone.
-    pub fn new(alloc: Global, conf: Conf, _workers: u32) -> Result<Core, Memory>
+    pub fn new(
+        alloc: Global,
+        hasher: &RandomState,
+        conf: Conf,
+        _workers: u32,
+    ) -> Result<Core, Memory>
         requires some { 1 ≤ _workers }
         requires most { _workers ≤ 64 }
         requires listens { length (numbered conf.listens) ≤ 16 }
@@ -417,6 +510,7 @@ impl Core {
             moment: 0,
             links: Vec::new(alloc),
             accepted: Vec::new(alloc),
+            stations: Stations::new(alloc, hasher)?,
             greatest: 0,
             stopped: false,
         })
