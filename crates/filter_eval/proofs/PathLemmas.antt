@@ -7,16 +7,16 @@ use Rattle.filter_lang.specs.Seen.{NameSeen}
 use Rattle.filter_eval.specs.Passes.{has_star, matches_via, used_match}
 
 and_true : (a b : Bool) → b ≡ true → (a && b) ≡ a
-and_true a b h = elim a as (λ a. (a && b) ≡ a) [ | true ↦ h | false ↦ refl ]
+and_true a b h = elim a as (λ a. (a && b) ≡ a) [ true ↦ h | false ↦ refl ]
 
 and_false : (a b : Bool) → b ≡ false → (a && b) ≡ false
-and_false a b h = elim a as (λ a. (a && b) ≡ false) [ | true ↦ h | false ↦ refl ]
+and_false a b h = elim a as (λ a. (a && b) ≡ false) [ true ↦ h | false ↦ refl ]
 
 or_true : (a b : Bool) → b ≡ true → (a || b) ≡ true
-or_true a b h = elim a as (λ a. (a || b) ≡ true) [ | true ↦ refl | false ↦ h ]
+or_true a b h = elim a as (λ a. (a || b) ≡ true) [ true ↦ refl | false ↦ h ]
 
 or_false : (a b : Bool) → b ≡ false → (a || b) ≡ a
-or_false a b h = elim a as (λ a. (a || b) ≡ a) [ | true ↦ refl | false ↦ h ]
+or_false a b h = elim a as (λ a. (a || b) ≡ a) [ true ↦ refl | false ↦ h ]
 
 star_last : (front : List Via) (last : Via) → last.star ≡ true → list_any has_star (front ++ last ∷ []) ≡ true
 star_last front last h = list_any-append has_star front (last ∷ []) ∙ or_true _ _ (or_false last.star false refl ∙ h)

@@ -19,7 +19,7 @@ use Rattle.filter_lang.specs.declared.terms.What.TheVariants as what
 use Rattle.filter_eval.specs.declared.seen.Seen.{Seen}
 use Rattle.filter_eval.specs.declared.passing.Sight.{Sight}
 
--- for how long a position counts: two days, in seconds
+-- for how long a position counts, in seconds: two days
 abbrev pub position_age : ℕ
 position_age = 172800
 
@@ -132,6 +132,11 @@ abbrev pub used_match : List NameSeen → List Via → Bool
 used_match names [] = false
 used_match names (via ∷ vias) = (matches_via names via && list_any has_star (via ∷ vias)) || used_match names vias
 
+-- a construct of one of these letters, or, where gates are asked for too, a position of a gate
+abbrev pub comes_by : PacketSeen → Bool → List ℕ → Bool → Bool
+comes_by packet gate letters gates =
+    is_some_and (has letters) (letter_of packet.parts) || (gates && has_class packet.body.class position_bit && gate)
+
 -- ---- terms
 
 -- whether a packet is what a term asks for, with what is known of the call that the term names
@@ -151,8 +156,7 @@ fits packet sight friend (what.Dest names) = matches_one names packet.parts.dest
 fits packet sight friend (what.Friend call km) = is_near friend km packet.body.place
 fits packet sight friend (what.Mine km) = is_near sight.mine km packet.body.place
 fits packet sight friend (what.Area north west south east) = is_some_and (is_inside north west south east) packet.body.place
-fits packet sight friend (what.Construct letters gates) =
-    is_some_and (has letters) (letter_of packet.parts) || (gates && has_class packet.body.class position_bit && sight.gate)
+fits packet sight friend (what.Construct letters gates) = comes_by packet sight.gate letters gates
 
 -- whether a packet fits a term, which is given with where its call was last seen
 abbrev pub term_fits : PacketSeen → Sight → TermSeen × Option Seen → Bool

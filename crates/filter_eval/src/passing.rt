@@ -1,10 +1,8 @@
 //! Which packets a term fits, and which a filter passes.
-ghost use Rattle.std.specs.Prelude.{◌≡◌, ◌==◌, ◌&&◌, ◌||◌, IsTrue, bit_and, not, List, Option};
+ghost use Rattle.std.specs.Prelude.{◌≡◌, IsTrue};
 ghost use Rattle.std.specs.List.{list_any, zip};
-ghost use Rattle.aprs_body.specs.Classes.{message_bit, position_bit};
-ghost use Rattle.filter_lang.specs.Terms.{TermSeen, is_in_range};
-ghost use Rattle.filter_lang.specs.Sets.{has};
-ghost use Rattle.filter_eval.specs.Passes.{fits, has_class, is_excluding, is_passing, is_some_and, letter_of, passes_of, place_or, sight_at, term_fits};
+ghost use Rattle.filter_lang.specs.Terms.{is_in_range};
+ghost use Rattle.filter_eval.specs.Passes.{comes_by, fits, has_class, is_excluding, is_passing, passes_of, sight_at, term_fits};
 
 use crate::names::{begins_with_one, matches_one, matches_word};
 use crate::paths::{has_letter, matches_entry, matches_used};
@@ -15,7 +13,7 @@ use aprs_body::class::{MESSAGE, POSITION};
 use filter_lang::{FilterSet, Marks, Names, Term, What};
 
 /// What is known of stations where a packet is tested.
-#[derive(Clone, Copy, Debug)]
+#[derive(Clone, Copy)]
 struct Sight {
     /// Where the link's login was last seen.
     mine: Option<Place>,
@@ -31,16 +29,9 @@ fn has_class(body: &Body, mask: u16) -> bool
     body.class & mask != 0
 }
 
-/// The packet's own place, or else where its source was last seen.
-fn place_or(place: Option<Place>, source: Option<Place>) -> Option<Place>
-    ensures { result ≡ place_or place source }
-{
-    place.or(source)
-}
-
-/// Whether the term of these letters and gates fits.
-fn fits_construct(packet: &Packet, letters: &Marks, gates: bool, gate: bool) -> bool
-    ensures { result ≡ (is_some_and (has letters.now) (letter_of packet.now.parts) || (gates && has_class packet.now.body.class position_bit && gate)) }
+/// Whether the packet has a construct of these letters, or, where `gates` is true, is a position and its source a gate.
+fn comes_by(packet: &Packet, gate: bool, letters: &Marks, gates: bool) -> bool
+    ensures { result ≡ comes_by packet.now gate letters.now gates }
 {
     has_letter(letters, &packet.parts) || (gates && has_class(&packet.body, POSITION) && gate)
 }
@@ -59,7 +50,10 @@ fn fits(packet: &Packet, sight: &Sight, friend: Option<Place>, what: &What) -> b
         What::Buddy(names) => matches_one(names, parts.source.bytes()),
         What::Object(names) => matches_word(names, &body.name),
         What::Class { mask } => has_class(body, *mask),
-        What::ClassNear { mask, km, .. } => has_class(body, *mask) && is_near(friend, *km, place_or(body.place, sight.source)),
+        What::ClassNear { mask, km, .. } => {
+            let place = body.place.or(sight.source);
+            has_class(body, *mask) && is_near(friend, *km, place)
+        }
         What::Symbol { pri, alt, over } => is_shown(pri, alt, over, body.place),
         What::Digi(names) => matches_used(names, parts),
         What::Entry(names) => matches_entry(names, parts),
@@ -67,8 +61,13 @@ fn fits(packet: &Packet, sight: &Sight, friend: Option<Place>, what: &What) -> b
         What::Dest(names) => matches_one(names, parts.dest.bytes()),
         What::Friend { km, .. } => is_near(friend, *km, body.place),
         What::Mine { km } => is_near(sight.mine, *km, body.place),
-        What::Area { north, west, south, east } => is_inside(*north, *west, *south, *east, body.place),
-        What::Construct { letters, gates } => fits_construct(packet, letters, *gates, sight.gate),
+        What::Area {
+            north,
+            west,
+            south,
+            east,
+        } => is_inside(*north, *west, *south, *east, body.place),
+        What::Construct { letters, gates } => comes_by(packet, sight.gate, letters, *gates),
     }
 }
 
@@ -76,21 +75,24 @@ fn fits(packet: &Packet, sight: &Sight, friend: Option<Place>, what: &What) -> b
 fn term_fits(packet: &Packet, sight: &Sight, term: &Term, friend: Option<Seen>) -> bool
     ensures { result ≡ term_fits packet.now sight.now (term.now, friend) }
 {
-    fits(packet, sight, fresh_place(packet.moment, friend), &term.what)
+    let friend = fresh_place(packet.moment, friend);
+    fits(packet, sight, friend, &term.what)
 }
 
 /// Whether an ordinary term fits.
 fn is_passed(packet: &Packet, sight: &Sight, terms: &[Term], friends: &[Option<Seen>]) -> bool
     ensures { result ≡ list_any (is_passing packet.now sight.now) (zip terms.now friends.now) }
 {
-    terms.iter().zip(friends).any(|(term, friend)| !term.exclude && term_fits(packet, sight, term, *friend))
+    let mut pairs = terms.iter().zip(friends);
+    pairs.any(|(term, friend)| !term.exclude && term_fits(packet, sight, term, *friend))
 }
 
 /// Whether an excluding term fits.
 fn is_excluded(packet: &Packet, sight: &Sight, terms: &[Term], friends: &[Option<Seen>]) -> bool
     ensures { result ≡ list_any (is_excluding packet.now sight.now) (zip terms.now friends.now) }
 {
-    terms.iter().zip(friends).any(|(term, friend)| term.exclude && term_fits(packet, sight, term, *friend))
+    let mut pairs = terms.iter().zip(friends);
+    pairs.any(|(term, friend)| term.exclude && term_fits(packet, sight, term, *friend))
 }
 
 /// What is known of stations at the moment `now`.
@@ -104,9 +106,13 @@ fn sight_at(now: u64, mine: Option<Seen>, known: Option<Seen>, gate: bool) -> Si
     }
 }
 
-/// Whether a filter passes a packet: an ordinary term fits, and no excluding one. `friends` says for each term where the call
-/// that it names was last seen, `mine` where the link's login was, `known` where the packet's source was, and `gate` whether
-/// that source is a gate.
+/// Whether a filter passes a packet: an ordinary term fits, and no excluding term does. What was seen two days or longer
+/// before the packet's moment counts as not seen. A packet without a construct has no element before or right after it.
+///
+/// - `friends`: for each term, where the call that it names was last seen. A term beyond the last friend is passed over.
+/// - `mine`: where the link's login was last seen.
+/// - `known`: where the packet's source was last seen.
+/// - `gate`: whether the packet's source is a gate.
 #[tactic(auto, unfolding(crate::specs::Passes::passes_of))]
 pub fn passes(
     filter: &FilterSet,

@@ -1,5 +1,5 @@
 //! The path of a packet, around its construct.
-ghost use Rattle.std.specs.Prelude.{◌≡◌, List, option_copied, option_map};
+ghost use Rattle.std.specs.Prelude.{◌≡◌, List, option_copied};
 ghost use Rattle.std.specs.List.{list_any};
 ghost use Rattle.filter_eval.specs.Passes.{before_construct, call_at, entry_of, is_some_and, letter_of, matches_one, matches_via, used_match};
 ghost use Rattle.filter_lang.specs.Seen.{NameSeen};

@@ -1,5 +1,5 @@
 //! Places: near a point, in an area, with a symbol.
-ghost use Rattle.std.specs.Prelude.{◌≡◌, ◌≤◌, IsTrue};
+ghost use Rattle.std.specs.Prelude.{◌≡◌, IsTrue};
 ghost use Rattle.filter_lang.specs.Terms.{is_distance, is_latitude, is_longitude};
 ghost use Rattle.filter_eval.specs.Passes.{is_between, is_by, is_from_to, is_inside, is_near, is_shown, is_some_and};
 

@@ -1,6 +1,6 @@
 //! Where stations were last seen, and for how long that counts.
-ghost use Rattle.std.specs.Prelude.{◌≡◌, ◌<◌};
-ghost use Rattle.filter_eval.specs.Passes.{fresh_place, is_fresh, position_age};
+ghost use Rattle.std.specs.Prelude.{◌≡◌};
+ghost use Rattle.filter_eval.specs.Passes.{fresh_place, is_fresh};
 
 use aprs_base::Place;
 use arrayvec::ArrayVec;
@@ -17,7 +17,7 @@ pub struct Seen {
 }
 
 impl Seen {
-    /// Whether it still counts at `now`, in seconds: it is less than two days old, or no older than `now`.
+    /// Whether it still counts at `now`, in seconds: it is less than two days old. What has a later moment counts too.
     pub fn is_fresh(&self, now: u64) -> bool
         ensures { result ≡ is_fresh now self.now }
     {
@@ -46,5 +46,9 @@ pub fn fresh_place(now: u64, seen: Option<Seen>) -> Option<Place>
     ensures { result ≡ fresh_place now seen }
 {
     let seen = seen?;
-    if seen.is_fresh(now) { Some(seen.place) } else { None }
+    if seen.is_fresh(now) {
+        Some(seen.place)
+    } else {
+        None
+    }
 }
