@@ -17,15 +17,19 @@ use Rattle.filter_lang.specs.Terms.{TermSeen}
 use Rattle.filter_lang.specs.declared.terms.What.{What}
 use Rattle.filter_lang.specs.declared.terms.What.TheVariants as what
 use Rattle.filter_eval.specs.declared.seen.Seen.{Seen}
+use Rattle.filter_eval.specs.declared.passing.Sight.{Sight}
 
--- for how long a position counts: two days, in seconds
+-- for how long a position counts, in seconds: two days
 abbrev pub position_age : ℕ
 position_age = 172800
 
--- what was seen less than two days before
+-- seen less than two days before
+abbrev pub is_fresh : ℕ → Seen → Bool
+is_fresh now seen = nat_lt (now - seen.moment) position_age
+
 abbrev pub fresh : ℕ → Option Seen → Option Seen
 fresh now None = None
-fresh now (Some seen) = if nat_lt (now - seen.moment) position_age then Some seen else None
+fresh now (Some seen) = if is_fresh now seen then Some seen else None
 
 abbrev pub place_seen : Seen → Place
 place_seen seen = seen.place
@@ -33,13 +37,6 @@ place_seen seen = seen.place
 -- where that was
 abbrev pub fresh_place : ℕ → Option Seen → Option Place
 fresh_place now seen = option_map place_seen (fresh now seen)
-
--- what is known of stations where a packet is tested: where the link's login and the packet's source were last seen, and
--- whether that source is a gate
-pub record Sight : Type 0 where
-  pub mine : Option Place
-  pub source : Option Place
-  pub gate : Bool
 
 -- ---- names
 
@@ -72,13 +69,15 @@ abbrev pub is_near : Option Place → ℕ → Option Place → Bool
 is_near None km place = false
 is_near (Some centre) km place = is_by centre.lat centre.lon km place
 
+unfoldable pub is_from_to : ℤ → ℤ → ℤ → Bool
+is_from_to low high z = int_le low z && int_le z high
+
 -- a longitude from west to east, by the way over the 180th degree where west is greater
-abbrev pub is_between : ℤ → ℤ → ℤ → Bool
-is_between west east lon =
-    if int_le west east then int_le west lon && int_le lon east else int_le west lon || int_le lon east
+unfoldable pub is_between : ℤ → ℤ → ℤ → Bool
+is_between west east lon = if int_le west east then is_from_to west east lon else int_le west lon || int_le lon east
 
 abbrev pub is_inside : ℤ → ℤ → ℤ → ℤ → Place → Bool
-is_inside north west south east place = int_le south place.lat && int_le place.lat north && is_between west east place.lon
+is_inside north west south east place = is_from_to south north place.lat && is_between west east place.lon
 
 -- a symbol of the first table by its code; of another by its code and, where tables are given, its table
 abbrev pub is_shown : List ℕ → List ℕ → List ℕ → Place → Bool
@@ -125,10 +124,18 @@ letter_of parts = option_and_then third (option_and_then (call_at parts) (constr
 abbrev pub has_star : Via → Bool
 has_star via = via.star
 
+abbrev pub matches_via : List NameSeen → Via → Bool
+matches_via names via = matches_one names via.call
+
 -- an element that was used, which has `*` or stands before one that has, and matches
 abbrev pub used_match : List NameSeen → List Via → Bool
 used_match names [] = false
-used_match names (via ∷ vias) = (matches_one names via.call && list_any has_star (via ∷ vias)) || used_match names vias
+used_match names (via ∷ vias) = (matches_via names via && list_any has_star (via ∷ vias)) || used_match names vias
+
+-- a construct of one of these letters, or, where gates are asked for too, a position of a gate
+abbrev pub comes_by : PacketSeen → Bool → List ℕ → Bool → Bool
+comes_by packet gate letters gates =
+    is_some_and (has letters) (letter_of packet.parts) || (gates && has_class packet.body.class position_bit && gate)
 
 -- ---- terms
 
@@ -149,8 +156,7 @@ fits packet sight friend (what.Dest names) = matches_one names packet.parts.dest
 fits packet sight friend (what.Friend call km) = is_near friend km packet.body.place
 fits packet sight friend (what.Mine km) = is_near sight.mine km packet.body.place
 fits packet sight friend (what.Area north west south east) = is_some_and (is_inside north west south east) packet.body.place
-fits packet sight friend (what.Construct letters gates) =
-    is_some_and (has letters) (letter_of packet.parts) || (gates && has_class packet.body.class position_bit && sight.gate)
+fits packet sight friend (what.Construct letters gates) = comes_by packet sight.gate letters gates
 
 -- whether a packet fits a term, which is given with where its call was last seen
 abbrev pub term_fits : PacketSeen → Sight → TermSeen × Option Seen → Bool

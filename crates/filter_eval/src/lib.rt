@@ -1,6 +1,13 @@
 //! Which packets a filter passes.
 #![tactic(auto)]
 
+mod names;
+mod passing;
+mod paths;
+mod places;
 mod seen;
+#[cfg(test)]
+mod tests;
 
-pub use seen::{Friends, Seen};
+pub use passing::passes;
+pub use seen::{Friends, POSITION_AGE, Seen};
