@@ -1,0 +1,56 @@
+-- Bounds of what a text reads as.
+use Rattle.std.proofs.Common.{◌≡◌, ℕ, ◌<◌, ◌≤◌, Bool, true, false, cond, nat_le, nat_lt, List, [], ◌∷◌, ◌++◌, Option, Some, None, Result, Ok, Err, length, refl, ap, arith, rules}
+use Rattle.std.specs.Prelude.{IfOk}
+use Rattle.std.proofs.lemmas.List.{length-append}
+use Rattle.std.proofs.lemmas.Bool.{leb-false}
+use Rattle.filter_lang.specs.declared.errors.FilterError.{FilterError}
+use Rattle.filter_lang.specs.declared.errors.FilterError.TheVariants as fault
+use Rattle.filter_lang.specs.Terms.{TermSeen}
+use Rattle.filter_lang.specs.Parts.{words_of}
+use Rattle.filter_lang.specs.Grammar.{term_of, added, added_all, added_unless, and_then, count_of, excess_by, excess_of, excess_of_all, limited, terms_of, Gives}
+
+-- there is room for a term only where there are fewer than 64
+pub room_of_all : (terms : List TermSeen) → excess_of_all terms ≡ None → length terms < 64
+room_of_all terms h = by (nat_le 64 (length terms)) refl h
+  where
+    by : (c : Bool) → nat_le 64 (length terms) ≡ c → cond {A = Option ℕ} c (Some 42) None ≡ None → length terms < 64
+    by true e h' = cc
+    by false e h' = leb-false 64 (length terms) e
+
+pub room_by : (terms : List TermSeen) (o : Option ℕ) → excess_by terms o ≡ None → length terms < 64
+room_by terms None h = room_of_all terms h
+room_by terms (Some letter) h = by (nat_le 9 (count_of letter terms)) h
+  where
+    by : (c : Bool) → cond c (Some letter) (excess_of_all terms) ≡ None → length terms < 64
+    by true h' = cc
+    by false h' = room_of_all terms h'
+
+pub room_of : (terms : List TermSeen) (t : TermSeen) → excess_of terms t.what ≡ None → length terms < 64
+unfolding excess_of
+room_of terms t h = room_by terms (limited t.what) h
+
+pub few_added : (words : List (List ℕ)) (done terms : List TermSeen) → length done ≤ 64 → added_all done words ≡ Ok terms → length terms ≤ 64
+few_added [] done terms few h = let e : done ≡ terms = cc in let same = ap length e in omega arith
+few_added (word ∷ words) done terms few h = by (λ next. few_added words next terms) (term_of word) h
+  where
+    unless : (t : TermSeen) → ((next : List TermSeen) → length next ≤ 64 → added_all next words ≡ Ok terms → length terms ≤ 64) → (o : Option ℕ) → excess_of done t.what ≡ o → and_then (added_unless done t o) (λ more. added_all more words) ≡ Ok terms → length terms ≤ 64
+    unless t each None room h' = let less = room_of done t room in each (done ++ t ∷ []) (omega (arith, length-append done (t ∷ []))) h'
+    unless t each (Some letter) room h' = cc
+
+    by : ((next : List TermSeen) → length next ≤ 64 → added_all next words ≡ Ok terms → length terms ≤ 64) → (o : Option TermSeen) → and_then (added done o) (λ more. added_all more words) ≡ Ok terms → length terms ≤ 64
+    by each None h' = cc
+    by each (Some t) h' = unless t each (excess_of done t.what) refl h'
+
+-- a filter has at most 64 terms
+pub few_terms : (text : List ℕ) (terms : List TermSeen) → terms_of text ≡ Ok terms → length terms ≤ 64
+unfolding terms_of
+few_terms text terms h = by (nat_lt 480 (length text)) h
+  where
+    by : (c : Bool) → cond c (Err fault.Long) (added_all [] (words_of text)) ≡ Ok terms → length terms ≤ 64
+    by true h' = cc
+    by false h' = few_added (words_of text) [] terms (omega arith) h'
+
+-- the same of a reading that may answer that memory is wanting
+pub few_read : (r : Result (List TermSeen) FilterError) (words : List (List ℕ)) → Gives r (added_all [] words) → IfOk r (λ terms. length terms ≤ 64)
+few_read (Ok terms) words h = few_added words [] terms (omega arith) h
+few_read (Err e) words h = search rules
