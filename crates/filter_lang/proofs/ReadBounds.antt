@@ -1,13 +1,16 @@
--- Bounds of what a text reads as.
+-- Bounds of what a text reads as, and of its canonical text.
 use Rattle.std.proofs.Common.{◌≡◌, ℕ, ◌<◌, ◌≤◌, Bool, true, false, cond, nat_le, nat_lt, List, [], ◌∷◌, ◌++◌, Option, Some, None, Result, Ok, Err, length, refl, ap, arith, rules}
 use Rattle.std.specs.Prelude.{IfOk}
 use Rattle.std.proofs.lemmas.List.{length-append}
 use Rattle.std.proofs.lemmas.Bool.{leb-false}
+use Rattle.std.proofs.lemmas.Result.{IfOk-weaker}
 use Rattle.filter_lang.specs.declared.errors.FilterError.{FilterError}
 use Rattle.filter_lang.specs.declared.errors.FilterError.TheVariants as fault
 use Rattle.filter_lang.specs.Terms.{TermSeen}
 use Rattle.filter_lang.specs.Parts.{words_of}
 use Rattle.filter_lang.specs.Grammar.{term_of, added, added_all, added_unless, and_then, count_of, excess_by, excess_of, excess_of_all, limited, terms_of, Gives}
+use Rattle.filter_lang.specs.Canonical.{canonical}
+use Rattle.filter_lang.proofs.TextLaws.{canonical_again, read_is}
 
 -- there is room for a term only where there are fewer than 64
 pub room_of_all : (terms : List TermSeen) → excess_of_all terms ≡ None → length terms < 64
@@ -54,3 +57,11 @@ few_terms text terms h = by (nat_lt 480 (length text)) h
 pub few_read : (r : Result (List TermSeen) FilterError) (words : List (List ℕ)) → Gives r (added_all [] words) → IfOk r (λ terms. length terms ≤ 64)
 few_read (Ok terms) words h = few_added words [] terms (omega arith) h
 few_read (Err e) words h = search rules
+
+-- its canonical text has at most 480 bytes
+pub short_canonical : (text : List ℕ) (terms : List TermSeen) → terms_of text ≡ Ok terms → length (canonical terms) ≤ 480
+short_canonical text terms h = (read_is (canonical terms) terms (canonical_again text terms h)).short
+
+-- the same of a call that may answer that memory is wanting
+pub short_ok : {E : Type 0} (r : Result (List ℕ) E) (terms : List TermSeen) → IfOk r (λ written. written ≡ canonical terms) → (text : List ℕ) → terms_of text ≡ Ok terms → IfOk r (λ written. length written ≤ 480)
+short_ok r terms h text is = IfOk-weaker r (λ written. written ≡ canonical terms) (λ written. length written ≤ 480) (λ written e. let short = short_canonical text terms is in let same = ap length e in omega arith) h

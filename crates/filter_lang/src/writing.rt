@@ -374,6 +374,7 @@ impl FilterSet {
         // The text of a filter that some text reads as reads as it again, and no text that reads as it is shorter.
         ensures again { (text : List ℕ) → terms_of text ≡ Ok self.now → IfOk result (λ written. terms_of written ≡ Ok self.now) }
         ensures shortest { (text : List ℕ) → terms_of text ≡ Ok self.now → IfOk result (λ written. length written ≤ length text) }
+        ensures short { (text : List ℕ) → terms_of text ≡ Ok self.now → IfOk result (λ written. length written ≤ 480) }
     {
         canonical_text(alloc, self.terms.as_slice())
     }
