@@ -1,4 +1,4 @@
--- A call has bytes, and neither blanks nor slashes.
+-- A call has bytes, and no blanks, line ends or slashes.
 use Rattle.std.proofs.Common.{◌≡◌, ℕ, suc, ◌+◌, ◌<◌, ◌≤◌, Bool, true, false, cond, ◌==◌, ◌&&◌, ◌||◌, nat_le, List, [], ◌∷◌, ◌++◌, length, get_or, refl, sym, ap, ◌∙◌, arith, subst, append-nil}
 use Rattle.std.specs.Prelude.{not}
 use Rattle.std.specs.List.{list_all, position_or_len}

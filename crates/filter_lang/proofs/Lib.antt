@@ -8,6 +8,7 @@ pub mod NameLemmas
 pub mod NumberLaws
 pub mod NumberLemmas
 pub mod PartLemmas
+pub mod ReadBounds
 pub mod ReadLemmas
 pub mod Rows
 pub mod SetLaws

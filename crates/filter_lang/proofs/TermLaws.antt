@@ -4,7 +4,6 @@ use Rattle.std.specs.Prelude.{not, option_map}
 use Rattle.std.specs.List.{list_all}
 use Rattle.std.proofs.lemmas.List.Folds.{list_all-append}
 use Rattle.std.proofs.lemmas.Bool.{eqb-true, eqb-false}
-use Rattle.aprs_base.specs.Bytes.{is_blank}
 use Rattle.filter_lang.specs.declared.terms.What.{What}
 use Rattle.filter_lang.specs.declared.terms.What.TheVariants as what
 use Rattle.filter_lang.specs.Seen.{NameSeen}
@@ -14,7 +13,7 @@ use Rattle.filter_lang.specs.Numbers.{has_minus}
 use Rattle.filter_lang.specs.Names.{name_of, names_of, names_text, starless}
 use Rattle.filter_lang.specs.Grammar.{other_of, named_of, what_of, what_of_fields, lower, term_of, term_if}
 use Rattle.filter_lang.specs.Canonical.{what_fields, what_text, kind_letter, term_text}
-use Rattle.filter_lang.proofs.Tools.{bind_some, map_some, cond_not_some, both, unnot, is_clean}
+use Rattle.filter_lang.proofs.Tools.{bind_some, map_some, cond_not_some, both, unnot, is_inside, is_clean}
 use Rattle.filter_lang.proofs.LastLaws.{without_last-length, without_last-same}
 use Rattle.filter_lang.proofs.NumberLaws.{minus_size}
 use Rattle.filter_lang.proofs.NameLaws.{bare, KeepsName, name_again, starless_again, starless_twice}
@@ -170,9 +169,6 @@ kind_letter-good (what.Friend call km) = refl
 kind_letter-good (what.Mine km) = refl
 kind_letter-good (what.Area north west south east) = refl
 kind_letter-good (what.Construct letters gates) = refl
-
-abbrev pub is_inside : ℕ → Bool
-is_inside b = not (is_blank b)
 
 pub slashed_inside : (fields : List (List ℕ)) → list_all is_neat fields ≡ true → list_all is_inside (slashed fields) ≡ true
 slashed_inside [] h = refl

@@ -14,10 +14,10 @@ use Rattle.filter_lang.specs.Terms.{TermSeen}
 use Rattle.filter_lang.specs.Parts.{is_used, words_of}
 use Rattle.filter_lang.specs.Grammar.{term_of, added, added_all, added_unless, and_then, excess_of, terms_of, Gives}
 use Rattle.filter_lang.specs.Canonical.{term_text, more_text, canonical}
-use Rattle.filter_lang.proofs.Tools.{both, unnot}
+use Rattle.filter_lang.proofs.Tools.{both, is_inside, inside_unblank}
 use Rattle.filter_lang.proofs.SlashLaws.{spread, total, parts-total, parts-some}
 use Rattle.filter_lang.proofs.KindLaws.{some_not_empty}
-use Rattle.filter_lang.proofs.TermLaws.{is_inside, KeepsTerm, term_keeps}
+use Rattle.filter_lang.proofs.TermLaws.{KeepsTerm, term_keeps}
 
 abbrev pub is_one_word : TermSeen → Bool
 is_one_word t = list_all is_inside (term_text t)
@@ -60,7 +60,7 @@ again_all (word ∷ words) done ts h = by (λ next. again_all words next ts) (te
 
 -- the words of the canonical text
 pub inside_all : (text : List ℕ) → list_all is_inside text ≡ true → All (λ b. is_blank b ≡ false) text
-inside_all text h = λ k d lt. unnot (is_blank (get_or text k d)) (AllPass-from_list_all is_inside text h k d lt)
+inside_all text h = λ k d lt. inside_unblank (get_or text k d) (AllPass-from_list_all is_inside text h k d lt)
 
 pub split_terms : (t : TermSeen) (ts : List TermSeen) → list_all is_one_word (t ∷ ts) ≡ true → slice_split is_blank (term_text t ++ more_text ts) ≡ map term_text (t ∷ ts)
 split_terms t [] h =

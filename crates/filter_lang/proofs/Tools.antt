@@ -1,9 +1,9 @@
--- Steps that may fail, tests that hold together, and texts without blanks and slashes.
+-- Steps that may fail, tests that hold together, and texts without blanks, line ends and slashes.
 use Rattle.std.proofs.Common.{◌≡◌, ℕ, ◌≤◌, Bool, true, false, cond, ◌&&◌, ◌||◌, List, [], ◌∷◌, ◌++◌, Option, Some, None, length, refl, arith}
 use Rattle.std.specs.Prelude.{option_map, not}
 use Rattle.std.specs.List.{list_all}
 use Rattle.std.proofs.lemmas.List.Folds.{list_all-append}
-use Rattle.aprs_base.specs.Bytes.{is_blank, is_digit}
+use Rattle.aprs_base.specs.Bytes.{is_blank, is_inner, is_digit}
 use Rattle.std.proofs.lemmas.Bool.Decides.{nat_tests}
 use Rattle.filter_lang.specs.Parts.{◌>>=◌, is_slash}
 
@@ -36,9 +36,15 @@ pub unnot : (a : Bool) → not a ≡ true → a ≡ false
 unnot true h = cc
 unnot false h = refl
 
--- neither blank nor slash
+-- neither blank nor line end, and no slash too
+abbrev pub is_inside : ℕ → Bool
+is_inside b = not (is_blank b) && is_inner b
+
 abbrev pub is_clean : ℕ → Bool
-is_clean b = not (is_blank b) && not (is_slash b)
+is_clean b = is_inside b && not (is_slash b)
+
+pub inside_unblank : (b : ℕ) → is_inside b ≡ true → is_blank b ≡ false
+inside_unblank b h = unnot (is_blank b) (both (not (is_blank b)) (is_inner b) h).0
 
 pub clean_from : (test : ℕ → Bool) → ((b : ℕ) → test b ≡ true → is_clean b ≡ true) → (xs : List ℕ) → list_all test xs ≡ true → list_all is_clean xs ≡ true
 clean_from test each [] h = refl
@@ -52,7 +58,7 @@ clean_append xs ys p q = rw (list_all-append is_clean xs ys, p, q) refl
 pub digit_clean : (b : ℕ) → is_digit b ≡ true → is_clean b ≡ true
 digit_clean b h = grind (arith, nat_tests)
 
--- a canonical text is no longer than the text that it is for, and it has no blank and no slash
+-- a canonical text is no longer than the text that it is for, and it has no blank, no line end and no slash
 pub record Neat (text canonical : List ℕ) : Type 0 where
   pub shorter : length canonical ≤ length text
   pub clean : list_all is_clean canonical ≡ true

@@ -80,6 +80,8 @@ mod tests {
             ("m/1 p/", FilterError::Term(2)),
             ("s//", FilterError::Term(1)),
             ("q//i", FilterError::Term(1)),
+            ("m/1 b/A\n", FilterError::Term(2)),
+            ("s/\r m/1", FilterError::Term(1)),
         ];
         for (text, wanted) in rows {
             assert_eq!(rt; fault(rt.alloc(), text.as_bytes()), Some(wanted));
@@ -91,6 +93,8 @@ mod tests {
         let alloc = rt.alloc();
         let tenth = many(alloc, "f/A/1", 9, "-f/A/1")?;
         assert_eq!(rt; fault(alloc, &tenth), Some(FilterError::TooMany(b'f')));
+        let most = many(alloc, "t/p", 63, "t/p")?;
+        assert_eq!(rt; fault(alloc, &most), None);
         let last = many(alloc, "t/p", 64, "t/p")?;
         assert_eq!(rt; fault(alloc, &last), Some(FilterError::TooMany(b'*')));
         let wrong = many(alloc, "f/A/1", 9, "f/A")?;

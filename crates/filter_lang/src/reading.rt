@@ -159,6 +159,7 @@ fn read_words(alloc: Global, text: &[u8]) -> Result<FilterSet, FilterError>
 pub fn read(alloc: Global, text: &[u8]) -> Result<FilterSet, FilterError>
     ensures value { Gives result (terms_of text.now) }
     ensures long { IsErrOf result FilterError.Long ↔ (480 < length text.now) }
+    ensures few { IfOk result (λ filter. length filter ≤ 64) }
 {
     if text.len() > MOST_BYTES {
         return Err(FilterError::Long);

@@ -1,6 +1,7 @@
 //! The canonical text of a filter.
 ghost use Rattle.std.specs.Prelude.{◌≡◌, ◌<◌, ◌≤◌, ◌∷◌, ◌++◌, ◌==◌, [], ℕ, List, Ok, length, map, filter, OnOk, IfOk, if◌then◌else◌, bit_and};
 ghost use Rattle.std.specs.Fmt.{decimal};
+ghost use Rattle.aprs_base.specs.Bytes.{IsInner};
 ghost use Rattle.filter_lang.specs.Names.{name_text, names_text, spelled, star_text, starless};
 ghost use Rattle.filter_lang.specs.Numbers.{degrees_text, dotted_text, fraction_digits, millionths_text};
 ghost use Rattle.filter_lang.specs.Sets.{is_set, members_of};
@@ -374,6 +375,9 @@ impl FilterSet {
         // The text of a filter that some text reads as reads as it again, and no text that reads as it is shorter.
         ensures again { (text : List ℕ) → terms_of text ≡ Ok self.now → IfOk result (λ written. terms_of written ≡ Ok self.now) }
         ensures shortest { (text : List ℕ) → terms_of text ≡ Ok self.now → IfOk result (λ written. length written ≤ length text) }
+        // It has at most 480 bytes, and no line end.
+        ensures short { (text : List ℕ) → terms_of text ≡ Ok self.now → IfOk result (λ written. length written ≤ 480) }
+        ensures inner { (text : List ℕ) → terms_of text ≡ Ok self.now → IfOk result (λ written. IsInner written) }
     {
         canonical_text(alloc, self.terms.as_slice())
     }
