@@ -1,0 +1,75 @@
+-- Where stations were last seen, and which are gates (aprs-is.net, Server-side Filter Commands).
+use Rattle.std.specs.Prelude.{ℕ, ◌-◌, ◌==◌, ◌||◌, Bool, nat_lt, List, [], filter, Option, Some, None, option_map, if◌then◌else◌}
+use Rattle.std.specs.Map.{lookup}
+use Rattle.indexmap.specs.IndexMap.{insert_entry}
+use Rattle.aprs_base.specs.PacketSeen.{PacketSeen}
+use Rattle.aprs_base.specs.declared.packets.Parts.{Parts}
+use Rattle.aprs_base.specs.declared.packets.Place.{Place}
+use Rattle.aprs_body.specs.Classes.{position_bit}
+use Rattle.filter_eval.specs.Passes.{entry_of, has_class, is_some_and, is_text, letter_of, position_age}
+use Rattle.filter_eval.specs.declared.seen.Seen.{Seen}
+
+-- where calls were last seen, and when they were last gates, in the order in which they first came
+pub record StationsSeen : Type 0 where
+  pub places : List (List ℕ × Seen)
+  pub gates : List (List ℕ × ℕ)
+
+abbrev pub no_stations : StationsSeen
+no_stations = record { places = []; gates = [] }
+
+abbrev pub place_at : StationsSeen → List ℕ → Option Seen
+place_at table call = lookup (is_text call) table.places
+
+abbrev pub gate_at : StationsSeen → List ℕ → Option ℕ
+gate_at table call = lookup (is_text call) table.gates
+
+-- ---- what a packet tells
+
+abbrev pub seen_at : ℕ → Place → Seen
+seen_at moment place = record { place = place; moment = moment }
+
+-- where its source is, which only a position says
+abbrev pub seen_in : PacketSeen → Option Seen
+seen_in packet = if has_class packet.body.class position_bit then option_map (seen_at packet.moment) packet.body.place else None
+
+-- the letters of qAr, qAR and qAo
+abbrev pub is_gate_letter : ℕ → Bool
+is_gate_letter letter = letter == 114 || letter == 82 || letter == 111
+
+-- the call right after such a construct
+abbrev pub gate_in : Parts → Option (List ℕ)
+gate_in parts = if is_some_and is_gate_letter (letter_of parts) then entry_of parts else None
+
+-- ---- what becomes of a table
+
+abbrev pub put_place : List ℕ → Option Seen → List (List ℕ × Seen) → List (List ℕ × Seen)
+put_place call None places = places
+put_place call (Some seen) places = insert_entry is_text places call seen
+
+abbrev pub put_gate : Option (List ℕ) → ℕ → List (List ℕ × ℕ) → List (List ℕ × ℕ)
+put_gate None moment gates = gates
+put_gate (Some call) moment gates = insert_entry is_text gates call moment
+
+abbrev pub with_place : PacketSeen → StationsSeen → StationsSeen
+with_place packet table = record table { places = put_place packet.parts.source (seen_in packet) table.places }
+
+abbrev pub with_gate : PacketSeen → StationsSeen → StationsSeen
+with_gate packet table = record table { gates = put_gate (gate_in packet.parts) packet.moment table.gates }
+
+-- with what the packet tells of its source and of its gate
+abbrev pub noted : PacketSeen → StationsSeen → StationsSeen
+noted packet table = with_gate packet (with_place packet table)
+
+-- a moment less than two days before
+abbrev pub is_young : ℕ → ℕ → Bool
+is_young now moment = nat_lt (now - moment) position_age
+
+abbrev pub is_young_place : ℕ → List ℕ × Seen → Bool
+is_young_place now entry = is_young now entry.1.moment
+
+abbrev pub is_young_gate : ℕ → List ℕ × ℕ → Bool
+is_young_gate now entry = is_young now entry.1
+
+-- what is younger than two days
+abbrev pub young : ℕ → StationsSeen → StationsSeen
+young now table = record { places = filter (is_young_place now) table.places; gates = filter (is_young_gate now) table.gates }
