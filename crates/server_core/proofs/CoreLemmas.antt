@@ -7,15 +7,15 @@ use Rattle.aprs_base.specs.declared.texts.Addr.{Addr}
 use Rattle.aprs_base.specs.declared.cutting.Cut.{Cut}
 use Rattle.aprs_base.specs.declared.packets.PortKind.{PortKind}
 use Rattle.aprs_history.specs.declared.verdicts.Verdict.{Verdict}
-use Rattle.aprs_history.specs.declared.verdicts.Verdict.TheVariants.{PassedOver, Refused, LoggedIn, Accepted}
+use Rattle.aprs_history.specs.declared.verdicts.Verdict.TheVariants.{PassedOver, Refused, LoggedIn, Filtered, Accepted}
 use Rattle.aprs_history.specs.Setting.{Setting, kind_at}
-use Rattle.aprs_history.specs.Scenes.{is_only, others_of, scene_of, verified_login}
+use Rattle.aprs_history.specs.Scenes.{has_filters, is_only, others_of, scene_of, verified_login}
 use Rattle.aprs_history.specs.Verdicts.{verdict_of}
 use Rattle.aprs_history.specs.Trace.{Trace, Ticked, Opened, Brought, Said, Roomed, Ended, ByPeer, ByStop, is_live, is_member, is_other, live_links, stopped_links, last_moment}
 use Rattle.aprs_history.specs.Links.{session_of, opening_of, brought_by, gone_links}
 use Rattle.aprs_history.specs.History.{begin_round, end_all}
 use Rattle.aprs_history.specs.Stands.{LinkSeen, link_seen, Follows}
-use Rattle.server_core.specs.LinkSteps.{at_link, has_that, has_number, is_there, is_another, with_room, with_bytes, new_link_seen, numbers, Rises, session_at, held_at, picked_at, session_kept, held_kept, only_at, only_kept, others_at}
+use Rattle.server_core.specs.LinkSteps.{at_link, has_that, has_number, is_there, is_another, with_room, with_bytes, new_link_seen, numbers, Rises, session_at, held_at, picked_at, session_kept, held_kept, filters_at, filters_kept, only_at, only_kept, others_at, at_moment}
 use Rattle.aprs_conf.specs.Seen.{ConfSeen}
 use Rattle.server_core.specs.Meaning.{CoreMeaning, setting_of}
 use Rattle.server_core.specs.Kept.{IsKept}
@@ -90,6 +90,10 @@ module _ (core : CoreMeaning) (t : Trace) (walks : Walks core t) where
   unfolding link_seen
   only_now number live = ap (only_at number) live_now ∙ picked_seen only_kept false (setting_of core.conf) t number (live_links t) live
 
+  filters_now : (number : ℕ) → is_live t number ≡ true → filters_at number core.seen.links ≡ has_filters (opening_of t number)
+  unfolding link_seen
+  filters_now number live = ap (filters_at number) live_now ∙ picked_seen filters_kept false (setting_of core.conf) t number (live_links t) live
+
   others_now : (number : ℕ) → others_at number core.seen.links ≡ others_of t number
   others_now number = ap (others_at number) live_now ∙ others_seen (setting_of core.conf) t number (live_links t)
 
@@ -97,7 +101,8 @@ module _ (core : CoreMeaning) (t : Trace) (walks : Walks core t) where
   scene_now : (number : ℕ) → is_live t number ≡ true → scene_at core number ≡ scene_of (setting_of core.conf) t number
   scene_now number live =
       ap (λ only. record (scene_at core number) { only = only }) (only_now number live)
-      ∙ ap (λ session. record (scene_at core number) { only = is_only (opening_of t number); session = session }) (session_now number live)
+      ∙ ap (λ filters. record (scene_at core number) { only = is_only (opening_of t number); filters = filters }) (filters_now number live)
+      ∙ ap (λ session. record (scene_at core number) { only = is_only (opening_of t number); filters = has_filters (opening_of t number); session = session }) (session_now number live)
       ∙ ap (λ others. record (scene_of (setting_of core.conf) t number) { others = others; moment = core.seen.moment; accepted = core.seen.accepted }) (others_now number)
       ∙ ap (λ moment. record (scene_of (setting_of core.conf) t number) { moment = moment; accepted = core.seen.accepted }) walks.follows.moment
       ∙ ap (λ accepted. record (scene_of (setting_of core.conf) t number) { accepted = accepted }) walks.follows.accepted
@@ -138,7 +143,9 @@ walks_heard core t walks number cut live =
 pub rest_kept : (core : CoreMeaning) (number : ℕ) (verdict : Verdict) → SameRest core (with_verdict number verdict core)
 rest_kept core number PassedOver = record { conf = refl; greatest = refl; stopped = refl }
 rest_kept core number (Refused why) = record { conf = refl; greatest = refl; stopped = refl }
-rest_kept core number (LoggedIn session) = record { conf = refl; greatest = refl; stopped = refl }
+rest_kept core number (LoggedIn session None) = record { conf = refl; greatest = refl; stopped = refl }
+rest_kept core number (LoggedIn session (Some answer)) = record { conf = refl; greatest = refl; stopped = refl }
+rest_kept core number (Filtered answer) = record { conf = refl; greatest = refl; stopped = refl }
 rest_kept core number (Accepted parts line) = record { conf = refl; greatest = refl; stopped = refl }
 
 -- a link that a listener for clients opens, and one that comes elsewhere
@@ -150,7 +157,7 @@ walks_served core conf t walks same listener k kind from links served some at ke
     let follows = follows_opened (setting_of core.conf) core.seen t walks.follows kind k core.seen.greatest from kept.rising above in
     let serves : Some kind ≡ kind_at (setting_of conf) listener = sym some ∙ at ∙ ap (λ c. kind_at (setting_of c) listener) same in
     subst (λ kinds. Walks (record core { seen = record core.seen { links = links; greatest = k } }) (Opened kinds k from ∷ t)) serves (record {
-      follows = record { moment = follows.moment; links = new ∙ follows.links; accepted = follows.accepted; took = follows.took };
+      follows = record { moment = follows.moment; links = new ∙ follows.links; accepted = follows.accepted; stations = follows.stations; took = follows.took };
       going = walks.going;
     })
 
@@ -161,7 +168,7 @@ walks_unserved core conf t walks same listener k from served none at kept above 
     let follows = follows_unserved (setting_of core.conf) core.seen t walks.follows k core.seen.greatest from kept.rising above in
     let serves : None ≡ kind_at (setting_of conf) listener = sym none ∙ at ∙ ap (λ c. kind_at (setting_of c) listener) same in
     subst (λ kinds. Walks (record core { seen = record core.seen { greatest = k } }) (Opened kinds k from ∷ t)) serves (record {
-      follows = record { moment = follows.moment; links = follows.links; accepted = follows.accepted; took = follows.took };
+      follows = record { moment = follows.moment; links = follows.links; accepted = follows.accepted; stations = follows.stations; took = follows.took };
       going = walks.going;
     })
 
@@ -196,11 +203,13 @@ walks_no_room core t walks number links dead new = walks_unmoved core t links wa
 pub walks_no_end : (core : CoreMeaning) (t : Trace) → Walks core t → (number : ℕ) (links : List LinkSeen) → is_live t number ≡ false → links ≡ filter (is_another number) core.seen.links → Walks (relinked links core) t
 walks_no_end core t walks number links dead new = walks_unmoved core t links walks (new ∙ all_other number core.seen.links (no_number core t walks number dead))
 
-pub walks_ticked : (core : CoreMeaning) (t : Trace) → Walks core t → (m : ℕ) (moment : ℕ) → moment ≡ max (min m last_moment) core.seen.moment
-    → Walks (record core { seen = record core.seen { moment = moment } }) (Ticked m ∷ t)
-walks_ticked core t walks m moment is =
-    subst (λ n. Walks (record core { seen = record core.seen { moment = n } }) (Ticked m ∷ t)) (sym is)
-    (record { follows = follows_ticked (setting_of core.conf) core.seen t walks.follows m; going = walks.going })
+pub walks_ticked : (core : CoreMeaning) (t : Trace) → Walks core t → (m : ℕ) (moment : ℕ) (links : List LinkSeen) → moment ≡ max (min m last_moment) core.seen.moment
+    → links ≡ map (at_moment moment) core.seen.links
+    → Walks (record core { seen = record core.seen { moment = moment; links = links } }) (Ticked m ∷ t)
+walks_ticked core t walks m moment links is new =
+    subst (λ ls. Walks (record core { seen = record core.seen { moment = moment; links = ls } }) (Ticked m ∷ t)) (sym new)
+    (subst (λ n. Walks (record core { seen = record core.seen { moment = n; links = map (at_moment n) core.seen.links } }) (Ticked m ∷ t)) (sym is)
+    (record { follows = follows_ticked (setting_of core.conf) core.seen t walks.follows m; going = walks.going }))
 
 -- a core stays sound as a link comes
 pub kept_above : (core : CoreMeaning) (k : ℕ) → IsKept core → core.seen.greatest < k → k < 2 ^ 32 → IsKept (record core { seen = record core.seen { greatest = k } })
@@ -231,4 +240,4 @@ pub follows_stop : (core : CoreMeaning) (conf : ConfSeen) (t : Trace) → Walks 
 follows_stop core conf t walks same =
     let follows = follows_stopped (setting_of core.conf) core.seen t walks.follows walks.going in
     subst (λ c. Follows (setting_of c) (record core.seen { stopped = true }) (end_all ByStop (live_links t) t)) same
-    (record { moment = follows.moment; links = follows.links; accepted = follows.accepted; took = follows.took })
+    (record { moment = follows.moment; links = follows.links; accepted = follows.accepted; stations = follows.stations; took = follows.took })

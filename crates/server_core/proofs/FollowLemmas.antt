@@ -1,7 +1,15 @@
 -- Each entry of a trace, and what it changes of what there is to keep of the links.
-use Rattle.std.proofs.Common.{◌≡◌, ℕ, ◌+◌, ◌-◌, ◌≤◌, ◌<◌, ◌==◌, Bool, true, false, not, ◌&&◌, List, [], ◌∷◌, ◌++◌, length, map, refl, sym, ap, ◌∙◌, arith, Option, Some, None, ⊎_elim, append-nil, length-append, nat_lt, nat_le, is_some, drop, eq-eqb, if◌then◌else◌}
+use Rattle.std.proofs.Common.{◌≡◌, ℕ, ◌+◌, ◌-◌, ◌≤◌, ◌<◌, ◌==◌, Bool, true, false, not, ◌&&◌, List, [], ◌∷◌, ◌++◌, length, map, refl, sym, ap, ◌∙◌, arith, Option, Some, None, ⊎_elim, append-nil, length-append, nat_lt, nat_le, is_some, drop, eq-eqb, append_assoc, max, min, if◌then◌else◌}
 use Rattle.std.proofs.lemmas.Bool.{eqb-true, cases_Bool, leb-true, leb-false, le-leb, lt-leb, ltb-true, ltb-false, false_from_ne_true, true_from_ne_false}
+use Rattle.std.proofs.Math.Nat.{le-max_right}
 use Rattle.std.proofs.Math.Seq.{drop-append-add}
+use Rattle.std.proofs.lemmas.List.Concat.{flat_map-append}
+use Rattle.aprs_base.specs.PacketSeen.{PacketSeen}
+use Rattle.filter_lang.specs.Terms.{TermSeen}
+use Rattle.filter_eval.specs.Passes.{fresh}
+use Rattle.station_table.specs.Stations.{seen_in}
+use Rattle.aprs_history.specs.declared.verdicts.FilterAnswer.{FilterAnswer}
+use Rattle.aprs_history.specs.declared.verdicts.FilterAnswer.TheVariants.{Active, Denied}
 use Rattle.aprs_base.specs.Held.{held_after}
 use Rattle.aprs_base.specs.declared.texts.Addr.{Addr}
 use Rattle.aprs_base.specs.declared.cutting.Cut.{Cut}
@@ -9,14 +17,17 @@ use Rattle.aprs_base.specs.declared.packets.Parts.{Parts}
 use Rattle.aprs_base.specs.declared.packets.PortKind.{PortKind}
 use Rattle.aprs_history.specs.declared.verdicts.Session.{Session}
 use Rattle.aprs_history.specs.declared.verdicts.Refusal.{Refusal}
-use Rattle.aprs_history.specs.declared.verdicts.Verdict.TheVariants.{PassedOver, Refused, LoggedIn, Accepted}
+use Rattle.aprs_history.specs.declared.verdicts.Verdict.TheVariants.{PassedOver, Refused, LoggedIn, Filtered, Accepted}
 use Rattle.aprs_history.specs.Setting.{Setting}
-use Rattle.aprs_history.specs.Trace.{moment_of, Trace, Opened, Brought, Said, Roomed, Took, Lost, is_live}
-use Rattle.aprs_history.specs.Links.{brought_by, taken_by, session_of, opening_of}
-use Rattle.aprs_history.specs.Texts.{Queued, queued, lines_of, text_bytes, ended_line, wants, login_reply, refusal_reply, reply_lines, kind_wants}
+use Rattle.aprs_history.specs.Scenes.{accepted_of, packet_of}
+use Rattle.aprs_history.specs.Sights.{filter_passes, friend_in, friends_of, is_gate_at, login_in, own_place, sighting}
+use Rattle.aprs_history.specs.Trace.{last_moment, moment_of, Trace, Ticked, Opened, Brought, Said, Roomed, Took, Lost, is_live}
+use Rattle.aprs_history.specs.Links.{brought_by, filter_after, filter_by, filter_of, taken_by, session_of, opening_of}
+use Rattle.aprs_history.specs.Texts.{Queued, queued, lines_of, text_bytes, ended_line, wants, filter_reply, login_filter_reply, login_reply, refusal_reply, reply_lines, port_wants}
 use Rattle.aprs_history.specs.Stands.{LinkSeen, link_seen, TookNoMore}
 use Rattle.server_core.specs.Pending.{with_line, pending_bytes}
-use Rattle.server_core.specs.LinkSteps.{at_link, with_room, when_gone, with_taken, with_bytes, with_text, with_session, with_packet, wants_packet, new_link_seen}
+use Rattle.server_core.specs.LinkSteps.{at_link, at_moment, with_answer, with_room, when_gone, with_taken, with_bytes, with_text, with_session, with_packet, with_places, new_link_seen}
+use Rattle.server_core.proofs.SightLemmas.{friends_later, login_later, places_kept, told_at}
 
 pub map_through : {X Y : Type 0} (f : X → Y) (g : Y → Y) (h : X → Y) → ((x : X) → f x ≡ g (h x)) → (xs : List X) → map f xs ≡ map g (map h xs)
 map_through f g h same [] = refl
@@ -98,23 +109,103 @@ and_true : (a b c : Bool) → (a && true && b && c) ≡ (a && b && c)
 and_true true b c = refl
 and_true false b c = refl
 
--- a link with a line more or none
-packet_shape : (base : LinkSeen) (lines : List (List ℕ)) (taken : ℕ) (line : List ℕ) (own wanted : Bool) → base.queue ≡ queued lines taken → taken ≤ length (text_bytes lines)
-    → record base { session = if own then base.session else base.session; queue = queued (lines ++ (if wanted then line ∷ [] else [])) taken }
-    ≡ (if wanted then with_text line base else base)
-packet_shape base lines taken line true true is le =
-    ap (λ (q : Queued). record base { queue = q }) (queued-push lines line taken le ∙ ap (λ (q : Queued). with_line q line) (sym is))
-packet_shape base lines taken line false true is le =
-    ap (λ (q : Queued). record base { queue = q }) (queued-push lines line taken le ∙ ap (λ (q : Queued). with_line q line) (sym is))
-packet_shape base lines taken line true false is le =
-    ap (λ (q : Queued). record base { queue = q }) (ap (λ ls. queued ls taken) (append-nil lines) ∙ sym is)
-packet_shape base lines taken line false false is le =
-    ap (λ (q : Queued). record base { queue = q }) (ap (λ ls. queued ls taken) (append-nil lines) ∙ sym is)
+-- a text with more lines is no shorter
+pub text_more : (lines more : List (List ℕ)) (n : ℕ) → n ≤ length (text_bytes lines) → n ≤ length (text_bytes (lines ++ more))
+text_more lines more n le =
+    let split : length (text_bytes (lines ++ more)) ≡ length (text_bytes lines) + length (text_bytes more) =
+    ap length (flat_map-append ended_line lines more) ∙ length-append (text_bytes lines) (text_bytes more) in
+    omega arith
 
-quiet_shape : (base : LinkSeen) (lines : List (List ℕ)) (taken : ℕ) (own : Bool) → base.queue ≡ queued lines taken
-    → record base { session = if own then base.session else base.session; queue = queued (lines ++ (if own then [] else [])) taken } ≡ base
-quiet_shape base lines taken true is = ap (λ (q : Queued). record base { queue = q }) (ap (λ ls. queued ls taken) (append-nil lines) ∙ sym is)
-quiet_shape base lines taken false is = ap (λ (q : Queued). record base { queue = q }) (ap (λ ls. queued ls taken) (append-nil lines) ∙ sym is)
+-- what a line may change of what there is to keep of a link
+abbrev keeping : LinkSeen → List PacketSeen → ℕ → Option Session → List TermSeen → Queued → LinkSeen
+keeping base accepted now session terms queue = record base {
+  session = session;
+  filter = terms;
+  friends = map (friend_in accepted now) terms;
+  mine = login_in accepted now session;
+  queue = queue;
+}
+
+-- what a login with an answer changes
+abbrev pub with_login : List PacketSeen → ℕ → Session → List ℕ → Option FilterAnswer → LinkSeen → LinkSeen
+with_login accepted now session reply None link = with_session session (sighting accepted now session.call) reply link
+with_login accepted now session reply (Some answer) link =
+    with_answer (friend_in accepted now) answer (with_session session (sighting accepted now session.call) reply link)
+
+module _ (base : LinkSeen) (accepted : List PacketSeen) (now : ℕ) (session : Option Session) (terms : List TermSeen) (lines : List (List ℕ)) (taken : ℕ) where
+  abbrev kept : LinkSeen
+  kept = keeping base accepted now session terms (queued lines taken)
+
+  -- no line
+  passed_shape : (own : Bool)
+      → keeping base (accepted ++ []) now (if own then session else session) (if own then terms else terms) (queued (lines ++ []) taken) ≡ kept
+  passed_shape true = ap (λ packets. keeping base packets now session terms (queued (lines ++ []) taken)) (append-nil accepted) ∙ ap (λ ls. keeping base accepted now session terms (queued ls taken)) (append-nil lines)
+  passed_shape false = ap (λ packets. keeping base packets now session terms (queued (lines ++ []) taken)) (append-nil accepted) ∙ ap (λ ls. keeping base accepted now session terms (queued ls taken)) (append-nil lines)
+
+  quiet_shape : (own : Bool)
+      → keeping base (accepted ++ []) now (if own then session else session) (if own then terms else terms) (queued (lines ++ (if own then [] else [])) taken) ≡ kept
+  quiet_shape true = passed_shape true
+  quiet_shape false = passed_shape false
+
+  module _ (le : taken ≤ length (text_bytes lines)) where
+    -- a reply
+    reply_shape : (line : List ℕ) (own : Bool)
+        → keeping base (accepted ++ []) now (if own then session else session) (if own then terms else terms) (queued (lines ++ (if own then line ∷ [] else [])) taken)
+        ≡ (if own then with_text line kept else kept)
+    reply_shape line true =
+        ap (λ packets. keeping base packets now session terms (queued (lines ++ line ∷ []) taken)) (append-nil accepted)
+        ∙ ap (λ (q : Queued). keeping base accepted now session terms q) (queued-push lines line taken le)
+    reply_shape line false = passed_shape false
+
+    -- an answer to a filter
+    answer_shape : (answer : FilterAnswer) (own : Bool)
+        → keeping base (accepted ++ []) now (if own then session else session) (if own then filter_by answer terms else terms) (queued (lines ++ (if own then filter_reply answer ∷ [] else [])) taken)
+        ≡ (if own then with_answer (friend_in accepted now) answer kept else kept)
+    answer_shape (Active others reply) true =
+        ap (λ packets. keeping base packets now session others (queued (lines ++ reply ∷ []) taken)) (append-nil accepted)
+        ∙ ap (λ (q : Queued). keeping base accepted now session others q) (queued-push lines reply taken le)
+    answer_shape (Active others reply) false = passed_shape false
+    answer_shape (Denied why) true = reply_shape (filter_reply (Denied why)) true
+    answer_shape (Denied why) false = passed_shape false
+
+    -- a login, perhaps with a filter
+    login_shape : (new : Session) (reply : List ℕ) (answer : Option FilterAnswer) (own : Bool)
+        → keeping base (accepted ++ []) now (if own then Some new else session) (if own then filter_after (LoggedIn new answer) terms else terms)
+            (queued (lines ++ (if own then reply ∷ login_filter_reply answer else [])) taken)
+        ≡ (if own then with_login accepted now new reply answer kept else kept)
+    login_shape new reply None true =
+        ap (λ packets. keeping base packets now (Some new) terms (queued (lines ++ reply ∷ []) taken)) (append-nil accepted)
+        ∙ ap (λ (q : Queued). keeping base accepted now (Some new) terms q) (queued-push lines reply taken le)
+    login_shape new reply (Some (Active others line)) true =
+        ap (λ packets. keeping base packets now (Some new) others (queued (lines ++ reply ∷ line ∷ []) taken)) (append-nil accepted)
+        ∙ ap (λ ls. keeping base accepted now (Some new) others (queued ls taken)) (sym (append_assoc lines (reply ∷ []) (line ∷ [])))
+        ∙ ap (λ (q : Queued). keeping base accepted now (Some new) others q) (queued-push (lines ++ reply ∷ []) line taken (text_more lines (reply ∷ []) taken le))
+        ∙ ap (λ (q : Queued). keeping base accepted now (Some new) others (with_line q line)) (queued-push lines reply taken le)
+    login_shape new reply (Some (Denied why)) true =
+        let line = filter_reply (Denied why) in
+        ap (λ packets. keeping base packets now (Some new) terms (queued (lines ++ reply ∷ line ∷ []) taken)) (append-nil accepted)
+        ∙ ap (λ ls. keeping base accepted now (Some new) terms (queued ls taken)) (sym (append_assoc lines (reply ∷ []) (line ∷ [])))
+        ∙ ap (λ (q : Queued). keeping base accepted now (Some new) terms q) (queued-push (lines ++ reply ∷ []) line taken (text_more lines (reply ∷ []) taken le))
+        ∙ ap (λ (q : Queued). keeping base accepted now (Some new) terms (with_line q line)) (queued-push lines reply taken le)
+    login_shape new reply answer false = passed_shape false
+
+    -- a packet, which the link wants or not
+    packet_shape : (packet : PacketSeen) (own wanted : Bool) → packet.moment ≡ now
+        → keeping base (accepted ++ packet ∷ []) now (if own then session else session) (if own then terms else terms)
+            (queued (lines ++ (if wanted then packet.line ∷ [] else [])) taken)
+        ≡ with_places packet (if wanted then with_text packet.line kept else kept)
+    packet_shape packet true true at =
+        ap (λ (q : Queued). keeping base (accepted ++ packet ∷ []) now session terms q) (queued-push lines packet.line taken le)
+        ∙ places_kept accepted now packet (seen_in packet) refl (λ seen is. told_at packet seen is ∙ at) (with_text packet.line kept) refl refl
+    packet_shape packet false true at =
+        ap (λ (q : Queued). keeping base (accepted ++ packet ∷ []) now session terms q) (queued-push lines packet.line taken le)
+        ∙ places_kept accepted now packet (seen_in packet) refl (λ seen is. told_at packet seen is ∙ at) (with_text packet.line kept) refl refl
+    packet_shape packet true false at =
+        ap (λ ls. keeping base (accepted ++ packet ∷ []) now session terms (queued ls taken)) (append-nil lines)
+        ∙ places_kept accepted now packet (seen_in packet) refl (λ seen is. told_at packet seen is ∙ at) kept refl refl
+    packet_shape packet false false at =
+        ap (λ ls. keeping base (accepted ++ packet ∷ []) now session terms (queued ls taken)) (append-nil lines)
+        ∙ places_kept accepted now packet (seen_in packet) refl (λ seen is. told_at packet seen is ∙ at) kept refl refl
 
 -- ---- what there is to keep of each link, one entry later
 
@@ -143,51 +234,65 @@ module _ (s : Setting) where
       (λ here. let same : j ≡ k = eqb-true j k here in rw here (ap (λ i. record (link_seen s t j) { last = moment_of t; held = held_after (brought_by t i ++ bytes) }) same))
       (λ other. rw other refl) (cases_Bool (j == k))
 
+  -- time goes on
+  pub ticked_seen : (t : Trace) (m j : ℕ) → link_seen s (Ticked m ∷ t) j ≡ at_moment (moment_of (Ticked m ∷ t)) (link_seen s t j)
+  unfolding link_seen
+  ticked_seen t m j =
+      let later : moment_of t ≤ moment_of (Ticked m ∷ t) = le-max_right (min m last_moment) (moment_of t) in
+      ap (λ friends. record (link_seen s t j) { friends = friends; mine = own_place (Ticked m ∷ t) j }) (sym (friends_later (accepted_of t) (moment_of t) (moment_of (Ticked m ∷ t)) later (filter_of t j)))
+      ∙ ap (λ place. record (link_seen s t j) { friends = map (fresh (moment_of (Ticked m ∷ t))) (friends_of t j); mine = place }) (sym (login_later (accepted_of t) (moment_of t) (moment_of (Ticked m ∷ t)) later (session_of t j)))
+
   -- a line that is refused without a reply, and one with a reply
   pub refused_seen : (t : Trace) (k : ℕ) (cut : Cut) (why : Refusal) (j : ℕ) → None ≡ refusal_reply why → link_seen s (Said k cut (Refused why) ∷ t) j ≡ link_seen s t j
   unfolding link_seen
   refused_seen t k cut why j none =
       let base = link_seen s t j in
-      ap (λ reply. record base { session = if j == k then base.session else base.session; queue = queued (lines_of s t j ++ (if j == k then reply_lines reply else [])) (taken_by t j) }) (sym none)
-      ∙ quiet_shape base (lines_of s t j) (taken_by t j) (j == k) refl
+      ap (λ reply. keeping base (accepted_of t ++ []) (moment_of t) (if j == k then session_of t j else session_of t j) (if j == k then filter_of t j else filter_of t j)
+      (queued (lines_of s t j ++ (if j == k then reply_lines reply else [])) (taken_by t j))) (sym none)
+      ∙ quiet_shape base (accepted_of t) (moment_of t) (session_of t j) (filter_of t j) (lines_of s t j) (taken_by t j) (j == k)
 
   pub replied_seen : (t : Trace) → TookNoMore s t → (k : ℕ) (cut : Cut) (why : Refusal) (line : List ℕ) (j : ℕ) → Some line ≡ refusal_reply why
       → link_seen s (Said k cut (Refused why) ∷ t) j ≡ at_link k (with_text line) (link_seen s t j)
   unfolding link_seen
   replied_seen t took k cut why line j some =
       let base = link_seen s t j in
-      ap (λ reply. record base { session = if j == k then base.session else base.session; queue = queued (lines_of s t j ++ (if j == k then reply_lines reply else [])) (taken_by t j) }) (sym some)
-      ∙ packet_shape base (lines_of s t j) (taken_by t j) line (j == k) (j == k) refl (took j)
+      ap (λ reply. keeping base (accepted_of t ++ []) (moment_of t) (if j == k then session_of t j else session_of t j) (if j == k then filter_of t j else filter_of t j)
+      (queued (lines_of s t j ++ (if j == k then reply_lines reply else [])) (taken_by t j))) (sym some)
+      ∙ reply_shape base (accepted_of t) (moment_of t) (session_of t j) (filter_of t j) (lines_of s t j) (taken_by t j) (took j) line (j == k)
 
   pub passed_seen : (t : Trace) (k : ℕ) (cut : Cut) (j : ℕ) → link_seen s (Said k cut PassedOver ∷ t) j ≡ link_seen s t j
   unfolding link_seen
-  passed_seen t k cut j =
-      let lines = ap (λ ls. queued ls (taken_by t j)) (append-nil (lines_of s t j)) in
-      ⊎_elim
-      (λ here. rw here (ap (λ (q : Queued). record (link_seen s t j) { queue = q }) lines))
-      (λ other. rw other (ap (λ (q : Queued). record (link_seen s t j) { queue = q }) lines)) (cases_Bool (j == k))
+  passed_seen t k cut j = passed_shape (link_seen s t j) (accepted_of t) (moment_of t) (session_of t j) (filter_of t j) (lines_of s t j) (taken_by t j) (j == k)
 
-  pub login_seen : (t : Trace) → TookNoMore s t → (k : ℕ) (cut : Cut) (session : Session) (j : ℕ)
-      → link_seen s (Said k cut (LoggedIn session) ∷ t) j ≡ at_link k (with_session session (login_reply s.server session)) (link_seen s t j)
+  pub answered_seen : (t : Trace) → TookNoMore s t → (k : ℕ) (cut : Cut) (answer : FilterAnswer) (j : ℕ)
+      → link_seen s (Said k cut (Filtered answer) ∷ t) j ≡ at_link k (with_answer (friend_in (accepted_of t) (moment_of t)) answer) (link_seen s t j)
   unfolding link_seen
-  login_seen t took k cut session j =
-      let pushed = queued-push (lines_of s t j) (login_reply s.server session) (taken_by t j) (took j) in
-      let lines = ap (λ ls. queued ls (taken_by t j)) (append-nil (lines_of s t j)) in
-      ⊎_elim
-      (λ here. rw here (ap (λ (q : Queued). record (link_seen s t j) { queue = q; session = Some session }) pushed))
-      (λ other. rw other (ap (λ (q : Queued). record (link_seen s t j) { queue = q }) lines)) (cases_Bool (j == k))
+  answered_seen t took k cut answer j =
+      answer_shape (link_seen s t j) (accepted_of t) (moment_of t) (session_of t j) (filter_of t j) (lines_of s t j) (taken_by t j) (took j) answer (j == k)
+
+  pub login_seen : (t : Trace) → TookNoMore s t → (k : ℕ) (cut : Cut) (session : Session) (answer : Option FilterAnswer) (j : ℕ)
+      → link_seen s (Said k cut (LoggedIn session answer) ∷ t) j
+      ≡ at_link k (with_login (accepted_of t) (moment_of t) session (login_reply s.server session) answer) (link_seen s t j)
+  unfolding link_seen
+  login_seen t took k cut session answer j =
+      login_shape (link_seen s t j) (accepted_of t) (moment_of t) (session_of t j) (filter_of t j) (lines_of s t j) (taken_by t j) (took j) session (login_reply s.server session) answer (j == k)
 
   -- an accepted packet, at a link that lives
   pub accepted_seen : (t : Trace) → TookNoMore s t → (k : ℕ) (cut : Cut) (parts : Parts) (line : List ℕ) (j : ℕ) → is_live t j ≡ true
-      → link_seen s (Said k cut (Accepted parts line) ∷ t) j ≡ with_packet k line (link_seen s t j)
+      → link_seen s (Said k cut (Accepted parts line) ∷ t) j
+      ≡ with_packet k (packet_of k (moment_of t) parts line)
+          (record { place = sighting (accepted_of t) (moment_of t) parts.source; gate = is_gate_at (accepted_of t) (moment_of t) parts.source }) (link_seen s t j)
   unfolding link_seen
   accepted_seen t took k cut parts line j live =
       let base = link_seen s t j in
-      let wanted : wants t k j ≡ wants_packet k base =
-      ap (λ b. not (k == j) && b && is_some (session_of t j) && kind_wants (opening_of t j)) live
-      ∙ and_true (not (k == j)) (is_some (session_of t j)) (kind_wants (opening_of t j)) in
-      ap (λ b. record base { session = if j == k then base.session else base.session; queue = queued (lines_of s t j ++ (if b then line ∷ [] else [])) (taken_by t j) }) wanted
-      ∙ packet_shape base (lines_of s t j) (taken_by t j) line (j == k) (wants_packet k base) refl (took j)
+      let packet = packet_of k (moment_of t) parts line in
+      let wanted = not (k == j) && is_some (session_of t j) && port_wants (opening_of t j) (filter_passes t packet j) in
+      let same : wants t k packet j ≡ wanted =
+      ap (λ b. not (k == j) && b && is_some (session_of t j) && port_wants (opening_of t j) (filter_passes t packet j)) live
+      ∙ and_true (not (k == j)) (is_some (session_of t j)) (port_wants (opening_of t j) (filter_passes t packet j)) in
+      ap (λ b. keeping base (accepted_of t ++ packet ∷ []) (moment_of t) (if j == k then session_of t j else session_of t j) (if j == k then filter_of t j else filter_of t j)
+      (queued (lines_of s t j ++ (if b then line ∷ [] else [])) (taken_by t j))) same
+      ∙ packet_shape base (accepted_of t) (moment_of t) (session_of t j) (filter_of t j) (lines_of s t j) (taken_by t j) (took j) packet (j == k) wanted refl
 
   pub opened_seen : (t : Trace) (serves : Option PortKind) (k : ℕ) (from : Addr) (j : ℕ) → (j == k) ≡ false → link_seen s (Opened serves k from ∷ t) j ≡ link_seen s t j
   unfolding link_seen

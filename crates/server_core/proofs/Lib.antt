@@ -4,6 +4,7 @@ pub mod LinkLemmas
 pub mod PartLemmas
 pub mod RoundLemmas
 pub mod SendLemmas
+pub mod SightLemmas
 pub mod VerdictLemmas
 pub mod WalkLemmas
 pub mod WholeRoundLemmas

@@ -1,13 +1,17 @@
 -- A step at the link of one number, among links whose numbers rise.
-use Rattle.std.proofs.Common.{◌≡◌, ℕ, zero, suc, ◌+◌, ◌≤◌, ◌<◌, Bool, true, false, List, [], ◌∷◌, length, get_or, map, refl, sym, ap, ◌∙◌, subst, arith, eq-eqb, Some, None, slice_set, ⊎_elim, cond, nat_lt, ◌||◌, ◌++◌, take, drop, add-one, filter, le_refl, take_all, append-nil, ◌==◌}
-use Rattle.std.specs.List.{position, position_or_len, list_any}
+use Rattle.std.proofs.Common.{◌≡◌, ℕ, zero, suc, ◌+◌, ◌≤◌, ◌<◌, Bool, true, false, List, [], ◌∷◌, length, Option, if◌then◌else◌, get_or, map, refl, sym, ap, ◌∙◌, subst, arith, eq-eqb, Some, None, slice_set, ⊎_elim, cond, nat_lt, ◌||◌, ◌++◌, take, drop, add-one, filter, le_refl, take_all, append-nil, ◌==◌}
+use Rattle.std.specs.List.{position, position_or_len, list_any, zip}
 use Rattle.std.proofs.lemmas.Bool.{ltb-true, ltb-false, cases_Bool, false_from_ne_true, eqb-true, true≢false}
 use Rattle.std.proofs.lemmas.List.Sums.{passes_at_first, fails_before_first}
 use Rattle.std.proofs.lemmas.List.Folds.{list_any_none}
 use Rattle.std.proofs.lemmas.List.{drop_all}
+use Rattle.aprs_base.specs.PacketSeen.{PacketSeen}
+use Rattle.filter_eval.specs.declared.seen.Seen.{Seen}
+use Rattle.station_table.specs.Stations.{seen_in}
 use Rattle.aprs_history.specs.Trace.{is_member}
 use Rattle.aprs_history.specs.Stands.{LinkSeen}
-use Rattle.server_core.specs.LinkSteps.{AreServed, Rises, at_link, has_that, picked_at, with_packet, wants_packet, with_text, has_number, numbers}
+use Rattle.server_core.specs.LinkSteps.{AreServed, Rises, at_link, has_that, picked_at, with_copy, with_packet, wants_packet, with_seen, with_text, has_number, numbers}
+use Rattle.server_core.specs.declared.link.SourcePlace.{SourcePlace}
 
 -- numbers that differ
 pub not_that : (number : ℕ) (link : LinkSeen) → (link.link ≡ number → ⊥) → has_that number link ≡ false
@@ -100,6 +104,41 @@ mapped_more f xs ys i new d lt so_far is =
     rw add-one (ap (λ zs. slice_set zs i new) so_far
     ∙ mapped_at f xs i new d lt (is ∙ ap f (ap (λ zs. get_or zs i d) so_far ∙ get_mapped f xs i d lt)))
 
+-- the same for two lists side by side, of which the second is changed
+zipped_at : {X Y : Type 0} (f : X × Y → Y) (xs : List X) (ys : List Y) (i : ℕ) (x : X) (y new : Y) → i < length xs → length ys ≡ length xs → new ≡ f (get_or xs i x, get_or ys i y)
+    → slice_set (map f (zip (take i xs) (take i ys)) ++ drop i ys) i new ≡ map f (zip (take (suc i) xs) (take (suc i) ys)) ++ drop (suc i) ys
+zipped_at f [] ys i x y new lt same is = absurd (omega arith)
+zipped_at f (a ∷ xs) [] i x y new lt same is = absurd (omega (arith, same))
+zipped_at f (a ∷ xs) (b ∷ ys) zero x y new lt same is = ap (λ z. z ∷ ys) is
+zipped_at f (a ∷ xs) (b ∷ ys) (suc i) x y new lt same is = ap (λ zs. f (a, b) ∷ zs) (zipped_at f xs ys i x y new (omega arith) (omega (arith, same)) is)
+
+get_zipped : {X Y : Type 0} (f : X × Y → Y) (xs : List X) (ys : List Y) (i : ℕ) (d : Y) → i < length xs → length ys ≡ length xs
+    → get_or (map f (zip (take i xs) (take i ys)) ++ drop i ys) i d ≡ get_or ys i d
+get_zipped f [] ys i d lt same = absurd (omega arith)
+get_zipped f (a ∷ xs) [] i d lt same = absurd (omega (arith, same))
+get_zipped f (a ∷ xs) (b ∷ ys) zero d lt same = refl
+get_zipped f (a ∷ xs) (b ∷ ys) (suc i) d lt same = get_zipped f xs ys i d (omega arith) (omega (arith, same))
+
+pub zipped_more : {X Y : Type 0} (f : X × Y → Y) (xs : List X) (ys zs : List Y) (i : ℕ) (x : X) (y new : Y) → i < length xs → length ys ≡ length xs
+    → zs ≡ map f (zip (take i xs) (take i ys)) ++ drop i ys → x ≡ get_or xs i x → y ≡ get_or zs i y → new ≡ f (x, y)
+    → slice_set zs i new ≡ map f (zip (take (i + 1) xs) (take (i + 1) ys)) ++ drop (i + 1) ys
+zipped_more f xs ys zs i x y new lt same so_far at_x at_y is =
+    let there : y ≡ get_or ys i y = at_y ∙ ap (λ rest. get_or rest i y) so_far ∙ get_zipped f xs ys i y lt same in
+    rw add-one (ap (λ rest. slice_set rest i new) so_far
+    ∙ zipped_at f xs ys i x y new lt same (is ∙ ap (λ z. f (x, z)) there ∙ ap (λ a. f (a, get_or ys i y)) at_x))
+
+-- and when the loops are done
+pub mapped_all : {X : Type 0} (f : X → X) (xs ys : List X) (i : ℕ) → length xs ≤ i → ys ≡ map f (take i xs) ++ drop i xs → ys ≡ map f xs
+mapped_all f xs ys i past is =
+    is ∙ ap (λ rest. map f (take i xs) ++ rest) (drop_all i xs past) ∙ append-nil (map f (take i xs)) ∙ ap (map f) (take_all i xs past)
+
+pub zipped_all : {X Y : Type 0} (f : X × Y → Y) (xs : List X) (ys zs : List Y) (i : ℕ) → length xs ≤ i → length ys ≡ length xs
+    → zs ≡ map f (zip (take i xs) (take i ys)) ++ drop i ys → zs ≡ map f (zip xs ys)
+zipped_all f xs ys zs i past same is =
+    let over : length ys ≤ i = omega (arith, same) in
+    is ∙ ap (λ rest. map f (zip (take i xs) (take i ys)) ++ rest) (drop_all i ys over) ∙ append-nil (map f (zip (take i xs) (take i ys)))
+    ∙ ap (λ firsts. map f (zip firsts (take i ys))) (take_all i xs past) ∙ ap (λ seconds. map f (zip xs seconds)) (take_all i ys over)
+
 -- what is picked at the place where the link of a number stands, and where it is nowhere
 module _ {X : Type 0} (pick : LinkSeen → X) (none : X) (number : ℕ) where
   picked_here : (links : List LinkSeen) (place : ℕ) (d : LinkSeen) → place < length links → position_or_len (has_that number) links ≡ place
@@ -165,22 +204,11 @@ at_keeps number step same link =
     (λ other. ap (λ b. (cond b (step link) link).link) other)
     (cases_Bool (has_that number link))
 
-pub packet_keeps : (from : ℕ) (line : List ℕ) (link : LinkSeen) → (with_packet from line link).link ≡ link.link
-packet_keeps from line link =
-    ⊎_elim
-    (λ wanted. ap (λ b. (cond b (with_text line link) link).link) wanted)
-    (λ unwanted. ap (λ b. (cond b (with_text line link) link).link) unwanted)
-    (cases_Bool (wants_packet from link))
-
--- links that a step at one number, or a packet, leaves rise as before
+-- links that a step at one number leaves rise as before
 pub rises_at : (number : ℕ) (step : LinkSeen → LinkSeen) → ((link : LinkSeen) → (step link).link ≡ link.link) → (high : ℕ) (links new : List LinkSeen)
     → new ≡ map (at_link number step) links → Rises 0 (numbers links) high → Rises 0 (numbers new) high
 rises_at number step same high links new is rises =
     subst (λ ns. Rises 0 ns high) (sym (ap numbers is ∙ numbers_kept (at_link number step) (at_keeps number step same) links)) rises
-
-pub rises_packet : (from : ℕ) (line : List ℕ) (high : ℕ) (links new : List LinkSeen) → new ≡ map (with_packet from line) links → Rises 0 (numbers links) high → Rises 0 (numbers new) high
-rises_packet from line high links new is rises =
-    subst (λ ns. Rises 0 ns high) (sym (ap numbers is ∙ numbers_kept (with_packet from line) (packet_keeps from line) links)) rises
 
 -- what a vector holds after its slice was written
 pub written_back : {X : Type 0} (n : ℕ) (new old : List X) → length new ≡ length old → n ≡ length old → take n (new ++ drop (length new) old) ≡ new

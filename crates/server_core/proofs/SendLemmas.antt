@@ -1,9 +1,12 @@
 -- What a send leaves of the core, and the history with it.
-use Rattle.std.proofs.Common.{◌≡◌, ℕ, ◌+◌, ◌-◌, ◌≤◌, ◌==◌, true, false, ◌||◌, List, [], ◌∷◌, length, map, refl, sym, ap, ◌∙◌, arith, ⊎_elim, length-drop}
+use Rattle.std.proofs.Common.{◌≡◌, ℕ, ◌+◌, ◌-◌, ◌≤◌, ◌==◌, true, false, ◌||◌, List, [], ◌∷◌, length, map, refl, sym, ap, ◌∙◌, subst, arith, ⊎_elim, length-drop}
 use Rattle.std.proofs.lemmas.Bool.{cases_Bool}
 use Rattle.aprs_base.specs.declared.events.Sent.TheVariants as sent
 use Rattle.aprs_base.specs.declared.events.Happening.TheVariants as did
 use Rattle.aprs_base.specs.declared.packets.ListenSpec.{ListenSpec}
+use Rattle.station_table.specs.Last.{Agrees}
+use Rattle.station_table.specs.Stations.{no_stations}
+use Rattle.station_table.proofs.LastSeen.{new_agrees}
 use Rattle.aprs_history.specs.Setting.{Setting}
 use Rattle.aprs_history.specs.Trace.{Trace, served_links, is_member}
 use Rattle.aprs_history.specs.Links.{taken_by}
@@ -57,6 +60,7 @@ stands_took core links k offered n bytes h size stands part pending new =
         moment = follows.moment;
         links = new ∙ ap (λ m. map (at_link k (with_taken m n)) core.seen.links) (sym size) ∙ follows.links;
         accepted = follows.accepted;
+        stations = follows.stations;
         took = follows.took;
       };
       greatest = stands.greatest;
@@ -71,7 +75,7 @@ stands_gone core links k bytes h stands new =
     let follows = follows_lost s core.seen (trace_of s h) stands.follows k in
     record {
       finished = stands.finished;
-      follows = record { moment = follows.moment; links = new ∙ follows.links; accepted = follows.accepted; took = follows.took };
+      follows = record { moment = follows.moment; links = new ∙ follows.links; accepted = follows.accepted; stations = follows.stations; took = follows.took };
       greatest = stands.greatest;
       stopped = stands.stopped;
     }
@@ -88,11 +92,11 @@ stands_listening s core (spec ∷ specs) n h stands = stands_listening s core sp
 })
 
 -- nothing has happened
-pub stands_new : (s : Setting) (core : CoreSeen) → core.moment ≡ 0 → core.links ≡ [] → core.accepted ≡ [] → core.greatest ≡ 0 → core.stopped ≡ false → StandsFor s core []
+pub stands_new : (s : Setting) (core : CoreSeen) → core.moment ≡ 0 → core.links ≡ [] → core.accepted ≡ [] → core.stations ≡ no_stations → core.greatest ≡ 0 → core.stopped ≡ false → StandsFor s core []
 unfolding trace_of
-stands_new s core moment links accepted greatest stopped = record {
+stands_new s core moment links accepted stations greatest stopped = record {
   finished = refl;
-  follows = record { moment = moment; links = links; accepted = accepted; took = λ k. omega arith };
+  follows = record { moment = moment; links = links; accepted = accepted; stations = subst (λ table. Agrees table []) (sym stations) new_agrees; took = λ k. omega arith };
   greatest = greatest;
   stopped = stopped;
 }

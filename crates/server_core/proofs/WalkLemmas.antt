@@ -1,5 +1,5 @@
 -- The walk over a round: what the core keeps follows the trace, entry by entry.
-use Rattle.std.proofs.Common.{◌≡◌, ℕ, ◌+◌, ◌≤◌, ◌<◌, ◌==◌, Bool, true, false, not, ◌||◌, List, [], ◌∷◌, ◌++◌, length, map, filter, refl, sym, ap, ◌∙◌, subst, arith, Option, Some, None, ⊎_elim, append-nil, append_assoc, length-append, max, min, eq-eqb, cond}
+use Rattle.std.proofs.Common.{◌≡◌, ℕ, ◌+◌, ◌≤◌, ◌<◌, ◌==◌, Bool, true, false, not, ◌||◌, List, [], ◌∷◌, ◌++◌, length, map, filter, refl, sym, ap, ◌∙◌, subst, arith, Option, Some, None, ⊎_elim, append-nil, append_assoc, length-append, max, min, eq-eqb, cond, if◌then◌else◌}
 use Rattle.std.proofs.lemmas.Bool.{eqb-true, cases_Bool, false_from_ne_true, true≢false}
 use Rattle.std.proofs.lemmas.List.Concat.{flat_map-append}
 use Rattle.aprs_base.specs.Held.{held_after}
@@ -7,19 +7,28 @@ use Rattle.aprs_base.specs.declared.texts.Addr.{Addr}
 use Rattle.aprs_base.specs.declared.cutting.Cut.{Cut}
 use Rattle.aprs_base.specs.declared.packets.Parts.{Parts}
 use Rattle.aprs_base.specs.declared.packets.PortKind.{PortKind}
+use Rattle.aprs_base.specs.PacketSeen.{PacketSeen}
+use Rattle.filter_lang.specs.Terms.{TermSeen}
+use Rattle.filter_eval.specs.declared.seen.Seen.{Seen}
+use Rattle.station_table.specs.Last.{Agrees}
+use Rattle.station_table.proofs.LastSeen.{note_agrees}
+use Rattle.aprs_history.specs.declared.verdicts.FilterAnswer.{FilterAnswer}
 use Rattle.aprs_history.specs.declared.verdicts.Session.{Session}
 use Rattle.aprs_history.specs.declared.verdicts.Refusal.{Refusal}
 use Rattle.aprs_history.specs.declared.verdicts.Verdict.{Verdict}
-use Rattle.aprs_history.specs.declared.verdicts.Verdict.TheVariants.{PassedOver, Refused, LoggedIn, Accepted}
+use Rattle.aprs_history.specs.declared.verdicts.Verdict.TheVariants.{PassedOver, Refused, LoggedIn, Filtered, Accepted}
 use Rattle.aprs_history.specs.Setting.{Setting}
 use Rattle.aprs_history.specs.Trace.{Trace, Ticked, Opened, Brought, Said, Roomed, Took, Lost, Ended, EndReason, FoundGone, ByPeer, ByStop, live_links, stopped_links, served_links, is_member, is_other, moment_of, last_moment}
 use Rattle.aprs_history.specs.Links.{brought_by, taken_by, is_gone, gone_links}
-use Rattle.aprs_history.specs.Scenes.{accepted_of, accepted_by}
+use Rattle.aprs_history.specs.Scenes.{accepted_of, packet_of}
+use Rattle.aprs_history.specs.Sights.{friend_in, is_gate_at, sighting}
 use Rattle.aprs_history.specs.Texts.{lines_of, text_bytes, ended_line, added_by, login_reply, refusal_reply}
 use Rattle.aprs_history.specs.Stands.{LinkSeen, CoreSeen, link_seen, TookNoMore, Follows}
 use Rattle.aprs_history.specs.History.{end_all, begin_round}
-use Rattle.server_core.specs.LinkSteps.{after_verdict, with_reply, at_link, with_room, when_gone, with_taken, with_bytes, with_text, with_session, with_packet, new_link_seen, numbers, is_there, is_another, Rises}
-use Rattle.server_core.proofs.FollowLemmas.{map_through, roomed_seen, lost_seen, took_seen, brought_seen, refused_seen, replied_seen, passed_seen, login_seen, accepted_seen, opened_seen, new_seen}
+use Rattle.server_core.specs.LinkSteps.{after_answer, after_login, after_login_answer, after_packet, after_verdict, found_in, has_that, with_answer, with_reply, at_link, at_moment, with_room, when_gone, with_taken, with_bytes, with_text, with_session, with_packet, new_link_seen, numbers, place_young, source_found, is_there, is_another, Rises}
+use Rattle.server_core.specs.declared.link.SourcePlace.{SourcePlace}
+use Rattle.server_core.proofs.SightLemmas.{answer_same, friends_found, map_same, sighting_found, source_known}
+use Rattle.server_core.proofs.FollowLemmas.{answered_seen, map_through, text_more, ticked_seen, with_login, roomed_seen, lost_seen, took_seen, brought_seen, refused_seen, replied_seen, passed_seen, login_seen, accepted_seen, opened_seen, new_seen}
 
 -- ---- lists of numbers
 
@@ -42,6 +51,15 @@ map_twice : {X Y Z : Type 0} (g : Y → Z) (h : X → Y) (xs : List X) → map g
 map_twice g h [] = refl
 map_twice g h (x ∷ xs) = ap (λ zs. g (h x) ∷ zs) (map_twice g h xs)
 
+-- two steps at one link
+at_twice : (k : ℕ) (g h : LinkSeen → LinkSeen) → ((link : LinkSeen) → (h link).link ≡ link.link) → (link : LinkSeen)
+    → at_link k g (at_link k h link) ≡ at_link k (λ l. g (h l)) link
+at_twice k g h keeps link =
+    ⊎_elim
+    (λ here. ap (λ b. at_link k g (cond b (h link) link)) here ∙ ap (λ b. cond b (g (h link)) (h link)) (ap (λ n. n == k) (keeps link) ∙ here) ∙ sym (ap (λ b. cond b (g (h link)) link) here))
+    (λ other. ap (λ b. at_link k g (cond b (h link) link)) other ∙ ap (λ b. cond b (g link) link) other ∙ sym (ap (λ b. cond b (g (h link)) link) other))
+    (cases_Bool (has_that k link))
+
 rises_le : (low high : ℕ) (ns : List ℕ) → Rises low ns high → low ≤ high
 rises_le low high [] rises = rises
 rises_le low high (n ∷ ns) rises = let later = rises_le n high ns rises.1 in let above = rises.0 in omega arith
@@ -56,12 +74,6 @@ member_below low high (n ∷ ns) x rises member =
     (cases_Bool (n == x))
 
 -- ---- no link takes more than its text
-
-text_more : (lines more : List (List ℕ)) (n : ℕ) → n ≤ length (text_bytes lines) → n ≤ length (text_bytes (lines ++ more))
-text_more lines more n le =
-    let split : length (text_bytes (lines ++ more)) ≡ length (text_bytes lines) + length (text_bytes more) =
-    ap length (flat_map-append ended_line lines more) ∙ length-append (text_bytes lines) (text_bytes more) in
-    omega arith
 
 module _ (s : Setting) where
   took_said : (t : Trace) → TookNoMore s t → (k : ℕ) (cut : Cut) (verdict : Verdict) → TookNoMore s (Said k cut verdict ∷ t)
@@ -98,18 +110,26 @@ abbrev pub with_links : List LinkSeen → CoreSeen → CoreSeen
 with_links links core = record core { links = links }
 
 abbrev pub with_moment : ℕ → CoreSeen → CoreSeen
-with_moment moment core = record core { moment = moment }
+with_moment moment core = record core { moment = moment; links = map (at_moment moment) core.links }
 
 module _ (s : Setting) (core : CoreSeen) (t : Trace) (follows : Follows s core t) where
   pub follows_ticked : (m : ℕ) → Follows s (with_moment (max (min m last_moment) core.moment) core) (Ticked m ∷ t)
-  unfolding link_seen
-  follows_ticked m = record { moment = ap (max (min m last_moment)) follows.moment; links = follows.links; accepted = follows.accepted; took = follows.took }
+  follows_ticked m = record {
+    moment = ap (max (min m last_moment)) follows.moment;
+    links = ap (λ now. map (at_moment (max (min m last_moment) now)) core.links) follows.moment
+        ∙ ap (map (at_moment (moment_of (Ticked m ∷ t)))) follows.links
+        ∙ sym (map_through (link_seen s (Ticked m ∷ t)) (at_moment (moment_of (Ticked m ∷ t))) (link_seen s t) (ticked_seen s t m) (served_links t));
+    accepted = follows.accepted;
+    stations = follows.stations;
+    took = follows.took;
+  }
 
   pub follows_roomed : (k : ℕ) → Follows s (with_links (map (at_link k with_room) core.links) core) (Roomed k ∷ t)
   follows_roomed k = record {
     moment = follows.moment;
     links = ap (map (at_link k with_room)) follows.links ∙ sym (map_through (link_seen s (Roomed k ∷ t)) (at_link k with_room) (link_seen s t) (roomed_seen s t k) (served_links t));
     accepted = follows.accepted;
+    stations = follows.stations;
     took = follows.took;
   }
 
@@ -118,6 +138,7 @@ module _ (s : Setting) (core : CoreSeen) (t : Trace) (follows : Follows s core t
     moment = follows.moment;
     links = ap (map (at_link k when_gone)) follows.links ∙ sym (map_through (link_seen s (Lost k ∷ t)) (at_link k when_gone) (link_seen s t) (lost_seen s t k) (served_links t));
     accepted = follows.accepted;
+    stations = follows.stations;
     took = follows.took;
   }
 
@@ -128,6 +149,7 @@ module _ (s : Setting) (core : CoreSeen) (t : Trace) (follows : Follows s core t
     links = ap (map (at_link k (with_taken offered n))) follows.links
         ∙ sym (map_through (link_seen s (Took k offered n ∷ t)) (at_link k (with_taken offered n)) (link_seen s t) (took_seen s t k offered n) (served_links t));
     accepted = follows.accepted;
+    stations = follows.stations;
     took = took_took s t follows.took k offered n le;
   }
 
@@ -140,14 +162,20 @@ module _ (s : Setting) (core : CoreSeen) (t : Trace) (follows : Follows s core t
         ∙ sym (map_through (link_seen s (Brought k bytes ∷ t)) (at_link k (with_bytes (moment_of t) (held_after (brought_by t k ++ bytes)))) (link_seen s t)
         (brought_seen s t k bytes) (served_links t));
     accepted = follows.accepted;
+    stations = follows.stations;
     took = follows.took;
   }
+
+  -- the table agrees where nothing more was accepted
+  agrees_still : Agrees core.stations (accepted_of t ++ [])
+  agrees_still = subst (Agrees core.stations) (sym (append-nil (accepted_of t))) follows.stations
 
   follows_passed : (k : ℕ) (cut : Cut) → Follows s core (Said k cut PassedOver ∷ t)
   follows_passed k cut = record {
     moment = follows.moment;
     links = follows.links ∙ sym (map_on (link_seen s (Said k cut PassedOver ∷ t)) (link_seen s t) (served_links t) (λ j member. passed_seen s t k cut j));
     accepted = follows.accepted ∙ sym (append-nil (accepted_of t));
+    stations = agrees_still;
     took = took_said s t follows.took k cut PassedOver;
   }
 
@@ -157,6 +185,7 @@ module _ (s : Setting) (core : CoreSeen) (t : Trace) (follows : Follows s core t
     moment = follows.moment;
     links = follows.links ∙ sym (map_on (link_seen s (Said k cut (Refused why) ∷ t)) (link_seen s t) (served_links t) (λ j member. refused_seen s t k cut why j none));
     accepted = follows.accepted ∙ sym (append-nil (accepted_of t));
+    stations = agrees_still;
     took = took_said s t follows.took k cut (Refused why);
   }
   follows_told k cut why (Some line) some = record {
@@ -165,42 +194,99 @@ module _ (s : Setting) (core : CoreSeen) (t : Trace) (follows : Follows s core t
         ∙ sym (map_through (link_seen s (Said k cut (Refused why) ∷ t)) (at_link k (with_text line)) (link_seen s t)
         (λ j. replied_seen s t follows.took k cut why line j some) (served_links t));
     accepted = follows.accepted ∙ sym (append-nil (accepted_of t));
+    stations = agrees_still;
     took = took_said s t follows.took k cut (Refused why);
   }
 
   follows_refused : (k : ℕ) (cut : Cut) (why : Refusal) → Follows s (with_links (with_reply k (refusal_reply why) core.links) core) (Said k cut (Refused why) ∷ t)
   follows_refused k cut why = follows_told k cut why (refusal_reply why) refl
 
-  follows_login : (k : ℕ) (cut : Cut) (session : Session)
-      → Follows s (with_links (map (at_link k (with_session session (login_reply s.server session))) core.links) core) (Said k cut (LoggedIn session) ∷ t)
-  follows_login k cut session = record {
+  -- where the calls of terms are found is where the trace says that they were last seen
+  answers_agree : (k : ℕ) (answer : FilterAnswer) (links : List LinkSeen)
+      → map (at_link k (with_answer (found_in core.moment core.stations) answer)) links ≡ map (at_link k (with_answer (friend_in (accepted_of t) (moment_of t)) answer)) links
+  answers_agree k answer links =
+      map_same (at_link k (with_answer (found_in core.moment core.stations) answer)) (at_link k (with_answer (friend_in (accepted_of t) (moment_of t)) answer))
+      (λ link. ap (λ answered. if has_that k link then answered else link)
+      (answer_same (found_in core.moment core.stations) (friend_in (accepted_of t) (moment_of t)) (friends_found core (accepted_of t) (moment_of t) follows.moment follows.stations) answer link)) links
+
+  follows_answer : (k : ℕ) (cut : Cut) (answer : FilterAnswer) → Follows s (after_answer k answer core) (Said k cut (Filtered answer) ∷ t)
+  follows_answer k cut answer = record {
     moment = follows.moment;
-    links = ap (map (at_link k (with_session session (login_reply s.server session)))) follows.links
-        ∙ sym (map_through (link_seen s (Said k cut (LoggedIn session) ∷ t)) (at_link k (with_session session (login_reply s.server session))) (link_seen s t)
-        (login_seen s t follows.took k cut session) (served_links t));
+    links = answers_agree k answer core.links
+        ∙ ap (map (at_link k (with_answer (friend_in (accepted_of t) (moment_of t)) answer))) follows.links
+        ∙ sym (map_through (link_seen s (Said k cut (Filtered answer) ∷ t)) (at_link k (with_answer (friend_in (accepted_of t) (moment_of t)) answer)) (link_seen s t)
+        (answered_seen s t follows.took k cut answer) (served_links t));
     accepted = follows.accepted ∙ sym (append-nil (accepted_of t));
-    took = took_said s t follows.took k cut (LoggedIn session);
+    stations = agrees_still;
+    took = took_said s t follows.took k cut (Filtered answer);
   }
 
+  logged_links : (k : ℕ) (session : Session) (answer : Option FilterAnswer)
+      → (after_login_answer k answer (after_login s.server k session core)).links
+      ≡ map (at_link k (with_login (accepted_of t) (moment_of t) session (login_reply s.server session) answer)) core.links
+  logged_links k session None =
+      ap (λ place. map (at_link k (with_session session place (login_reply s.server session))) core.links)
+      (sighting_found core (accepted_of t) (moment_of t) follows.moment follows.stations session.call)
+  logged_links k session (Some answer) =
+      let reply = login_reply s.server session in
+      let logged = with_session session (sighting (accepted_of t) (moment_of t) session.call) reply in
+      let answered = with_answer (friend_in (accepted_of t) (moment_of t)) answer in
+      ap (λ place. map (at_link k (with_answer (found_in core.moment core.stations) answer)) (map (at_link k (with_session session place reply)) core.links))
+      (sighting_found core (accepted_of t) (moment_of t) follows.moment follows.stations session.call)
+      ∙ answers_agree k answer (map (at_link k logged) core.links)
+      ∙ map_twice (at_link k answered) (at_link k logged) core.links
+      ∙ map_same (λ link. at_link k answered (at_link k logged link)) (at_link k (λ link. answered (logged link))) (at_twice k answered logged (λ link. refl)) core.links
+
+  follows_login : (k : ℕ) (cut : Cut) (session : Session) (answer : Option FilterAnswer)
+      → Follows s (after_login_answer k answer (after_login s.server k session core)) (Said k cut (LoggedIn session answer) ∷ t)
+  follows_login k cut session answer = logged_in answer (logged_links k session answer ∙ ap (map step) follows.links
+      ∙ sym (map_through (link_seen s (Said k cut (LoggedIn session answer) ∷ t)) step (link_seen s t) (login_seen s t follows.took k cut session answer) (served_links t)))
+    where
+      step : LinkSeen → LinkSeen
+      step = at_link k (with_login (accepted_of t) (moment_of t) session (login_reply s.server session) answer)
+      logged_in : (answer : Option FilterAnswer)
+          → (after_login_answer k answer (after_login s.server k session core)).links ≡ map (link_seen s (Said k cut (LoggedIn session answer) ∷ t)) (served_links t)
+          → Follows s (after_login_answer k answer (after_login s.server k session core)) (Said k cut (LoggedIn session answer) ∷ t)
+      logged_in None links = record {
+        moment = follows.moment;
+        links = links;
+        accepted = follows.accepted ∙ sym (append-nil (accepted_of t));
+        stations = agrees_still;
+        took = took_said s t follows.took k cut (LoggedIn session None);
+      }
+      logged_in (Some given) links = record {
+        moment = follows.moment;
+        links = links;
+        accepted = follows.accepted ∙ sym (append-nil (accepted_of t));
+        stations = agrees_still;
+        took = took_said s t follows.took k cut (LoggedIn session (Some given));
+      }
+
   follows_accepted : stopped_links t ≡ [] → (k : ℕ) (cut : Cut) (parts : Parts) (line : List ℕ)
-      → Follows s (after_verdict s.server k (Accepted parts line) core) (Said k cut (Accepted parts line) ∷ t)
-  follows_accepted going k cut parts line = record {
-    moment = follows.moment;
-    links = ap (map (with_packet k line)) follows.links
-        ∙ map_twice (with_packet k line) (link_seen s t) (served_links t)
-        ∙ sym (map_on (link_seen s (Said k cut (Accepted parts line) ∷ t)) (λ j. with_packet k line (link_seen s t j)) (served_links t)
-        (λ j member. accepted_seen s t follows.took k cut parts line j (subst (λ stopped. is_member j (stopped ++ live_links t) ≡ true) going member)));
-    accepted = ap (λ m. core.accepted ++ accepted_by k m (Accepted parts line)) follows.moment
-        ∙ ap (λ packets. packets ++ accepted_by k (moment_of t) (Accepted parts line)) follows.accepted;
-    took = took_said s t follows.took k cut (Accepted parts line);
-  }
+      → Follows s (after_packet k (packet_of k (moment_of t) parts line) core) (Said k cut (Accepted parts line) ∷ t)
+  follows_accepted going k cut parts line =
+      let packet = packet_of k (moment_of t) parts line in
+      let source : SourcePlace = record { place = sighting (accepted_of t) (moment_of t) parts.source; gate = is_gate_at (accepted_of t) (moment_of t) parts.source } in
+      record {
+        moment = follows.moment;
+        links = ap (λ place. map (with_packet k packet place) core.links) (source_known core (accepted_of t) (moment_of t) follows.moment follows.stations parts.source)
+            ∙ ap (map (with_packet k packet source)) follows.links
+            ∙ map_twice (with_packet k packet source) (link_seen s t) (served_links t)
+            ∙ sym (map_on (link_seen s (Said k cut (Accepted parts line) ∷ t)) (λ j. with_packet k packet source (link_seen s t j)) (served_links t)
+            (λ j member. accepted_seen s t follows.took k cut parts line j (subst (λ stopped. is_member j (stopped ++ live_links t) ≡ true) going member)));
+        accepted = ap (λ packets. packets ++ packet ∷ []) follows.accepted;
+        stations = note_agrees core.stations (accepted_of t) packet follows.stations;
+        took = took_said s t follows.took k cut (Accepted parts line);
+      }
 
   -- whatever becomes of a line
   pub follows_said : stopped_links t ≡ [] → (k : ℕ) (cut : Cut) (verdict : Verdict) → Follows s (after_verdict s.server k verdict core) (Said k cut verdict ∷ t)
   follows_said going k cut PassedOver = follows_passed k cut
   follows_said going k cut (Refused why) = follows_refused k cut why
-  follows_said going k cut (LoggedIn session) = follows_login k cut session
-  follows_said going k cut (Accepted parts line) = follows_accepted going k cut parts line
+  follows_said going k cut (LoggedIn session answer) = follows_login k cut session answer
+  follows_said going k cut (Filtered answer) = follows_answer k cut answer
+  follows_said going k cut (Accepted parts line) =
+      subst (λ now. Follows s (after_packet k (packet_of k now parts line) core) (Said k cut (Accepted parts line) ∷ t)) (sym follows.moment) (follows_accepted going k cut parts line)
 
   numbers_are : numbers core.links ≡ served_links t
   numbers_are = ap numbers follows.links ∙ numbers_seen s t (served_links t)
@@ -225,6 +311,7 @@ module _ (s : Setting) (core : CoreSeen) (t : Trace) (follows : Follows s core t
             ∙ sym (map_push seen (served_links t) k)
             ∙ ap (map seen) (append_assoc (stopped_links t) (live_links t) (k ∷ []));
         accepted = follows.accepted;
+        stations = follows.stations;
         took = took_opened s t follows.took (Some kind) k from;
       }
 
@@ -234,6 +321,7 @@ module _ (s : Setting) (core : CoreSeen) (t : Trace) (follows : Follows s core t
     moment = follows.moment;
     links = follows.links ∙ opened_kept None k high from rises above ∙ ap (λ ks. map (link_seen s (Opened None k from ∷ t)) (stopped_links t ++ ks)) (sym (append-nil (live_links t)));
     accepted = follows.accepted;
+    stations = follows.stations;
     took = took_opened s t follows.took None k from;
   }
 
@@ -266,6 +354,7 @@ module _ (s : Setting) (core : CoreSeen) (t : Trace) (follows : Follows s core t
         ∙ sym (ended_seen k ByPeer (filter (is_other k) (live_links t)))
         ∙ ap (λ stopped. map (link_seen s (Ended k ByPeer ∷ t)) (stopped ++ filter (is_other k) (live_links t))) (sym (append-nil (stopped_links t) ∙ going));
     accepted = follows.accepted;
+    stations = follows.stations;
     took = follows.took;
   }
 
@@ -404,6 +493,7 @@ module _ (s : Setting) (core : CoreSeen) (t : Trace) (follows : Follows s core t
         ∙ ap (map (link_seen s (begin_round t))) (sym (live_after FoundGone (gone_links t) t ∙ left_failing (is_gone t) (live_links t)))
         ∙ ap (λ stopped. map (link_seen s (begin_round t)) (stopped ++ live_links (begin_round t))) (sym (going_after (gone_links t) t ∙ going));
     accepted = follows.accepted ∙ sym (accepted_after FoundGone (gone_links t) t);
+    stations = subst (Agrees core.stations) (sym (accepted_after FoundGone (gone_links t) t)) follows.stations;
     took = took_after s FoundGone (gone_links t) t follows.took;
   }
 
@@ -419,5 +509,6 @@ module _ (s : Setting) (core : CoreSeen) (t : Trace) (follows : Follows s core t
         ∙ ap (λ live. (stopped_links t ++ live_links t) ++ live) (live_after ByStop (live_links t) t ∙ left_none (live_links t))
         ∙ append-nil (stopped_links t ++ live_links t)));
     accepted = follows.accepted ∙ sym (accepted_after ByStop (live_links t) t);
+    stations = subst (Agrees core.stations) (sym (accepted_after ByStop (live_links t) t)) follows.stations;
     took = took_after s ByStop (live_links t) t follows.took;
   }

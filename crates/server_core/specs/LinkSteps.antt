@@ -66,10 +66,7 @@ with_answer found (Denied why) link = with_text (refused_filter (filter_words wh
 
 -- whether a term names a call whose position it asks for
 abbrev pub is_named : List ℕ → TermSeen → Bool
-is_named call term = is_some_and (is_text call) (named_call term.what)
-
-abbrev pub names_one : List ℕ → List TermSeen → Bool
-names_one call terms = list_any (is_named call) terms
+is_named call term = is_some_and (λ named. is_text named call) (named_call term.what)
 
 -- where a term's call was last seen, once a station was seen
 abbrev pub friend_seen : List ℕ → Seen → TermSeen × Option Seen → Option Seen
@@ -78,7 +75,7 @@ friend_seen call seen term = if is_named call term.0 then Some seen else term.1
 -- where the link's own login was
 abbrev pub login_seen : List ℕ → Seen → Option Session → Option Seen → Option Seen
 login_seen call seen None before = before
-login_seen call seen (Some session) before = if is_text call session.call then Some seen else before
+login_seen call seen (Some session) before = if is_text session.call call then Some seen else before
 
 -- a station was seen
 abbrev pub with_seen : List ℕ → Option Seen → LinkSeen → LinkSeen

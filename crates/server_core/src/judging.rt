@@ -31,7 +31,8 @@ pub(crate) fn is_comment_line(line: &Line) -> bool
 
 /// How many blanks a text begins with.
 fn first_blanks(text: &[u8]) -> usize
-    ensures { result ≡ prefix_len is_blank text.now }
+    ensures count { result ≡ prefix_len is_blank text.now }
+    ensures within { result ≤ length text.now }
 {
     text.iter().take_while(|byte| **byte == b' ').count()
 }

@@ -1,5 +1,5 @@
 //! What the core keeps of a link.
-ghost use Rattle.std.specs.Prelude.{◌≡◌, IsTrue, IfSome, ℕ, ◌≤◌, ◌<◌, List, ◌++◌, Some, None, OnOk, IfOk, length, min, take, option_map, true, false};
+ghost use Rattle.std.specs.Prelude.{◌≡◌, IsTrue, IfSome, is_some, ℕ, ◌≤◌, ◌<◌, List, ◌++◌, Some, None, OnOk, IfOk, length, min, take, option_map, true, false};
 ghost use Rattle.std.specs.Arc.{arc_value};
 ghost use Rattle.aprs_base.specs.Held.{held_after};
 ghost use Rattle.server_core.specs.LinkSteps.{at_moment, is_ready, list_of, new_link_seen, number_of, passes_packet, wants_packet, when_gone, with_bytes, with_copy, with_filter, with_packet, with_room, with_seen, with_session, with_taken, with_text};
@@ -161,6 +161,13 @@ impl Link {
         Ok(())
     }
 
+    /// Whether it has logged in.
+    pub fn has_session(&self) -> bool
+        ensures { result ≡ is_some self.now.session }
+    {
+        self.session.is_some()
+    }
+
     /// Whether its port has filters.
     pub fn has_filters(&self) -> bool
         ensures { result ≡ has_filters self.now.opening }
@@ -278,7 +285,7 @@ impl Link {
 
     /// Whether it has logged in with this call.
     fn is_login(&self, call: &Call) -> bool
-        ensures { result ≡ is_some_and (λ session. is_text call.now session.call) self.now.session }
+        ensures { result ≡ is_some_and (λ session. is_text session.call call.now) self.now.session }
     {
         match &self.session {
             Some(session) => session.call == *call,

@@ -126,7 +126,10 @@ pub(crate) fn ready(alloc: Global, links: &[Link]) -> Result<Vec<u32>, Memory>
 pub(crate) fn all(alloc: Global, links: &[Link]) -> Result<Vec<u32>, Memory>
     ensures { IfOk result (λ v. v.items ≡ numbers links.now) }
 {
-    let numbers: Vec<u32> = links.iter().map(|link| link.number).collect(alloc)?;
+    let mut numbers = Vec::new(alloc);
+    for link in links {
+        numbers.push(link.number())?;
+    }
     Ok(numbers)
 }
 
@@ -156,7 +159,7 @@ pub(crate) fn has_session_at(links: &[Link], number: u32) -> bool
     ensures { result ≡ is_some (session_at number links.now) }
 {
     match place_of(links, number) {
-        Some(place) => links[place].session.is_some(),
+        Some(place) => links[place].has_session(),
         None => false,
     }
 }

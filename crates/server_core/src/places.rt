@@ -1,11 +1,11 @@
 //! Where the calls that a filter names were last seen.
 ghost use Rattle.std.specs.Prelude.{◌≡◌, ◌≤◌, ◌||◌, IsTrue, false, length, map};
-ghost use Rattle.std.specs.List.{list_any, zip};
+ghost use Rattle.std.specs.List.{zip};
 ghost use Rattle.std.specs.Option.{option_and_then};
 ghost use Rattle.filter_eval.specs.Passes.{fresh};
 ghost use Rattle.station_table.specs.Stations.{place_at};
 ghost use Rattle.aprs_history.specs.Sights.{named_call};
-ghost use Rattle.server_core.specs.LinkSteps.{found_in, friend_seen, is_named, names_one};
+ghost use Rattle.server_core.specs.LinkSteps.{found_in, friend_seen, is_named};
 
 use aprs_base::Call;
 use arrayvec::ArrayVec;
@@ -47,13 +47,6 @@ fn is_named(call: &Call, term: &Term) -> bool
     }
 }
 
-/// Whether a term of the filter names the call.
-fn names_one(call: &Call, filter: &FilterSet) -> bool
-    ensures { result ≡ names_one call.now filter.now }
-{
-    filter.terms.iter().any(|term| is_named(call, term))
-}
-
 /// Where a term's call was last seen, once a station was seen.
 fn friend_seen(call: &Call, seen: Seen, term: &Term, friend: Option<Seen>) -> Option<Seen>
     ensures { result ≡ friend_seen call.now seen (term.now, friend) }
@@ -65,25 +58,29 @@ fn friend_seen(call: &Call, seen: Seen, term: &Term, friend: Option<Seen>) -> Op
     }
 }
 
-/// The same for all terms of a filter.
-fn friends_seen(call: &Call, seen: Seen, filter: &FilterSet, friends: &Friends) -> Friends
-    ensures { result ≡ map (friend_seen call.now seen) (zip filter.now friends.now) }
+/// The same for all terms.
+fn friends_seen(call: &Call, seen: Seen, terms: &[Term], friends: &mut [Option<Seen>])
+    requires { length friends.old ≡ length terms.now }
+    ensures seen { friends.new ≡ map (friend_seen call.now seen) (zip terms.now friends.old) }
+    ensures many { length friends.new ≡ length friends.old }
 {
-    let mut at = ArrayVec::new();
-    for (term, friend) in filter.terms.iter().zip(friends.at.iter()) {
-        at.push(friend_seen(call, seen, term, *friend));
+    for place in 0..terms.len() {
+        friends[place] = friend_seen(call, seen, &terms[place], friends[place]);
     }
-    Friends { at }
 }
 
 /// A station was seen there: so was a friend, where a term of the filter names it.
 pub(crate) fn see_friend(call: &Call, seen: Seen, filter: &FilterSet, friends: &mut Friends)
     requires { length friends.old ≡ length filter.now }
-    ensures { friends.new ≡ map (friend_seen call.now seen) (zip filter.now friends.old) }
+    ensures seen { friends.new ≡ map (friend_seen call.now seen) (zip filter.now friends.old) }
+    ensures many { length friends.new ≡ length friends.old }
 {
-    if names_one(call, filter) {
-        *friends = friends_seen(call, seen, filter, friends);
-    }
+    friends_seen(
+        call,
+        seen,
+        filter.terms.as_slice(),
+        friends.at.as_mut_slice(),
+    );
 }
 
 /// What still counts at `now`.
@@ -98,12 +95,20 @@ pub(crate) fn still_seen(now: u64, seen: Option<Seen>) -> Option<Seen>
     }
 }
 
+fn forget_places(now: u64, places: &mut [Option<Seen>])
+    ensures fresh { places.new ≡ map (fresh now) places.old }
+    ensures many { length places.new ≡ length places.old }
+{
+    for place in places.iter_mut() {
+        let seen = still_seen(now, *place);
+        *place = seen;
+    }
+}
+
 /// Friends that were seen too long ago are let go.
 pub(crate) fn forget_friends(now: u64, friends: &mut Friends)
-    ensures { friends.new ≡ map (fresh now) friends.old }
+    ensures fresh { friends.new ≡ map (fresh now) friends.old }
+    ensures many { length friends.new ≡ length friends.old }
 {
-    for friend in friends.at.iter_mut() {
-        let seen = still_seen(now, *friend);
-        *friend = seen;
-    }
+    forget_places(now, friends.at.as_mut_slice());
 }

@@ -10,12 +10,12 @@ use Rattle.server_core.proofs.links.log_in.Goals as goal
 pub returns-in_ok-log_in-in-Some-clause-ok : goal.returns-in_ok-log_in-in-Some-clause-ok
 returns-in_ok-log_in-in-Some-clause-ok c =
     let found = c.in-Some.ensures ∙ ap (position (has_that c.args.number)) c.as_slice.ensures.value in
-    changed_by c.args.number (with_session c.args.session (arc_value c.args.reply)) (2 ^ 32) c.args.links.now.items c.in-Some.place c.index_mut.result.now c.log_in.new.self c.requires.rises
+    changed_by c.args.number (with_session c.args.session c.args.mine (arc_value c.args.reply)) (2 ^ 32) c.args.links.now.items c.in-Some.place c.index_mut.result.now c.log_in.new.self c.requires.rises
     found c.index_mut.ensures.value c.in_ok-log_in-in-Some.ensures.ok
 
 pub returns-in-None-clause-ok : goal.returns-in-None-clause-ok
 returns-in-None-clause-ok c =
-    changed_nowhere c.args.number (with_session c.args.session (arc_value c.args.reply)) c.args.links.now.items
+    changed_nowhere c.args.number (with_session c.args.session c.args.mine (arc_value c.args.reply)) c.args.links.now.items
     (c.in-None.ensures ∙ ap (position (has_that c.args.number)) c.as_slice.ensures.value)
 
 pub returns-in_err-log_in-in-Some-clause-numbers : goal.returns-in_err-log_in-in-Some-clause-numbers

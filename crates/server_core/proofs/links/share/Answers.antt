@@ -1,6 +1,5 @@
 use Rattle.std.proofs.Common.{◌≡◌, ap, sym, ◌∙◌, length, slice_set, length-set}
 use Rattle.std.proofs.Math.Seq.{map-set_same}
-use Rattle.std.specs.Arc.{arc_value}
 use Rattle.server_core.specs.LinkSteps.{with_packet, number_of, numbers}
 use Rattle.server_core.proofs.LinkLemmas.{mapped_more, written_back}
 use Rattle.server_core.proofs.links.share.Goals as goal
@@ -8,7 +7,7 @@ use Rattle.server_core.proofs.links.share.Goals as goal
 pub loop-link-preserved : goal.loop-link-preserved
 loop-link-preserved c = (
   map-set_same number_of c.loop-link.link-items c.loop-link.link-index c.hear.new.self c.link-item.result (c.hear.ensures.number) ∙ c.loop-link.invariant.0,
-  mapped_more (with_packet c.args.from (arc_value c.args.line.now)) c.deref_mut-link-items.result.now c.loop-link.link-items c.loop-link.link-index c.hear.new.self c.link-item.result
+  mapped_more (with_packet c.args.from c.args.packet.now c.args.source.now) c.deref_mut-link-items.result.now c.loop-link.link-items c.loop-link.link-index c.hear.new.self c.link-item.result
       c.loop-link-test.true c.loop-link.invariant.1 c.in_ok-hear.ensures.ok,
 )
 

@@ -1,8 +1,7 @@
 use Rattle.std.proofs.Common.{◌≡◌, ◌++◌, take, drop, map}
-use Rattle.std.specs.Arc.{arc_value}
 use Rattle.server_core.specs.LinkSteps.{with_packet, numbers}
 use Rattle.server_core.proofs.links.share.Given as goal
 
 abbrev pub invariant-loop-link : goal.invariant-loop-link
 invariant-loop-link l =
-    (numbers l.link-items ≡ numbers l.initial.link-items) × (l.link-items ≡ map (with_packet l.from (arc_value l.line)) (take l.link-index l.initial.link-items) ++ drop l.link-index l.initial.link-items)
+    (numbers l.link-items ≡ numbers l.initial.link-items) × (l.link-items ≡ map (with_packet l.from l.packet l.source) (take l.link-index l.initial.link-items) ++ drop l.link-index l.initial.link-items)

@@ -1,7 +1,16 @@
-use Rattle.std.proofs.Common.{sym, ◌∙◌}
+use Rattle.std.proofs.Common.{subst, sym, ◌∙◌}
 use Rattle.server_core.specs.Steps.{scene_at}
-use Rattle.server_core.proofs.VerdictLemmas.{verdict_station}
+use Rattle.server_core.proofs.VerdictLemmas.{IsFit, verdict_fit}
 use Rattle.server_core.proofs.server.Core.take_line.Goals as goal
 
-pub log_in-requires : goal.log_in-requires
-log_in-requires c = verdict_station (scene_at c.args.self.now c.args.number) c.args.cut.now c.in-LoggedIn.session (sym c.in-LoggedIn.is ∙ c.in_ok-judge.ensures)
+pub log_in-requires-clause-station : goal.log_in-requires-clause-station
+log_in-requires-clause-station c =
+    (subst IsFit (sym (sym c.in-LoggedIn.is ∙ c.in_ok-judge.ensures)) (verdict_fit (scene_at c.args.self.now c.args.number) c.args.cut.now)).0
+
+pub log_in-requires-clause-few : goal.log_in-requires-clause-few
+log_in-requires-clause-few c =
+    (subst IsFit (sym (sym c.in-LoggedIn.is ∙ c.in_ok-judge.ensures)) (verdict_fit (scene_at c.args.self.now c.args.number) c.args.cut.now)).1
+
+pub answer-requires : goal.answer-requires
+answer-requires c =
+    subst IsFit (sym (sym c.in-Filtered.is ∙ c.in_ok-judge.ensures)) (verdict_fit (scene_at c.args.self.now c.args.number) c.args.cut.now)

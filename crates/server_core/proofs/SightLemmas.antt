@@ -1,0 +1,165 @@
+-- Where stations were last seen: as time goes on, as a packet comes, and by the table.
+use Rattle.std.proofs.Common.{◌≡◌, ℕ, ◌-◌, ◌≤◌, ◌<◌, Bool, true, false, List, [], ◌∷◌, ◌++◌, map, refl, sym, ap, ◌∙◌, arith, Option, Some, None, option_map, ⊎_elim, nat_lt, cond}
+use Rattle.std.specs.List.{zip}
+use Rattle.std.specs.Option.{option_and_then}
+use Rattle.std.proofs.lemmas.Bool.{cases_Bool, ltb-true, ltb-false, false_from_ne_true, lt-ltb}
+use Rattle.aprs_base.specs.PacketSeen.{PacketSeen}
+use Rattle.filter_lang.specs.Terms.{TermSeen}
+use Rattle.aprs_base.specs.declared.packets.Place.{Place}
+use Rattle.aprs_body.specs.Classes.{position_bit}
+use Rattle.filter_eval.specs.Passes.{fresh, has_class, is_some_and, is_text, position_age}
+use Rattle.filter_eval.specs.declared.seen.Seen.{Seen}
+use Rattle.station_table.specs.Last.{Agrees, last_place, later_or, place_by}
+use Rattle.station_table.specs.Stations.{gate_at, is_young, place_at, seen_at, seen_in}
+use Rattle.station_table.proofs.LastSeen.{told_more}
+use Rattle.aprs_history.specs.declared.verdicts.FilterAnswer.{FilterAnswer}
+use Rattle.aprs_history.specs.declared.verdicts.FilterAnswer.TheVariants.{Active, Denied}
+use Rattle.aprs_history.specs.declared.verdicts.Session.{Session}
+use Rattle.aprs_history.specs.Sights.{friend_in, is_gate_at, login_in, named_call, sighting}
+use Rattle.aprs_history.specs.Stands.{LinkSeen, CoreSeen}
+use Rattle.server_core.specs.declared.link.SourcePlace.{SourcePlace}
+use Rattle.server_core.specs.LinkSteps.{found_in, friend_seen, login_seen, place_young, source_found, with_answer, with_filter, with_seen}
+
+pub map_same : {X Y : Type 0} (f g : X → Y) → ((x : X) → f x ≡ g x) → (xs : List X) → map f xs ≡ map g xs
+map_same f g same [] = refl
+map_same f g same (x ∷ xs) = rw (same x, map_same f g same xs) refl
+
+map_both : {X Y Z : Type 0} (g : Y → Z) (h : X → Y) (f : X → Z) → ((x : X) → g (h x) ≡ f x) → (xs : List X) → map g (map h xs) ≡ map f xs
+map_both g h f same [] = refl
+map_both g h f same (x ∷ xs) = rw (same x, map_both g h f same xs) refl
+
+-- ---- time goes on
+
+too_old : (a b n : ℕ) → a ≤ b → nat_lt (a - n) position_age ≡ false → nat_lt (b - n) position_age ≡ false
+too_old a b n le old =
+    let past : position_age ≤ a - n = ltb-false (a - n) position_age old in
+    false_from_ne_true _ (λ young. let under : b - n < position_age = ltb-true (b - n) position_age young in absurd (omega arith))
+
+pub fresh_later : (a b : ℕ) → a ≤ b → (seen : Option Seen) → fresh b (fresh a seen) ≡ fresh b seen
+fresh_later a b le None = refl
+fresh_later a b le (Some seen) =
+    ⊎_elim
+    (λ young. rw young refl)
+    (λ old. ap (λ o. fresh b (cond o (Some seen) None)) old ∙ sym (ap (λ o. cond o (Some seen) None) (too_old a b seen.moment le old)))
+    (cases_Bool (nat_lt (a - seen.moment) position_age))
+
+friend_later : (accepted : List PacketSeen) (a b : ℕ) → a ≤ b → (named : Option (List ℕ))
+    → fresh b (option_and_then (sighting accepted a) named) ≡ option_and_then (sighting accepted b) named
+friend_later accepted a b le None = refl
+friend_later accepted a b le (Some call) = fresh_later a b le (last_place accepted call)
+
+pub friends_later : (accepted : List PacketSeen) (a b : ℕ) → a ≤ b → (terms : List TermSeen)
+    → map (fresh b) (map (friend_in accepted a) terms) ≡ map (friend_in accepted b) terms
+friends_later accepted a b le terms =
+    map_both (fresh b) (friend_in accepted a) (friend_in accepted b) (λ term. friend_later accepted a b le (named_call term.what)) terms
+
+pub login_later : (accepted : List PacketSeen) (a b : ℕ) → a ≤ b → (session : Option Session)
+    → fresh b (login_in accepted a session) ≡ login_in accepted b session
+login_later accepted a b le None = refl
+login_later accepted a b le (Some session) = fresh_later a b le (last_place accepted session.call)
+
+-- ---- a packet comes
+
+-- what is seen at a moment counts then
+seen_now : (now : ℕ) (seen : Seen) → seen.moment ≡ now → fresh now (Some seen) ≡ Some seen
+seen_now now seen is =
+    let young : nat_lt (now - seen.moment) position_age ≡ true = lt-ltb (now - seen.moment) position_age (omega arith) in
+    ap (λ b. cond b (Some seen) None) young
+
+module _ (accepted : List PacketSeen) (now : ℕ) (packet : PacketSeen) where
+  -- a packet that is no position tells nothing
+  unseen_call : None ≡ seen_in packet → (call : List ℕ) → sighting (accepted ++ packet ∷ []) now call ≡ sighting accepted now call
+  unseen_call none call =
+      ap (fresh now) (told_more (place_by call) accepted packet
+      ∙ ap (λ seen. later_or (last_place accepted call) (cond (is_text call packet.parts.source) seen None)) (sym none)
+      ∙ nothing (is_text call packet.parts.source))
+    where
+      nothing : (b : Bool) → later_or (last_place accepted call) (cond b None None) ≡ last_place accepted call
+      nothing true = refl
+      nothing false = refl
+
+  unseen_friend : None ≡ seen_in packet → (named : Option (List ℕ))
+      → option_and_then (sighting (accepted ++ packet ∷ []) now) named ≡ option_and_then (sighting accepted now) named
+  unseen_friend none None = refl
+  unseen_friend none (Some call) = unseen_call none call
+
+  unseen_login : None ≡ seen_in packet → (session : Option Session) → login_in (accepted ++ packet ∷ []) now session ≡ login_in accepted now session
+  unseen_login none None = refl
+  unseen_login none (Some session) = unseen_call none session.call
+
+  -- and one that is tells of its source alone
+  seen_call : (seen : Seen) → Some seen ≡ seen_in packet → seen.moment ≡ now → (call : List ℕ)
+      → cond (is_text call packet.parts.source) (Some seen) (sighting accepted now call) ≡ sighting (accepted ++ packet ∷ []) now call
+  seen_call seen some at call =
+      sym (ap (fresh now) (told_more (place_by call) accepted packet
+      ∙ ap (λ told. later_or (last_place accepted call) (cond (is_text call packet.parts.source) told None)) (sym some))
+      ∙ either (is_text call packet.parts.source))
+    where
+      either : (b : Bool) → fresh now (later_or (last_place accepted call) (cond b (Some seen) None)) ≡ cond b (Some seen) (sighting accepted now call)
+      either true = seen_now now seen at
+      either false = refl
+
+  seen_friend : (seen : Seen) → Some seen ≡ seen_in packet → seen.moment ≡ now → (named : Option (List ℕ))
+      → cond (is_some_and (λ call. is_text call packet.parts.source) named) (Some seen) (option_and_then (sighting accepted now) named)
+      ≡ option_and_then (sighting (accepted ++ packet ∷ []) now) named
+  seen_friend seen some at None = refl
+  seen_friend seen some at (Some call) = seen_call seen some at call
+
+  seen_login : (seen : Seen) → Some seen ≡ seen_in packet → seen.moment ≡ now → (session : Option Session)
+      → login_seen packet.parts.source seen session (login_in accepted now session) ≡ login_in (accepted ++ packet ∷ []) now session
+  seen_login seen some at None = refl
+  seen_login seen some at (Some session) = seen_call seen some at session.call
+
+  seen_friends : (seen : Seen) → Some seen ≡ seen_in packet → seen.moment ≡ now → (terms : List TermSeen)
+      → map (friend_seen packet.parts.source seen) (zip terms (map (friend_in accepted now) terms)) ≡ map (friend_in (accepted ++ packet ∷ []) now) terms
+  seen_friends seen some at [] = refl
+  seen_friends seen some at (term ∷ terms) = rw (seen_friend seen some at (named_call term.what), seen_friends seen some at terms) refl
+
+  -- what there is to keep of a link after a packet, whatever it tells
+  pub places_kept : (told : Option Seen) → told ≡ seen_in packet → ((seen : Seen) → Some seen ≡ seen_in packet → seen.moment ≡ now)
+      → (link : LinkSeen) → link.friends ≡ map (friend_in accepted now) link.filter → link.mine ≡ login_in accepted now link.session
+      → record link { friends = map (friend_in (accepted ++ packet ∷ []) now) link.filter; mine = login_in (accepted ++ packet ∷ []) now link.session }
+      ≡ with_seen packet.parts.source told link
+  places_kept None none at link friends mine =
+      ap (λ fs. record link { friends = fs; mine = login_in (accepted ++ packet ∷ []) now link.session })
+      (map_same (friend_in (accepted ++ packet ∷ []) now) (friend_in accepted now) (λ term. unseen_friend none (named_call term.what)) link.filter ∙ sym friends)
+      ∙ ap (λ seen. record link { mine = seen }) (unseen_login none link.session ∙ sym mine)
+  places_kept (Some seen) some at link friends mine =
+      ap (λ fs. record link { friends = fs; mine = login_in (accepted ++ packet ∷ []) now link.session })
+      (sym (seen_friends seen some (at seen some) link.filter) ∙ ap (λ fs. map (friend_seen packet.parts.source seen) (zip link.filter fs)) (sym friends))
+      ∙ ap (λ place. record link { friends = map (friend_seen packet.parts.source seen) (zip link.filter link.friends); mine = place })
+      (sym (seen_login seen some (at seen some) link.session) ∙ ap (login_seen packet.parts.source seen link.session) (sym mine))
+
+-- a packet tells what it was accepted with
+told_by : (position : Bool) (place : Option Place) (moment : ℕ) (seen : Seen) → Some seen ≡ cond position (option_map (seen_at moment) place) None → seen.moment ≡ moment
+told_by false place moment seen is = absurd (cc)
+told_by true None moment seen is = absurd (cc)
+told_by true (Some place) moment seen is = let same : seen ≡ seen_at moment place = cc in ap (λ (s : Seen). s.moment) same
+
+pub told_at : (packet : PacketSeen) (seen : Seen) → Some seen ≡ seen_in packet → seen.moment ≡ packet.moment
+told_at packet seen is = told_by (has_class packet.body.class position_bit) packet.body.place packet.moment seen is
+
+-- ---- the table agrees
+
+module _ (core : CoreSeen) (accepted : List PacketSeen) (now : ℕ) (moment : core.moment ≡ now) (agrees : Agrees core.stations accepted) where
+  pub sighting_found : (call : List ℕ) → place_young core.moment core.stations call ≡ sighting accepted now call
+  sighting_found call = ap (λ m. fresh m (place_at core.stations call)) moment ∙ ap (fresh now) (agrees.place call)
+
+  friend_found : (named : Option (List ℕ)) → option_and_then (place_young core.moment core.stations) named ≡ option_and_then (sighting accepted now) named
+  friend_found None = refl
+  friend_found (Some call) = sighting_found call
+
+  pub friends_found : (term : TermSeen) → found_in core.moment core.stations term ≡ friend_in accepted now term
+  friends_found term = friend_found (named_call term.what)
+
+  pub source_known : (call : List ℕ) → source_found core call ≡ record { place = sighting accepted now call; gate = is_gate_at accepted now call }
+  source_known call =
+      ap (λ (place : Option Seen). record { place = place; gate = is_some_and (is_young core.moment) (gate_at core.stations call) }) (sighting_found call)
+      ∙ ap (λ (m : ℕ). record { place = sighting accepted now call; gate = is_some_and (is_young m) (gate_at core.stations call) }) moment
+      ∙ ap (λ (gate : Option ℕ). record { place = sighting accepted now call; gate = is_some_and (is_young now) gate }) (agrees.gate call)
+
+-- answers by two ways of finding that find the same
+pub answer_same : (f g : TermSeen → Option Seen) → ((term : TermSeen) → f term ≡ g term) → (answer : FilterAnswer) (link : LinkSeen)
+    → with_answer f answer link ≡ with_answer g answer link
+answer_same f g same (Active terms reply) link = ap (λ friends. with_filter terms friends reply link) (map_same f g same terms)
+answer_same f g same (Denied why) link = refl

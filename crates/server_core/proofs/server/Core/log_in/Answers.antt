@@ -1,6 +1,0 @@
-use Rattle.std.proofs.Common.{◌^◌, arith}
-use Rattle.server_core.proofs.LinkLemmas.{rises_to}
-use Rattle.server_core.proofs.server.Core.log_in.Goals as goal
-
-pub log_in-requires-clause-rises : goal.log_in-requires-clause-rises
-log_in-requires-clause-rises c = rises_to 0 c.self.inside.greatest (2 ^ 32) _ c.self.invariant.rising (let small = c.self.invariant.small in omega arith)
