@@ -1,5 +1,5 @@
 -- Which packets a filter passes (aprs-is.net, Server-side Filter Commands).
-use Rattle.std.specs.Prelude.{ℕ, ℤ, int_le, ◌+◌, ◌-◌, ◌==◌, ◌&&◌, ◌||◌, Bool, true, false, not, nat_le, nat_lt, bit_and, List, [], ◌∷◌, take, slice_get, Option, Some, None, option_map, if◌then◌else◌}
+use Rattle.std.specs.Prelude.{ℕ, ℤ, int_le, ◌+◌, ◌-◌, ◌==◌, ◌&&◌, ◌||◌, Bool, false, not, nat_lt, bit_and, List, [], ◌∷◌, take, slice_get, Option, Some, None, option_map, if◌then◌else◌}
 use Rattle.std.specs.List.{list_any, starts_with, zip}
 use Rattle.std.specs.Option.{option_and_then}
 use Rattle.std.specs.Cmp.Lexicographic.{pointwise}
@@ -17,7 +17,6 @@ use Rattle.filter_lang.specs.Terms.{TermSeen}
 use Rattle.filter_lang.specs.declared.terms.What.{What}
 use Rattle.filter_lang.specs.declared.terms.What.TheVariants as what
 use Rattle.filter_eval.specs.declared.seen.Seen.{Seen}
-use Rattle.filter_eval.specs.declared.passing.Sight.{Sight}
 
 -- for how long a position counts, in seconds: two days
 abbrev pub position_age : ℕ
@@ -37,6 +36,13 @@ place_seen seen = seen.place
 -- where that was
 abbrev pub fresh_place : ℕ → Option Seen → Option Place
 fresh_place now seen = option_map place_seen (fresh now seen)
+
+-- what is known of stations where a packet is tested: where the link's login and the packet's source were last seen, and
+-- whether that source is a gate
+pub record Sight : Type 0 where
+  pub mine : Option Place
+  pub source : Option Place
+  pub gate : Bool
 
 -- ---- names
 

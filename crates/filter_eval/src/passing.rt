@@ -10,10 +10,11 @@ use crate::places::{is_by, is_inside, is_near, is_shown};
 use crate::seen::{Friends, Seen, fresh_place};
 use aprs_base::{Body, Packet, Place};
 use aprs_body::class::{MESSAGE, POSITION};
-use filter_lang::{FilterSet, Marks, Names, Term, What};
+use filter_lang::{FilterSet, Marks, Term, What};
+use std::marker::Model;
 
 /// What is known of stations where a packet is tested.
-#[derive(Clone, Copy)]
+#[derive(Drop)]
 struct Sight {
     /// Where the link's login was last seen.
     mine: Option<Place>,
@@ -21,6 +22,14 @@ struct Sight {
     source: Option<Place>,
     /// Whether the packet's source is a gate.
     gate: bool,
+}
+
+impl Model for Sight {
+    ghost use Rattle.filter_eval.specs.Passes.{Sight};
+
+    ghost Value = { Sight };
+
+    ghost view = { λ s. record { mine = s.mine; source = s.source; gate = s.gate } };
 }
 
 fn has_class(body: &Body, mask: u16) -> bool

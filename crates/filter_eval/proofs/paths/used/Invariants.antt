@@ -1,4 +1,4 @@
-use Rattle.std.proofs.Common.{◌≡◌, ℕ, List, length}
+use Rattle.std.proofs.Common.{◌≡◌, List, length}
 use Rattle.filter_lang.specs.Seen.{NameSeen}
 use Rattle.filter_eval.specs.Passes.{used_match}
 use Rattle.filter_eval.proofs.paths.used.Given as goal
