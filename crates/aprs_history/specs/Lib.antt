@@ -2,6 +2,7 @@ pub mod Acts
 pub mod History
 pub mod Keys
 pub mod Links
+pub mod Messages
 pub mod Rounds
 pub mod Runs
 pub mod Scenes

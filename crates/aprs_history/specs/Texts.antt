@@ -1,5 +1,5 @@
 -- The text that each link is to take, line by line, and what of it is still to be taken.
-use Rattle.std.specs.Prelude.{ℕ, ◌==◌, ◌+◌, ◌-◌, ◌&&◌, Bool, true, false, not, nat_le, is_some, List, [], ◌∷◌, ◌++◌, length, drop, codes, Option, Some, None, if◌then◌else◌}
+use Rattle.std.specs.Prelude.{ℕ, ◌==◌, ◌+◌, ◌-◌, ◌&&◌, ◌||◌, Bool, true, false, not, nat_le, is_some, List, [], ◌∷◌, ◌++◌, length, drop, codes, Option, Some, None, if◌then◌else◌}
 use Rattle.std.specs.List.{flat_map}
 use Rattle.std.specs.Fmt.{decimal}
 use Rattle.aprs_base.specs.PacketSeen.{PacketSeen}
@@ -20,6 +20,7 @@ use Rattle.aprs_history.specs.declared.verdicts.Verdict.TheVariants.{PassedOver,
 use Rattle.aprs_history.specs.Trace.{Trace, Opened, Said, is_live, moment_of}
 use Rattle.aprs_history.specs.Links.{Opening, opening_of, session_of, taken_by}
 use Rattle.aprs_history.specs.Scenes.{packet_of}
+use Rattle.aprs_history.specs.Messages.{is_asked}
 use Rattle.aprs_history.specs.Sights.{filter_passes}
 
 -- a line with its end, and lines one after another
@@ -94,23 +95,23 @@ abbrev pub banner_of : Option PortKind → List (List ℕ)
 banner_of None = []
 banner_of (Some kind) = banner ∷ []
 
--- whether a port of that kind sends an accepted packet of another link, as the link's filter passes it or not
+-- whether a port of that kind sends an accepted packet of another link, as the link's filter or the message rule asks for it or not
 abbrev pub kind_wants : PortKind → Bool → Bool
-kind_wants kind.Full passes = true
-kind_wants kind.Igate passes = passes
-kind_wants kind.Only passes = passes
-kind_wants kind.Dupe passes = false
-kind_wants kind.Submit passes = false
-kind_wants kind.Core passes = false
+kind_wants kind.Full asked = true
+kind_wants kind.Igate asked = asked
+kind_wants kind.Only asked = asked
+kind_wants kind.Dupe asked = false
+kind_wants kind.Submit asked = false
+kind_wants kind.Core asked = false
 
 abbrev pub port_wants : Option Opening → Bool → Bool
-port_wants None passes = false
-port_wants (Some opening) passes = kind_wants opening.kind passes
+port_wants None asked = false
+port_wants (Some opening) asked = kind_wants opening.kind asked
 
 -- whether a link is sent an accepted packet: it lives, has logged in, isn't the one that it came from, and its port wants it
 abbrev pub wants : Trace → ℕ → PacketSeen → ℕ → Bool
 wants trace from packet link =
-    not (from == link) && is_live trace link && is_some (session_of trace link) && port_wants (opening_of trace link) (filter_passes trace packet link)
+    not (from == link) && is_live trace link && is_some (session_of trace link) && port_wants (opening_of trace link) (filter_passes trace packet link || is_asked trace packet link)
 
 -- what a verdict on a line of one link adds to the text of another or of the same
 abbrev pub added_by : Setting → Trace → ℕ → Verdict → ℕ → List (List ℕ)
