@@ -1,8 +1,10 @@
 -- Who is sent a message, and whose next position goes along with it (aprs-is.net, IGate Details).
-use Rattle.std.specs.Prelude.{ℕ, ◌-◌, ◌==◌, ◌&&◌, ◌||◌, Bool, false, not, nat_le, List, [], ◌∷◌, Option, Some, None, if◌then◌else◌}
+use Rattle.std.specs.Prelude.{ℕ, ◌==◌, ◌&&◌, ◌||◌, Bool, false, not, List, [], ◌∷◌, Option, Some, None, if◌then◌else◌}
+use Rattle.aprs_base.specs.Bytes.{is_call}
 use Rattle.aprs_base.specs.PacketSeen.{PacketSeen}
 use Rattle.aprs_body.specs.Classes.{message_bit, position_bit}
 use Rattle.filter_eval.specs.Passes.{has_class, is_some_and}
+use Rattle.heard_routing.specs.Heard.{heard_age, is_recent, promise_age}
 use Rattle.aprs_history.specs.Keys.{is_text}
 use Rattle.aprs_history.specs.declared.verdicts.Session.{Session}
 use Rattle.aprs_history.specs.declared.verdicts.Verdict.{Verdict}
@@ -10,16 +12,6 @@ use Rattle.aprs_history.specs.declared.verdicts.Verdict.TheVariants.{PassedOver,
 use Rattle.aprs_history.specs.Trace.{Trace, Opened, Said, is_live, moment_of}
 use Rattle.aprs_history.specs.Links.{opening_of, session_of}
 use Rattle.aprs_history.specs.Scenes.{has_filters, packet_of}
-
--- for how long a link has heard a station, and for how long a message's sender is owed a courtesy, in seconds
-abbrev pub heard_age : ℕ
-heard_age = 10800
-
-abbrev pub courtesy_age : ℕ
-courtesy_age = 1800
-
-abbrev pub is_at_most : ℕ → ℕ → ℕ → Bool
-is_at_most age now moment = nat_le (now - moment) age
 
 abbrev pub is_message : PacketSeen → Bool
 is_message packet = has_class packet.body.class message_bit
@@ -29,23 +21,23 @@ is_position packet = has_class packet.body.class position_bit
 
 -- ---- what a link heard
 
-abbrev pub heard_after : ℕ → Verdict → List ℕ → Option ℕ → Option ℕ
-heard_after now (Accepted parts line) call before = if is_text parts.source call then Some now else before
-heard_after now PassedOver call before = before
-heard_after now (Refused refusal) call before = before
-heard_after now (LoggedIn session answer) call before = before
-heard_after now (Filtered answer) call before = before
+abbrev pub heard_after : ℕ → ℕ → Verdict → ℕ → List ℕ → Option ℕ → Option ℕ
+heard_after now from (Accepted parts line) link call before = if link == from && is_text call parts.source then Some now else before
+heard_after now from PassedOver link call before = before
+heard_after now from (Refused refusal) link call before = before
+heard_after now from (LoggedIn session answer) link call before = before
+heard_after now from (Filtered answer) link call before = before
 
 -- when a packet of that source was last accepted from a link
 abbrev pub heard_of : Trace → ℕ → List ℕ → Option ℕ
 heard_of [] link call = None
 heard_of (Opened serves opened from ∷ earlier) link call = if link == opened then None else heard_of earlier link call
-heard_of (Said from cut verdict ∷ earlier) link call =
-    if link == from then heard_after (moment_of earlier) verdict call (heard_of earlier link call) else heard_of earlier link call
+heard_of (Said from cut verdict ∷ earlier) link call = heard_after (moment_of earlier) from verdict link call (heard_of earlier link call)
 heard_of (entry ∷ earlier) link call = heard_of earlier link call
 
+-- at most three hours before
 abbrev pub has_heard : Trace → ℕ → List ℕ → Bool
-has_heard trace link call = is_some_and (is_at_most heard_age (moment_of trace)) (heard_of trace link call)
+has_heard trace link call = is_call call && is_some_and (is_recent heard_age (moment_of trace)) (heard_of trace link call)
 
 -- ---- messages
 
@@ -72,7 +64,7 @@ promise_after promised spent now before = if promised then Some now else if spen
 abbrev pub promise_by : Trace → ℕ → Verdict → ℕ → List ℕ → Option ℕ → Option ℕ
 promise_by earlier from (Accepted parts line) link sender before =
     let packet = packet_of from (moment_of earlier) parts line in
-    if is_text parts.source sender then promise_after (promises earlier from packet link) (is_position packet) (moment_of earlier) before else before
+    if is_text sender parts.source then promise_after (promises earlier from packet link) (is_position packet) (moment_of earlier) before else before
 promise_by earlier from PassedOver link sender before = before
 promise_by earlier from (Refused refusal) link sender before = before
 promise_by earlier from (LoggedIn session answer) link sender before = before
@@ -85,10 +77,10 @@ promise_of (Opened serves opened from ∷ earlier) link sender = if link == open
 promise_of (Said from cut verdict ∷ earlier) link sender = promise_by earlier from verdict link sender (promise_of earlier link sender)
 promise_of (entry ∷ earlier) link sender = promise_of earlier link sender
 
--- a position that is owed to a link
+-- a position that is owed to a link, at most half an hour after the message
 abbrev pub is_owed : Trace → PacketSeen → ℕ → Bool
 is_owed trace packet link =
-    is_position packet && is_some_and (is_at_most courtesy_age (moment_of trace)) (promise_of trace link packet.parts.source)
+    is_position packet && is_some_and (is_recent promise_age (moment_of trace)) (promise_of trace link packet.parts.source)
 
 -- ---- the rule
 

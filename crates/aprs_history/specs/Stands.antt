@@ -1,17 +1,20 @@
 -- What it is that a core stands for a history.
-use Rattle.std.specs.Prelude.{◌≡◌, ℕ, ◌≤◌, Bool, List, length, map, Option}
+use Rattle.std.specs.Prelude.{◌≡◌, ℕ, ◌≤◌, Bool, List, length, map, Option, None, if◌then◌else◌}
 use Rattle.aprs_base.specs.Held.{Held, held_after}
 use Rattle.aprs_base.specs.PacketSeen.{PacketSeen}
 use Rattle.filter_lang.specs.Terms.{TermSeen}
 use Rattle.filter_eval.specs.declared.seen.Seen.{Seen}
 use Rattle.station_table.specs.Stations.{StationsSeen}
 use Rattle.station_table.specs.Last.{Agrees}
+use Rattle.heard_routing.specs.Entries.{HasEachOnce}
+use Rattle.heard_routing.specs.Heard.{HeardSeen, heard_at, promised_at}
 use Rattle.aprs_history.specs.Setting.{Setting}
 use Rattle.aprs_history.specs.declared.verdicts.Session.{Session}
-use Rattle.aprs_history.specs.Trace.{Trace, moment_of, served_links}
+use Rattle.aprs_history.specs.Trace.{Trace, is_live, moment_of, served_links}
 use Rattle.aprs_history.specs.Links.{Opening, opening_of, last_heard, brought_by, session_of, filter_of, taken_by, is_blocked, is_gone}
 use Rattle.aprs_history.specs.Scenes.{accepted_of}
 use Rattle.aprs_history.specs.Sights.{friends_of, own_place}
+use Rattle.aprs_history.specs.Messages.{heard_of, promise_of}
 use Rattle.aprs_history.specs.Texts.{Queued, queued, lines_of, text_bytes}
 use Rattle.aprs_history.specs.History.{History, open_events, is_stopped, greatest_link, trace_of}
 
@@ -35,6 +38,7 @@ pub record CoreSeen : Type 0 where
   pub links : List LinkSeen
   pub accepted : List PacketSeen
   pub stations : StationsSeen
+  pub heard : HeardSeen
   pub greatest : ℕ
   pub stopped : Bool
 
@@ -60,12 +64,20 @@ link_seen setting trace link = record {
 abbrev pub TookNoMore : Setting → Trace → Type 0
 TookNoMore setting trace = (link : ℕ) → taken_by trace link ≤ length (text_bytes (lines_of setting trace link))
 
+-- a table has once each when the links that live last heard each call, and what they were last promised; and nothing of other links
+pub record Remembers (table : HeardSeen) (trace : Trace) : Type 0 where
+  pub once_heard : HasEachOnce table.heard
+  pub once_promised : HasEachOnce table.promises
+  pub heard : (link : ℕ) (call : List ℕ) → heard_at table link call ≡ (if is_live trace link then heard_of trace link call else None)
+  pub promised : (link : ℕ) (sender : List ℕ) → promised_at table link sender ≡ (if is_live trace link then promise_of trace link sender else None)
+
 -- the points of a core that hold after each entry of a trace
 pub record Follows (setting : Setting) (core : CoreSeen) (trace : Trace) : Type 0 where
   pub moment : core.moment ≡ moment_of trace
   pub links : core.links ≡ map (link_seen setting trace) (served_links trace)
   pub accepted : core.accepted ≡ accepted_of trace
   pub stations : Agrees core.stations (accepted_of trace)
+  pub heard : Remembers core.heard trace
   pub took : TookNoMore setting trace
 
 -- a core stands for a history whose rounds are finished

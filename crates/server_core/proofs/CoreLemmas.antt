@@ -15,49 +15,33 @@ use Rattle.aprs_history.specs.Trace.{Trace, Ticked, Opened, Brought, Said, Roome
 use Rattle.aprs_history.specs.Links.{session_of, opening_of, brought_by, gone_links}
 use Rattle.aprs_history.specs.History.{begin_round, end_all}
 use Rattle.aprs_history.specs.Stands.{LinkSeen, link_seen, Follows}
-use Rattle.server_core.specs.LinkSteps.{at_link, has_that, has_number, is_there, is_another, with_room, with_bytes, new_link_seen, numbers, Rises, session_at, held_at, picked_at, session_kept, held_kept, filters_at, filters_kept, only_at, only_kept, others_at, at_moment}
+use Rattle.server_core.specs.LinkSteps.{at_link, has_that, has_number, is_there, is_another, with_room, with_bytes, new_link_seen, numbers, Rises, session_at, held_at, picked_at, session_kept, held_kept, filters_at, filters_kept, only_at, only_kept, others_at, at_moment, forgotten_all, is_lost}
+use Rattle.heard_routing.specs.Heard.{HeardSeen, without_link}
 use Rattle.aprs_conf.specs.Seen.{ConfSeen}
 use Rattle.server_core.specs.Meaning.{CoreMeaning, setting_of}
 use Rattle.server_core.specs.Kept.{IsKept}
 use Rattle.server_core.specs.Steps.{SameRest, Walks, saying, scene_at, with_verdict}
 use Rattle.server_core.proofs.LinkLemmas.{changed_none, rises_to, rises_push}
-use Rattle.server_core.proofs.WalkLemmas.{with_links, follows_begun, going_after, follows_said, follows_roomed, follows_ticked, follows_brought, follows_opened, follows_unserved, follows_ended, follows_stopped}
+use Rattle.server_core.proofs.FollowLemmas.{picked_missing, picked_seen}
+use Rattle.server_core.proofs.HeardLemmas.{remembers_no_end}
+use Rattle.server_core.proofs.WalkLemmas.{with_heard, with_links, follows_begun, going_after, follows_said, follows_roomed, follows_ticked, follows_brought, follows_opened, follows_unserved, follows_ended, follows_stopped}
 
 -- the core with other links
 abbrev pub relinked : List LinkSeen → CoreMeaning → CoreMeaning
 relinked links core = record core { seen = record core.seen { links = links } }
 
-pub walks_begun : (core : CoreMeaning) (t : Trace) (links : List LinkSeen) → Walks core t → links ≡ filter is_there core.seen.links → Walks (relinked links core) (begin_round t)
-walks_begun core t links walks is = record {
-  follows = subst (λ ls. Follows (setting_of core.conf) (with_links ls core.seen) (begin_round t)) (sym is) (follows_begun (setting_of core.conf) core.seen t walks.follows walks.going);
+-- and with what was heard
+abbrev pub reheard : HeardSeen → CoreMeaning → CoreMeaning
+reheard heard core = record core { seen = record core.seen { heard = heard } }
+
+pub walks_begun : (core : CoreMeaning) (t : Trace) (links : List LinkSeen) (heard : HeardSeen) → Walks core t → links ≡ filter is_there core.seen.links
+    → heard ≡ forgotten_all (numbers (filter is_lost core.seen.links)) core.seen.heard → Walks (reheard heard (relinked links core)) (begin_round t)
+walks_begun core t links heard walks is forgotten = record {
+  follows = subst (λ ls. Follows (setting_of core.conf) (with_heard heard (with_links ls core.seen)) (begin_round t)) (sym is)
+      (subst (λ table. Follows (setting_of core.conf) (with_heard table (with_links (filter is_there core.seen.links) core.seen)) (begin_round t)) (sym forgotten)
+      (follows_begun (setting_of core.conf) core.seen t walks.follows walks.going));
   going = going_after (gone_links t) t ∙ walks.going;
 }
-
--- what is picked of a link that lives is what there is to keep of it
-pub picked_seen : {X : Type 0} (pick : LinkSeen → X) (none : X) (s : Setting) (t : Trace) (number : ℕ) (ks : List ℕ) → is_member number ks ≡ true
-    → picked_at pick none number (map (link_seen s t) ks) ≡ pick (link_seen s t number)
-unfolding link_seen
-picked_seen pick none s t number [] member = absurd (true≢false (sym member))
-picked_seen pick none s t number (k ∷ ks) member =
-    let rest = picked_at pick none number (map (link_seen s t) ks) in
-    ⊎_elim
-    (λ here. ap (λ b. if b then pick (link_seen s t k) else rest) here ∙ ap (λ n. pick (link_seen s t n)) (eqb-true k number here))
-    (λ other. ap (λ b. if b then pick (link_seen s t k) else rest) other
-    ∙ picked_seen pick none s t number ks (sym (ap (λ b. b || is_member number ks) other) ∙ member))
-    (cases_Bool (k == number))
-
--- what is picked of a link that doesn't live
-pub picked_missing : {X : Type 0} (pick : LinkSeen → X) (none : X) (s : Setting) (t : Trace) (number : ℕ) (ks : List ℕ) → is_member number ks ≡ false
-    → picked_at pick none number (map (link_seen s t) ks) ≡ none
-unfolding link_seen
-picked_missing pick none s t number [] member = refl
-picked_missing pick none s t number (k ∷ ks) member =
-    let rest = picked_at pick none number (map (link_seen s t) ks) in
-    ⊎_elim
-    (λ here. absurd (true≢false (sym (ap (λ b. b || is_member number ks) here) ∙ member)))
-    (λ other. ap (λ b. if b then pick (link_seen s t k) else rest) other
-    ∙ picked_missing pick none s t number ks (sym (ap (λ b. b || is_member number ks) other) ∙ member))
-    (cases_Bool (k == number))
 
 -- the logins of others, as they are kept and as the trace has them
 others_seen : (s : Setting) (t : Trace) (number : ℕ) (ks : List ℕ)
@@ -123,10 +107,12 @@ module _ (core : CoreMeaning) (t : Trace) (walks : Walks core t) where
     going = walks.going;
   }
 
-  pub walks_ended : (number : ℕ) (links : List LinkSeen) → links ≡ filter (is_another number) core.seen.links → Walks (relinked links core) (Ended number ByPeer ∷ t)
-  walks_ended number links new = record {
-    follows = subst (λ ls. Follows (setting_of core.conf) (with_links ls core.seen) (Ended number ByPeer ∷ t)) (sym new)
-        (follows_ended (setting_of core.conf) core.seen t walks.follows walks.going number);
+  pub walks_ended : (number : ℕ) (links : List LinkSeen) (heard : HeardSeen) → links ≡ filter (is_another number) core.seen.links → heard ≡ without_link number core.seen.heard
+      → Walks (reheard heard (relinked links core)) (Ended number ByPeer ∷ t)
+  walks_ended number links heard new forgotten = record {
+    follows = subst (λ ls. Follows (setting_of core.conf) (with_heard heard (with_links ls core.seen)) (Ended number ByPeer ∷ t)) (sym new)
+        (subst (λ table. Follows (setting_of core.conf) (with_heard table (with_links (filter (is_another number) core.seen.links) core.seen)) (Ended number ByPeer ∷ t)) (sym forgotten)
+        (follows_ended (setting_of core.conf) core.seen t walks.follows walks.going number));
     going = append-nil (stopped_links t) ∙ walks.going;
   }
 
@@ -137,7 +123,7 @@ walks_heard core t walks number cut live =
     let verdict = verdict_of (scene_at core number) cut in
     let same : verdict ≡ verdict_of (scene_of (setting_of core.conf) t number) cut = ap (λ scene. verdict_of scene cut) (scene_now core t walks number live) in
     subst (λ judged. Walks (with_verdict number verdict core) (Said number cut judged ∷ t)) same
-    (record { follows = follows_said (setting_of core.conf) core.seen t walks.follows walks.going number cut verdict; going = walks.going })
+    (record { follows = follows_said (setting_of core.conf) core.seen t walks.follows walks.going number cut verdict live; going = walks.going })
 
 -- what a verdict leaves as it is
 pub rest_kept : (core : CoreMeaning) (number : ℕ) (verdict : Verdict) → SameRest core (with_verdict number verdict core)
@@ -157,7 +143,7 @@ walks_served core conf t walks same listener k kind from links served some at ke
     let follows = follows_opened (setting_of core.conf) core.seen t walks.follows kind k core.seen.greatest from kept.rising above in
     let serves : Some kind ≡ kind_at (setting_of conf) listener = sym some ∙ at ∙ ap (λ c. kind_at (setting_of c) listener) same in
     subst (λ kinds. Walks (record core { seen = record core.seen { links = links; greatest = k } }) (Opened kinds k from ∷ t)) serves (record {
-      follows = record { moment = follows.moment; links = new ∙ follows.links; accepted = follows.accepted; stations = follows.stations; took = follows.took };
+      follows = record { moment = follows.moment; links = new ∙ follows.links; accepted = follows.accepted; stations = follows.stations; heard = follows.heard; took = follows.took };
       going = walks.going;
     })
 
@@ -168,7 +154,7 @@ walks_unserved core conf t walks same listener k from served none at kept above 
     let follows = follows_unserved (setting_of core.conf) core.seen t walks.follows k core.seen.greatest from kept.rising above in
     let serves : None ≡ kind_at (setting_of conf) listener = sym none ∙ at ∙ ap (λ c. kind_at (setting_of c) listener) same in
     subst (λ kinds. Walks (record core { seen = record core.seen { greatest = k } }) (Opened kinds k from ∷ t)) serves (record {
-      follows = record { moment = follows.moment; links = follows.links; accepted = follows.accepted; stations = follows.stations; took = follows.took };
+      follows = record { moment = follows.moment; links = follows.links; accepted = follows.accepted; stations = follows.stations; heard = follows.heard; took = follows.took };
       going = walks.going;
     })
 
@@ -200,8 +186,22 @@ walks_unmoved core t links walks same = subst (λ ls. Walks (relinked ls core) t
 pub walks_no_room : (core : CoreMeaning) (t : Trace) → Walks core t → (number : ℕ) (links : List LinkSeen) → is_live t number ≡ false → links ≡ map (at_link number with_room) core.seen.links → Walks (relinked links core) t
 walks_no_room core t walks number links dead new = walks_unmoved core t links walks (new ∙ changed_none number with_room core.seen.links (no_number core t walks number dead))
 
-pub walks_no_end : (core : CoreMeaning) (t : Trace) → Walks core t → (number : ℕ) (links : List LinkSeen) → is_live t number ≡ false → links ≡ filter (is_another number) core.seen.links → Walks (relinked links core) t
-walks_no_end core t walks number links dead new = walks_unmoved core t links walks (new ∙ all_other number core.seen.links (no_number core t walks number dead))
+pub walks_no_end : (core : CoreMeaning) (t : Trace) → Walks core t → (number : ℕ) (links : List LinkSeen) (heard : HeardSeen) → is_live t number ≡ false
+    → links ≡ filter (is_another number) core.seen.links → heard ≡ without_link number core.seen.heard → Walks (reheard heard (relinked links core)) t
+walks_no_end core t walks number links heard dead new forgotten =
+    let follows = walks.follows in
+    let unheard : Walks (reheard (without_link number core.seen.heard) core) t = record {
+      follows = record {
+        moment = follows.moment;
+        links = follows.links;
+        accepted = follows.accepted;
+        stations = follows.stations;
+        heard = remembers_no_end core.seen.heard t number dead follows.heard;
+        took = follows.took;
+      };
+      going = walks.going;
+    } in
+    walks_unmoved (reheard heard core) t links (subst (λ table. Walks (reheard table core) t) (sym forgotten) unheard) (new ∙ all_other number core.seen.links (no_number core t walks number dead))
 
 pub walks_ticked : (core : CoreMeaning) (t : Trace) → Walks core t → (m : ℕ) (moment : ℕ) (links : List LinkSeen) → moment ≡ max (min m last_moment) core.seen.moment
     → links ≡ map (at_moment moment) core.seen.links
@@ -234,10 +234,11 @@ pub unmoved_ok : {E : Type 0} (core : CoreMeaning) (t : Trace) (links : List Lin
 unmoved_ok core t links (Ok cuts) walks h = (h.0, walks_unmoved core t links walks h.1)
 unmoved_ok core t links (Err e) walks h = h
 
--- a stop ends all links, and leaves what there is to keep of them
-pub follows_stop : (core : CoreMeaning) (conf : ConfSeen) (t : Trace) → Walks core t → core.conf ≡ conf
-    → Follows (setting_of conf) (record core.seen { stopped = true }) (end_all ByStop (live_links t) t)
-follows_stop core conf t walks same =
+-- a stop ends all links, and leaves what there is to keep of them, but what they heard
+pub follows_stop : (core : CoreMeaning) (conf : ConfSeen) (t : Trace) (heard : HeardSeen) → Walks core t → core.conf ≡ conf → heard ≡ forgotten_all (numbers core.seen.links) core.seen.heard
+    → Follows (setting_of conf) (record core.seen { heard = heard; stopped = true }) (end_all ByStop (live_links t) t)
+follows_stop core conf t heard walks same forgotten =
     let follows = follows_stopped (setting_of core.conf) core.seen t walks.follows walks.going in
-    subst (λ c. Follows (setting_of c) (record core.seen { stopped = true }) (end_all ByStop (live_links t) t)) same
-    (record { moment = follows.moment; links = follows.links; accepted = follows.accepted; stations = follows.stations; took = follows.took })
+    subst (λ c. Follows (setting_of c) (record core.seen { heard = heard; stopped = true }) (end_all ByStop (live_links t) t)) same
+    (subst (λ table. Follows (setting_of core.conf) (record core.seen { heard = table; stopped = true }) (end_all ByStop (live_links t) t)) (sym forgotten)
+    (record { moment = follows.moment; links = follows.links; accepted = follows.accepted; stations = follows.stations; heard = follows.heard; took = follows.took }))

@@ -1,6 +1,6 @@
 -- Each entry of a trace, and what it changes of what there is to keep of the links.
-use Rattle.std.proofs.Common.{◌≡◌, ℕ, ◌+◌, ◌-◌, ◌≤◌, ◌<◌, ◌==◌, Bool, true, false, not, ◌&&◌, List, [], ◌∷◌, ◌++◌, length, map, refl, sym, ap, ◌∙◌, arith, Option, Some, None, ⊎_elim, append-nil, length-append, nat_lt, nat_le, is_some, drop, eq-eqb, append_assoc, max, min, if◌then◌else◌}
-use Rattle.std.proofs.lemmas.Bool.{eqb-true, cases_Bool, leb-true, leb-false, le-leb, lt-leb, ltb-true, ltb-false, false_from_ne_true, true_from_ne_false}
+use Rattle.std.proofs.Common.{◌≡◌, ℕ, ◌+◌, ◌-◌, ◌≤◌, ◌<◌, ◌==◌, Bool, true, false, not, ◌&&◌, ◌||◌, List, [], ◌∷◌, ◌++◌, length, map, refl, sym, ap, ◌∙◌, arith, Option, Some, None, ⊎_elim, append-nil, length-append, nat_lt, nat_le, is_some, drop, eq-eqb, append_assoc, max, min, if◌then◌else◌}
+use Rattle.std.proofs.lemmas.Bool.{true≢false, eqb-true, cases_Bool, leb-true, leb-false, le-leb, lt-leb, ltb-true, ltb-false, false_from_ne_true, true_from_ne_false}
 use Rattle.std.proofs.Math.Nat.{le-max_right}
 use Rattle.std.proofs.Math.Seq.{drop-append-add}
 use Rattle.std.proofs.lemmas.List.Concat.{flat_map-append}
@@ -20,13 +20,15 @@ use Rattle.aprs_history.specs.declared.verdicts.Refusal.{Refusal}
 use Rattle.aprs_history.specs.declared.verdicts.Verdict.TheVariants.{PassedOver, Refused, LoggedIn, Filtered, Accepted}
 use Rattle.aprs_history.specs.Setting.{Setting}
 use Rattle.aprs_history.specs.Scenes.{accepted_of, packet_of}
+use Rattle.heard_routing.specs.Heard.{is_among}
+use Rattle.aprs_history.specs.Messages.{is_asked, is_owed, is_to_heard, is_to_login}
 use Rattle.aprs_history.specs.Sights.{filter_passes, friend_in, friends_of, is_gate_at, login_in, own_place, sighting}
-use Rattle.aprs_history.specs.Trace.{last_moment, moment_of, Trace, Ticked, Opened, Brought, Said, Roomed, Took, Lost, is_live}
+use Rattle.aprs_history.specs.Trace.{is_member, last_moment, moment_of, Trace, Ticked, Opened, Brought, Said, Roomed, Took, Lost, is_live}
 use Rattle.aprs_history.specs.Links.{brought_by, filter_after, filter_by, filter_of, taken_by, session_of, opening_of}
 use Rattle.aprs_history.specs.Texts.{Queued, queued, lines_of, text_bytes, ended_line, wants, filter_reply, login_filter_reply, login_reply, refusal_reply, reply_lines, port_wants}
 use Rattle.aprs_history.specs.Stands.{LinkSeen, link_seen, TookNoMore}
 use Rattle.server_core.specs.Pending.{with_line, pending_bytes}
-use Rattle.server_core.specs.LinkSteps.{at_link, at_moment, with_answer, with_room, when_gone, with_taken, with_bytes, with_text, with_session, with_packet, with_places, new_link_seen}
+use Rattle.server_core.specs.LinkSteps.{picked_at, at_link, at_moment, with_answer, with_room, when_gone, with_taken, with_bytes, with_text, with_session, with_packet, with_places, new_link_seen}
 use Rattle.server_core.proofs.SightLemmas.{friends_later, login_later, places_kept, told_at}
 
 pub map_through : {X Y : Type 0} (f : X → Y) (g : Y → Y) (h : X → Y) → ((x : X) → f x ≡ g (h x)) → (xs : List X) → map f xs ≡ map g (map h xs)
@@ -278,21 +280,24 @@ module _ (s : Setting) where
       login_shape (link_seen s t j) (accepted_of t) (moment_of t) (session_of t j) (filter_of t j) (lines_of s t j) (taken_by t j) (took j) session (login_reply s.server session) answer (j == k)
 
   -- an accepted packet, at a link that lives
-  pub accepted_seen : (t : Trace) → TookNoMore s t → (k : ℕ) (cut : Cut) (parts : Parts) (line : List ℕ) (j : ℕ) → is_live t j ≡ true
+  pub accepted_seen : (t : Trace) → TookNoMore s t → (k : ℕ) (cut : Cut) (parts : Parts) (line : List ℕ) (hearers owed : List ℕ) (j : ℕ) → is_live t j ≡ true
+      → is_among j hearers ≡ is_to_heard t (packet_of k (moment_of t) parts line) j → is_among j owed ≡ is_owed t (packet_of k (moment_of t) parts line) j
       → link_seen s (Said k cut (Accepted parts line) ∷ t) j
       ≡ with_packet k (packet_of k (moment_of t) parts line)
-          (record { place = sighting (accepted_of t) (moment_of t) parts.source; gate = is_gate_at (accepted_of t) (moment_of t) parts.source }) (link_seen s t j)
+          (record { place = sighting (accepted_of t) (moment_of t) parts.source; gate = is_gate_at (accepted_of t) (moment_of t) parts.source }) hearers owed (link_seen s t j)
   unfolding link_seen
-  accepted_seen t took k cut parts line j live =
+  accepted_seen t took k cut parts line hearers owed j live heard due =
       let base = link_seen s t j in
       let packet = packet_of k (moment_of t) parts line in
-      let wanted = not (k == j) && is_some (session_of t j) && port_wants (opening_of t j) (filter_passes t packet j) in
-      let same : wants t k packet j ≡ wanted =
-      ap (λ b. not (k == j) && b && is_some (session_of t j) && port_wants (opening_of t j) (filter_passes t packet j)) live
-      ∙ and_true (not (k == j)) (is_some (session_of t j)) (port_wants (opening_of t j) (filter_passes t packet j)) in
+      let asked : Bool → Bool → Bool = λ by_hearing by_courtesy.
+      not (k == j) && is_some (session_of t j) && port_wants (opening_of t j) (filter_passes t packet j || (is_to_login packet (session_of t j) || by_hearing || by_courtesy)) in
+      let same : wants t k packet j ≡ asked (is_among j hearers) (is_among j owed) =
+      ap (λ b. not (k == j) && b && is_some (session_of t j) && port_wants (opening_of t j) (filter_passes t packet j || is_asked t packet j)) live
+      ∙ and_true (not (k == j)) (is_some (session_of t j)) (port_wants (opening_of t j) (filter_passes t packet j || is_asked t packet j))
+      ∙ ap (λ b. asked b (is_owed t packet j)) (sym heard) ∙ ap (asked (is_among j hearers)) (sym due) in
       ap (λ b. keeping base (accepted_of t ++ packet ∷ []) (moment_of t) (if j == k then session_of t j else session_of t j) (if j == k then filter_of t j else filter_of t j)
       (queued (lines_of s t j ++ (if b then line ∷ [] else [])) (taken_by t j))) same
-      ∙ packet_shape base (accepted_of t) (moment_of t) (session_of t j) (filter_of t j) (lines_of s t j) (taken_by t j) (took j) packet (j == k) wanted refl
+      ∙ packet_shape base (accepted_of t) (moment_of t) (session_of t j) (filter_of t j) (lines_of s t j) (taken_by t j) (took j) packet (j == k) (asked (is_among j hearers) (is_among j owed)) refl
 
   pub opened_seen : (t : Trace) (serves : Option PortKind) (k : ℕ) (from : Addr) (j : ℕ) → (j == k) ≡ false → link_seen s (Opened serves k from ∷ t) j ≡ link_seen s t j
   unfolding link_seen
@@ -302,3 +307,29 @@ module _ (s : Setting) where
       → link_seen s (Opened (Some kind) k from ∷ t) k ≡ new_link_seen k (record { kind = kind; from = from; moment = moment_of t })
   unfolding link_seen
   new_seen t kind k from = let same : (k == k) ≡ true = eq-eqb k k refl in rw same refl
+
+-- what is picked of a link that lives is what there is to keep of it
+pub picked_seen : {X : Type 0} (pick : LinkSeen → X) (none : X) (s : Setting) (t : Trace) (number : ℕ) (ks : List ℕ) → is_member number ks ≡ true
+    → picked_at pick none number (map (link_seen s t) ks) ≡ pick (link_seen s t number)
+unfolding link_seen
+picked_seen pick none s t number [] member = absurd (true≢false (sym member))
+picked_seen pick none s t number (k ∷ ks) member =
+    let rest = picked_at pick none number (map (link_seen s t) ks) in
+    ⊎_elim
+    (λ here. ap (λ b. if b then pick (link_seen s t k) else rest) here ∙ ap (λ n. pick (link_seen s t n)) (eqb-true k number here))
+    (λ other. ap (λ b. if b then pick (link_seen s t k) else rest) other
+    ∙ picked_seen pick none s t number ks (sym (ap (λ b. b || is_member number ks) other) ∙ member))
+    (cases_Bool (k == number))
+
+-- what is picked of a link that doesn't live
+pub picked_missing : {X : Type 0} (pick : LinkSeen → X) (none : X) (s : Setting) (t : Trace) (number : ℕ) (ks : List ℕ) → is_member number ks ≡ false
+    → picked_at pick none number (map (link_seen s t) ks) ≡ none
+unfolding link_seen
+picked_missing pick none s t number [] member = refl
+picked_missing pick none s t number (k ∷ ks) member =
+    let rest = picked_at pick none number (map (link_seen s t) ks) in
+    ⊎_elim
+    (λ here. absurd (true≢false (sym (ap (λ b. b || is_member number ks) here) ∙ member)))
+    (λ other. ap (λ b. if b then pick (link_seen s t k) else rest) other
+    ∙ picked_missing pick none s t number ks (sym (ap (λ b. b || is_member number ks) other) ∙ member))
+    (cases_Bool (k == number))

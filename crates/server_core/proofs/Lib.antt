@@ -1,6 +1,8 @@
 pub mod CoreLemmas
 pub mod FollowLemmas
+pub mod HeardLemmas
 pub mod LinkLemmas
+pub mod MemberLemmas
 pub mod PartLemmas
 pub mod RoundLemmas
 pub mod SendLemmas

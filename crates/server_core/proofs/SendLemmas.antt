@@ -4,6 +4,8 @@ use Rattle.std.proofs.lemmas.Bool.{cases_Bool}
 use Rattle.aprs_base.specs.declared.events.Sent.TheVariants as sent
 use Rattle.aprs_base.specs.declared.events.Happening.TheVariants as did
 use Rattle.aprs_base.specs.declared.packets.ListenSpec.{ListenSpec}
+use Rattle.heard_routing.specs.Heard.{nothing}
+use Rattle.heard_routing.proofs.EntryLemmas.{once_none}
 use Rattle.station_table.specs.Last.{Agrees}
 use Rattle.station_table.specs.Stations.{no_stations}
 use Rattle.station_table.proofs.LastSeen.{new_agrees}
@@ -13,12 +15,12 @@ use Rattle.aprs_history.specs.Links.{taken_by}
 use Rattle.aprs_history.specs.Texts.{lines_of, text_bytes, untaken}
 use Rattle.aprs_history.specs.History.{History, trace_of}
 use Rattle.aprs_history.specs.Rounds.{listens_after}
-use Rattle.aprs_history.specs.Stands.{LinkSeen, CoreSeen, link_seen, Follows, StandsFor}
+use Rattle.aprs_history.specs.Stands.{LinkSeen, CoreSeen, link_seen, Follows, StandsFor, Remembers}
 use Rattle.server_core.specs.LinkSteps.{at_link, has_number, with_taken, when_gone, pending_at, pending_of}
 use Rattle.server_core.specs.Meaning.{CoreMeaning, setting_of, Stands}
-use Rattle.server_core.proofs.FollowLemmas.{queued-bytes}
+use Rattle.server_core.proofs.FollowLemmas.{queued-bytes, picked_seen, picked_missing}
 use Rattle.server_core.proofs.WalkLemmas.{follows_took, follows_lost}
-use Rattle.server_core.proofs.CoreLemmas.{relinked, picked_seen, picked_missing}
+use Rattle.server_core.proofs.CoreLemmas.{relinked}
 
 number_member : (s : Setting) (t : Trace) (k : ℕ) (ks : List ℕ) → has_number k (map (link_seen s t) ks) ≡ is_member k ks
 unfolding link_seen
@@ -61,6 +63,7 @@ stands_took core links k offered n bytes h size stands part pending new =
         links = new ∙ ap (λ m. map (at_link k (with_taken m n)) core.seen.links) (sym size) ∙ follows.links;
         accepted = follows.accepted;
         stations = follows.stations;
+        heard = follows.heard;
         took = follows.took;
       };
       greatest = stands.greatest;
@@ -75,7 +78,7 @@ stands_gone core links k bytes h stands new =
     let follows = follows_lost s core.seen (trace_of s h) stands.follows k in
     record {
       finished = stands.finished;
-      follows = record { moment = follows.moment; links = new ∙ follows.links; accepted = follows.accepted; stations = follows.stations; took = follows.took };
+      follows = record { moment = follows.moment; links = new ∙ follows.links; accepted = follows.accepted; stations = follows.stations; heard = follows.heard; took = follows.took };
       greatest = stands.greatest;
       stopped = stands.stopped;
     }
@@ -92,11 +95,11 @@ stands_listening s core (spec ∷ specs) n h stands = stands_listening s core sp
 })
 
 -- nothing has happened
-pub stands_new : (s : Setting) (core : CoreSeen) → core.moment ≡ 0 → core.links ≡ [] → core.accepted ≡ [] → core.stations ≡ no_stations → core.greatest ≡ 0 → core.stopped ≡ false → StandsFor s core []
+pub stands_new : (s : Setting) (core : CoreSeen) → core.moment ≡ 0 → core.links ≡ [] → core.accepted ≡ [] → core.stations ≡ no_stations → core.heard ≡ nothing → core.greatest ≡ 0 → core.stopped ≡ false → StandsFor s core []
 unfolding trace_of
-stands_new s core moment links accepted stations greatest stopped = record {
+stands_new s core moment links accepted stations heard greatest stopped = record {
   finished = refl;
-  follows = record { moment = moment; links = links; accepted = accepted; stations = subst (λ table. Agrees table []) (sym stations) new_agrees; took = λ k. omega arith };
+  follows = record { moment = moment; links = links; accepted = accepted; stations = subst (λ table. Agrees table []) (sym stations) new_agrees; heard = subst (λ table. Remembers table []) (sym heard) (record { once_heard = once_none [] refl; once_promised = once_none [] refl; heard = λ l call. refl; promised = λ l sender. refl }); took = λ k. omega arith };
   greatest = greatest;
   stopped = stopped;
 }

@@ -10,6 +10,7 @@ use Rattle.aprs_base.specs.declared.packets.PortKind.{PortKind}
 use Rattle.aprs_base.specs.PacketSeen.{PacketSeen}
 use Rattle.filter_lang.specs.Terms.{TermSeen}
 use Rattle.filter_eval.specs.declared.seen.Seen.{Seen}
+use Rattle.heard_routing.specs.Heard.{HeardSeen, without_link}
 use Rattle.station_table.specs.Last.{Agrees}
 use Rattle.station_table.proofs.LastSeen.{note_agrees}
 use Rattle.aprs_history.specs.declared.verdicts.FilterAnswer.{FilterAnswer}
@@ -18,17 +19,20 @@ use Rattle.aprs_history.specs.declared.verdicts.Refusal.{Refusal}
 use Rattle.aprs_history.specs.declared.verdicts.Verdict.{Verdict}
 use Rattle.aprs_history.specs.declared.verdicts.Verdict.TheVariants.{PassedOver, Refused, LoggedIn, Filtered, Accepted}
 use Rattle.aprs_history.specs.Setting.{Setting}
-use Rattle.aprs_history.specs.Trace.{Trace, Ticked, Opened, Brought, Said, Roomed, Took, Lost, Ended, EndReason, FoundGone, ByPeer, ByStop, live_links, stopped_links, served_links, is_member, is_other, moment_of, last_moment}
-use Rattle.aprs_history.specs.Links.{brought_by, taken_by, is_gone, gone_links}
-use Rattle.aprs_history.specs.Scenes.{accepted_of, packet_of}
+use Rattle.aprs_history.specs.Trace.{Trace, Ticked, Opened, Brought, Said, Roomed, Took, Lost, Ended, EndReason, FoundGone, ByPeer, ByStop, live_links, stopped_links, served_links, is_live, is_member, is_other, moment_of, last_moment}
+use Rattle.aprs_history.specs.Links.{brought_by, opening_of, taken_by, is_gone, gone_links}
+use Rattle.aprs_history.specs.Scenes.{accepted_of, has_filters, packet_of}
+use Rattle.aprs_history.specs.Messages.{heard_of, promise_of}
 use Rattle.aprs_history.specs.Sights.{friend_in, is_gate_at, sighting}
 use Rattle.aprs_history.specs.Texts.{lines_of, text_bytes, ended_line, added_by, login_reply, refusal_reply}
-use Rattle.aprs_history.specs.Stands.{LinkSeen, CoreSeen, link_seen, TookNoMore, Follows}
+use Rattle.aprs_history.specs.Stands.{LinkSeen, CoreSeen, link_seen, TookNoMore, Follows, Remembers}
 use Rattle.aprs_history.specs.History.{end_all, begin_round}
-use Rattle.server_core.specs.LinkSteps.{after_answer, after_login, after_login_answer, after_packet, after_verdict, found_in, has_that, with_answer, with_reply, at_link, at_moment, with_room, when_gone, with_taken, with_bytes, with_text, with_session, with_packet, new_link_seen, numbers, place_young, source_found, is_there, is_another, Rises}
+use Rattle.server_core.specs.LinkSteps.{filters_at, filters_kept, forgotten_all, hearers_of, is_lost, owed_in, receiver_of, after_answer, after_login, after_login_answer, after_packet, after_verdict, found_in, has_that, with_answer, with_reply, at_link, at_moment, with_room, when_gone, with_taken, with_bytes, with_text, with_session, with_packet, new_link_seen, numbers, place_young, source_found, is_there, is_another, Rises}
 use Rattle.server_core.specs.declared.link.SourcePlace.{SourcePlace}
 use Rattle.server_core.proofs.SightLemmas.{answer_same, friends_found, map_same, sighting_found, source_known}
-use Rattle.server_core.proofs.FollowLemmas.{answered_seen, map_through, text_more, ticked_seen, with_login, roomed_seen, lost_seen, took_seen, brought_seen, refused_seen, replied_seen, passed_seen, login_seen, accepted_seen, opened_seen, new_seen}
+use Rattle.server_core.proofs.MemberLemmas.{eqb_turned, member_filtered, member_later}
+use Rattle.server_core.proofs.HeardLemmas.{hearers_are, owed_are, remembers_accepted, remembers_all_ended, remembers_ended, remembers_opened, remembers_unserved}
+use Rattle.server_core.proofs.FollowLemmas.{picked_missing, picked_seen, answered_seen, map_through, text_more, ticked_seen, with_login, roomed_seen, lost_seen, took_seen, brought_seen, refused_seen, replied_seen, passed_seen, login_seen, accepted_seen, opened_seen, new_seen}
 
 -- ---- lists of numbers
 
@@ -75,6 +79,16 @@ member_below low high (n ∷ ns) x rises member =
 
 -- ---- no link takes more than its text
 
+-- entries that leave live links, and what they heard and were promised, leave what a table remembers
+remembers_as : (table : HeardSeen) (t u : Trace) → ((l : ℕ) → is_live u l ≡ is_live t l) → ((l : ℕ) (call : List ℕ) → heard_of u l call ≡ heard_of t l call)
+    → ((l : ℕ) (sender : List ℕ) → promise_of u l sender ≡ promise_of t l sender) → Remembers table t → Remembers table u
+remembers_as table t u live heard promised remembers = record {
+  once_heard = remembers.once_heard;
+  once_promised = remembers.once_promised;
+  heard = λ l call. remembers.heard l call ∙ ap (λ b. if b then heard_of t l call else None) (sym (live l)) ∙ ap (λ told. if is_live u l then told else None) (sym (heard l call));
+  promised = λ l sender. remembers.promised l sender ∙ ap (λ b. if b then promise_of t l sender else None) (sym (live l)) ∙ ap (λ told. if is_live u l then told else None) (sym (promised l sender));
+}
+
 module _ (s : Setting) where
   took_said : (t : Trace) → TookNoMore s t → (k : ℕ) (cut : Cut) (verdict : Verdict) → TookNoMore s (Said k cut verdict ∷ t)
   took_said t took k cut verdict j = text_more (lines_of s t j) (added_by s t k verdict j) (taken_by t j) (took j)
@@ -109,6 +123,9 @@ below_other j k high ns rises above member =
 abbrev pub with_links : List LinkSeen → CoreSeen → CoreSeen
 with_links links core = record core { links = links }
 
+abbrev pub with_heard : HeardSeen → CoreSeen → CoreSeen
+with_heard heard core = record core { heard = heard }
+
 abbrev pub with_moment : ℕ → CoreSeen → CoreSeen
 with_moment moment core = record core { moment = moment; links = map (at_moment moment) core.links }
 
@@ -121,6 +138,7 @@ module _ (s : Setting) (core : CoreSeen) (t : Trace) (follows : Follows s core t
         ∙ sym (map_through (link_seen s (Ticked m ∷ t)) (at_moment (moment_of (Ticked m ∷ t))) (link_seen s t) (ticked_seen s t m) (served_links t));
     accepted = follows.accepted;
     stations = follows.stations;
+    heard = remembers_as core.heard t (Ticked m ∷ t) (λ l. refl) (λ l call. refl) (λ l sender. refl) follows.heard;
     took = follows.took;
   }
 
@@ -130,6 +148,7 @@ module _ (s : Setting) (core : CoreSeen) (t : Trace) (follows : Follows s core t
     links = ap (map (at_link k with_room)) follows.links ∙ sym (map_through (link_seen s (Roomed k ∷ t)) (at_link k with_room) (link_seen s t) (roomed_seen s t k) (served_links t));
     accepted = follows.accepted;
     stations = follows.stations;
+    heard = remembers_as core.heard t (Roomed k ∷ t) (λ l. refl) (λ l call. refl) (λ l sender. refl) follows.heard;
     took = follows.took;
   }
 
@@ -139,6 +158,7 @@ module _ (s : Setting) (core : CoreSeen) (t : Trace) (follows : Follows s core t
     links = ap (map (at_link k when_gone)) follows.links ∙ sym (map_through (link_seen s (Lost k ∷ t)) (at_link k when_gone) (link_seen s t) (lost_seen s t k) (served_links t));
     accepted = follows.accepted;
     stations = follows.stations;
+    heard = remembers_as core.heard t (Lost k ∷ t) (λ l. refl) (λ l call. refl) (λ l sender. refl) follows.heard;
     took = follows.took;
   }
 
@@ -150,6 +170,7 @@ module _ (s : Setting) (core : CoreSeen) (t : Trace) (follows : Follows s core t
         ∙ sym (map_through (link_seen s (Took k offered n ∷ t)) (at_link k (with_taken offered n)) (link_seen s t) (took_seen s t k offered n) (served_links t));
     accepted = follows.accepted;
     stations = follows.stations;
+    heard = remembers_as core.heard t (Took k offered n ∷ t) (λ l. refl) (λ l call. refl) (λ l sender. refl) follows.heard;
     took = took_took s t follows.took k offered n le;
   }
 
@@ -163,6 +184,7 @@ module _ (s : Setting) (core : CoreSeen) (t : Trace) (follows : Follows s core t
         (brought_seen s t k bytes) (served_links t));
     accepted = follows.accepted;
     stations = follows.stations;
+    heard = remembers_as core.heard t (Brought k bytes ∷ t) (λ l. refl) (λ l call. refl) (λ l sender. refl) follows.heard;
     took = follows.took;
   }
 
@@ -176,6 +198,7 @@ module _ (s : Setting) (core : CoreSeen) (t : Trace) (follows : Follows s core t
     links = follows.links ∙ sym (map_on (link_seen s (Said k cut PassedOver ∷ t)) (link_seen s t) (served_links t) (λ j member. passed_seen s t k cut j));
     accepted = follows.accepted ∙ sym (append-nil (accepted_of t));
     stations = agrees_still;
+    heard = remembers_as core.heard t (Said k cut PassedOver ∷ t) (λ l. refl) (λ l call. refl) (λ l sender. refl) follows.heard;
     took = took_said s t follows.took k cut PassedOver;
   }
 
@@ -186,6 +209,7 @@ module _ (s : Setting) (core : CoreSeen) (t : Trace) (follows : Follows s core t
     links = follows.links ∙ sym (map_on (link_seen s (Said k cut (Refused why) ∷ t)) (link_seen s t) (served_links t) (λ j member. refused_seen s t k cut why j none));
     accepted = follows.accepted ∙ sym (append-nil (accepted_of t));
     stations = agrees_still;
+    heard = remembers_as core.heard t (Said k cut (Refused why) ∷ t) (λ l. refl) (λ l call. refl) (λ l sender. refl) follows.heard;
     took = took_said s t follows.took k cut (Refused why);
   }
   follows_told k cut why (Some line) some = record {
@@ -195,6 +219,7 @@ module _ (s : Setting) (core : CoreSeen) (t : Trace) (follows : Follows s core t
         (λ j. replied_seen s t follows.took k cut why line j some) (served_links t));
     accepted = follows.accepted ∙ sym (append-nil (accepted_of t));
     stations = agrees_still;
+    heard = remembers_as core.heard t (Said k cut (Refused why) ∷ t) (λ l. refl) (λ l call. refl) (λ l sender. refl) follows.heard;
     took = took_said s t follows.took k cut (Refused why);
   }
 
@@ -218,6 +243,7 @@ module _ (s : Setting) (core : CoreSeen) (t : Trace) (follows : Follows s core t
         (answered_seen s t follows.took k cut answer) (served_links t));
     accepted = follows.accepted ∙ sym (append-nil (accepted_of t));
     stations = agrees_still;
+    heard = remembers_as core.heard t (Said k cut (Filtered answer) ∷ t) (λ l. refl) (λ l call. refl) (λ l sender. refl) follows.heard;
     took = took_said s t follows.took k cut (Filtered answer);
   }
 
@@ -252,6 +278,7 @@ module _ (s : Setting) (core : CoreSeen) (t : Trace) (follows : Follows s core t
         links = links;
         accepted = follows.accepted ∙ sym (append-nil (accepted_of t));
         stations = agrees_still;
+        heard = remembers_as core.heard t (Said k cut (LoggedIn session None) ∷ t) (λ l. refl) (λ l call. refl) (λ l sender. refl) follows.heard;
         took = took_said s t follows.took k cut (LoggedIn session None);
       }
       logged_in (Some given) links = record {
@@ -259,34 +286,51 @@ module _ (s : Setting) (core : CoreSeen) (t : Trace) (follows : Follows s core t
         links = links;
         accepted = follows.accepted ∙ sym (append-nil (accepted_of t));
         stations = agrees_still;
+        heard = remembers_as core.heard t (Said k cut (LoggedIn session (Some given)) ∷ t) (λ l. refl) (λ l call. refl) (λ l sender. refl) follows.heard;
         took = took_said s t follows.took k cut (LoggedIn session (Some given));
       }
 
-  follows_accepted : stopped_links t ≡ [] → (k : ℕ) (cut : Cut) (parts : Parts) (line : List ℕ)
-      → Follows s (after_packet k (packet_of k (moment_of t) parts line) core) (Said k cut (Accepted parts line) ∷ t)
-  follows_accepted going k cut parts line =
+  -- which ports have filters, of the links that live and of others
+  live_now : stopped_links t ≡ [] → core.links ≡ map (link_seen s t) (live_links t)
+  live_now going = follows.links ∙ ap (λ stopped. map (link_seen s t) (stopped ++ live_links t)) going
+
+  filters_live : stopped_links t ≡ [] → (l : ℕ) → is_live t l ≡ true → filters_at l core.links ≡ has_filters (opening_of t l)
+  unfolding link_seen
+  filters_live going l live = ap (filters_at l) (live_now going) ∙ picked_seen filters_kept false s t l (live_links t) live
+
+  filters_nowhere : stopped_links t ≡ [] → (l : ℕ) → is_live t l ≡ false → filters_at l core.links ≡ false
+  filters_nowhere going l dead = ap (filters_at l) (live_now going) ∙ picked_missing filters_kept false s t l (live_links t) dead
+
+  follows_accepted : stopped_links t ≡ [] → (k : ℕ) (cut : Cut) (parts : Parts) (line : List ℕ) → is_live t k ≡ true
+      → Follows s (after_packet k (packet_of k (moment_of t) parts line) (record core { moment = moment_of t })) (Said k cut (Accepted parts line) ∷ t)
+  follows_accepted going k cut parts line live =
       let packet = packet_of k (moment_of t) parts line in
       let source : SourcePlace = record { place = sighting (accepted_of t) (moment_of t) parts.source; gate = is_gate_at (accepted_of t) (moment_of t) parts.source } in
+      let hearers = hearers_of (moment_of t) core.heard (receiver_of packet) in
+      let owed = owed_in (record core { moment = moment_of t }) packet in
       record {
-        moment = follows.moment;
-        links = ap (λ place. map (with_packet k packet place) core.links) (source_known core (accepted_of t) (moment_of t) follows.moment follows.stations parts.source)
-            ∙ ap (map (with_packet k packet source)) follows.links
-            ∙ map_twice (with_packet k packet source) (link_seen s t) (served_links t)
-            ∙ sym (map_on (link_seen s (Said k cut (Accepted parts line) ∷ t)) (λ j. with_packet k packet source (link_seen s t j)) (served_links t)
-            (λ j member. accepted_seen s t follows.took k cut parts line j (subst (λ stopped. is_member j (stopped ++ live_links t) ≡ true) going member)));
+        moment = refl;
+        links = ap (λ place. map (with_packet k packet place hearers owed) core.links) (source_known (record core { moment = moment_of t }) (accepted_of t) (moment_of t) refl follows.stations parts.source)
+            ∙ ap (map (with_packet k packet source hearers owed)) follows.links
+            ∙ map_twice (with_packet k packet source hearers owed) (link_seen s t) (served_links t)
+            ∙ sym (map_on (link_seen s (Said k cut (Accepted parts line) ∷ t)) (λ j. with_packet k packet source hearers owed (link_seen s t j)) (served_links t)
+            (λ j member. let here = subst (λ stopped. is_member j (stopped ++ live_links t) ≡ true) going member in
+            accepted_seen s t follows.took k cut parts line hearers owed j here (hearers_are core.heard t follows.heard packet j here) (owed_are core.heard t follows.heard packet j here)));
         accepted = ap (λ packets. packets ++ packet ∷ []) follows.accepted;
         stations = note_agrees core.stations (accepted_of t) packet follows.stations;
+        heard = remembers_accepted core.heard t follows.heard core.links k cut parts line live (filters_live going) (filters_nowhere going);
         took = took_said s t follows.took k cut (Accepted parts line);
       }
 
-  -- whatever becomes of a line
-  pub follows_said : stopped_links t ≡ [] → (k : ℕ) (cut : Cut) (verdict : Verdict) → Follows s (after_verdict s.server k verdict core) (Said k cut verdict ∷ t)
-  follows_said going k cut PassedOver = follows_passed k cut
-  follows_said going k cut (Refused why) = follows_refused k cut why
-  follows_said going k cut (LoggedIn session answer) = follows_login k cut session answer
-  follows_said going k cut (Filtered answer) = follows_answer k cut answer
-  follows_said going k cut (Accepted parts line) =
-      subst (λ now. Follows s (after_packet k (packet_of k now parts line) core) (Said k cut (Accepted parts line) ∷ t)) (sym follows.moment) (follows_accepted going k cut parts line)
+  -- whatever becomes of a line of a link that lives
+  pub follows_said : stopped_links t ≡ [] → (k : ℕ) (cut : Cut) (verdict : Verdict) → is_live t k ≡ true → Follows s (after_verdict s.server k verdict core) (Said k cut verdict ∷ t)
+  follows_said going k cut PassedOver live = follows_passed k cut
+  follows_said going k cut (Refused why) live = follows_refused k cut why
+  follows_said going k cut (LoggedIn session answer) live = follows_login k cut session answer
+  follows_said going k cut (Filtered answer) live = follows_answer k cut answer
+  follows_said going k cut (Accepted parts line) live =
+      subst (λ now. Follows s (after_packet k (packet_of k now parts line) (record core { moment = now })) (Said k cut (Accepted parts line) ∷ t)) (sym follows.moment)
+      (follows_accepted going k cut parts line live)
 
   numbers_are : numbers core.links ≡ served_links t
   numbers_are = ap numbers follows.links ∙ numbers_seen s t (served_links t)
@@ -296,6 +340,13 @@ module _ (s : Setting) (core : CoreSeen) (t : Trace) (follows : Follows s core t
   opened_kept serves k high from rises above =
       sym (map_on (link_seen s (Opened serves k from ∷ t)) (link_seen s t) (served_links t) (λ j member.
       opened_seen s t serves k from j (below_other j k high (served_links t) (subst (λ ns. Rises 0 ns high) numbers_are rises) above member)))
+
+  -- a link whose number is above all others doesn't live yet
+  not_yet : (k high : ℕ) → Rises 0 (numbers core.links) high → high < k → is_live t k ≡ false
+  not_yet k high rises above = false_from_ne_true _ (λ live.
+      let within = member_below 0 high (served_links t) k (subst (λ ns. Rises 0 ns high) numbers_are rises) (member_later k (stopped_links t) (live_links t) live) in
+      let le : k ≤ high = within.1 in
+      absurd (omega arith))
 
   -- a link that a client opens
   pub follows_opened : (kind : PortKind) (k high : ℕ) (from : Addr) → Rises 0 (numbers core.links) high → high < k
@@ -312,6 +363,7 @@ module _ (s : Setting) (core : CoreSeen) (t : Trace) (follows : Follows s core t
             ∙ ap (map seen) (append_assoc (stopped_links t) (live_links t) (k ∷ []));
         accepted = follows.accepted;
         stations = follows.stations;
+        heard = remembers_opened core.heard t kind k from (not_yet k high rises above) follows.heard;
         took = took_opened s t follows.took (Some kind) k from;
       }
 
@@ -322,6 +374,7 @@ module _ (s : Setting) (core : CoreSeen) (t : Trace) (follows : Follows s core t
     links = follows.links ∙ opened_kept None k high from rises above ∙ ap (λ ks. map (link_seen s (Opened None k from ∷ t)) (stopped_links t ++ ks)) (sym (append-nil (live_links t)));
     accepted = follows.accepted;
     stations = follows.stations;
+    heard = remembers_unserved core.heard t k from (not_yet k high rises above) follows.heard;
     took = took_opened s t follows.took None k from;
   }
 
@@ -345,7 +398,7 @@ module _ (s : Setting) (core : CoreSeen) (t : Trace) (follows : Follows s core t
   unfolding link_seen
   ended_seen k reason ks = refl
 
-  pub follows_ended : stopped_links t ≡ [] → (k : ℕ) → Follows s (with_links (filter (is_another k) core.links) core) (Ended k ByPeer ∷ t)
+  pub follows_ended : stopped_links t ≡ [] → (k : ℕ) → Follows s (with_heard (without_link k core.heard) (with_links (filter (is_another k) core.links) core)) (Ended k ByPeer ∷ t)
   follows_ended going k = record {
     moment = follows.moment;
     links =
@@ -355,6 +408,7 @@ module _ (s : Setting) (core : CoreSeen) (t : Trace) (follows : Follows s core t
         ∙ ap (λ stopped. map (link_seen s (Ended k ByPeer ∷ t)) (stopped ++ filter (is_other k) (live_links t))) (sym (append-nil (stopped_links t) ∙ going));
     accepted = follows.accepted;
     stations = follows.stations;
+    heard = remembers_ended core.heard t k ByPeer follows.heard;
     took = follows.took;
   }
 
@@ -403,13 +457,6 @@ filter_all : (xs : List ℕ) → filter (λ x. not false) xs ≡ xs
 filter_all [] = refl
 filter_all (x ∷ xs) = ap (λ ys. x ∷ ys) (filter_all xs)
 
-eqb_turned : (a b : ℕ) → (a == b) ≡ (b == a)
-eqb_turned a b =
-    ⊎_elim
-    (λ same. let is : a ≡ b = eqb-true a b same in same ∙ sym (eq-eqb b a (sym is)))
-    (λ differ. differ ∙ sym (false_from_ne_true _ (λ is. true≢false (sym (eq-eqb a b (sym (eqb-true b a is))) ∙ differ))))
-    (cases_Bool (a == b))
-
 filter_twice : (ks : List ℕ) (k : ℕ) (xs : List ℕ) → filter (λ x. not (is_member x ks)) (filter (is_other k) xs) ≡ filter (λ x. not (is_member x (k ∷ ks))) xs
 filter_twice ks k [] = refl
 filter_twice ks k (x ∷ xs) =
@@ -439,32 +486,6 @@ filter_members p q before (x ∷ xs) same =
     filter_members p q (before ++ x ∷ []) xs (λ y member. same y (subst (λ ys. is_member y ys ≡ true) (append_assoc before (x ∷ []) xs) member)) in
     ap (λ b. cond b (x ∷ filter p xs) (filter p xs)) (same x (member_here before xs x)) ∙ ap (λ ys. cond (q x) (x ∷ ys) ys) later
 
-member_dropped : (p : ℕ → Bool) (xs : List ℕ) (x : ℕ) → p x ≡ false → is_member x (filter p xs) ≡ false
-member_dropped p [] x fails = refl
-member_dropped p (y ∷ xs) x fails =
-    let later = member_dropped p xs x fails in
-    ⊎_elim
-    (λ passes.
-    let differ : (y == x) ≡ false = false_from_ne_true _ (λ is. true≢false (sym passes ∙ ap p (eqb-true y x is) ∙ fails)) in
-    ap (λ b. is_member x (cond b (y ∷ filter p xs) (filter p xs))) passes ∙ ap (λ b. b || is_member x (filter p xs)) differ ∙ later)
-    (λ left. ap (λ b. is_member x (cond b (y ∷ filter p xs) (filter p xs))) left ∙ later)
-    (cases_Bool (p y))
-
--- a member passes a filter exactly where it passes the test
-member_filtered : (p : ℕ → Bool) (xs : List ℕ) (x : ℕ) → is_member x xs ≡ true → is_member x (filter p xs) ≡ p x
-member_filtered p [] x member = absurd (true≢false (sym member))
-member_filtered p (y ∷ xs) x member =
-    ⊎_elim
-    (λ here. let same : y ≡ x = eqb-true y x here in ⊎_elim
-    (λ passes. ap (λ b. is_member x (cond b (y ∷ filter p xs) (filter p xs))) passes ∙ ap (λ b. b || is_member x (filter p xs)) here ∙ sym (ap p (sym same) ∙ passes))
-    (λ left. ap (λ b. is_member x (cond b (y ∷ filter p xs) (filter p xs))) left ∙ member_dropped p xs x (ap p (sym same) ∙ left) ∙ sym (ap p (sym same) ∙ left))
-    (cases_Bool (p y)))
-    (λ other. let later = member_filtered p xs x (sym (ap (λ b. b || is_member x xs) other) ∙ member) in ⊎_elim
-    (λ passes. ap (λ b. is_member x (cond b (y ∷ filter p xs) (filter p xs))) passes ∙ ap (λ b. b || is_member x (filter p xs)) other ∙ later)
-    (λ left. ap (λ b. is_member x (cond b (y ∷ filter p xs) (filter p xs))) left ∙ later)
-    (cases_Bool (p y)))
-    (cases_Bool (y == x))
-
 -- without those that pass a test, those that fail it are left
 left_failing : (p : ℕ → Bool) (xs : List ℕ) → without_all (filter p xs) xs ≡ filter (λ x. not (p x)) xs
 left_failing p xs =
@@ -482,8 +503,21 @@ module _ (s : Setting) (core : CoreSeen) (t : Trace) (follows : Follows s core t
   unfolding link_seen
   there_seen j = refl
 
+  lost_seen_as : (j : ℕ) → is_lost (link_seen s t j) ≡ is_gone t j
+  unfolding link_seen
+  lost_seen_as j = refl
+
+  live_numbers : numbers core.links ≡ live_links t
+  live_numbers = ap numbers follows.links ∙ numbers_seen s t (served_links t) ∙ ap (λ stopped. stopped ++ live_links t) going
+
+  lost_numbers : numbers (filter is_lost core.links) ≡ gone_links t
+  lost_numbers =
+      ap (λ links. numbers (filter is_lost links)) (follows.links ∙ ap (λ stopped. map (link_seen s t) (stopped ++ live_links t)) going)
+      ∙ ap numbers (filter_seen s core t follows is_lost (is_gone t) (live_links t) lost_seen_as)
+      ∙ numbers_seen s t (gone_links t)
+
   -- the links that were found gone end as a round begins
-  pub follows_begun : Follows s (with_links (filter is_there core.links) core) (begin_round t)
+  pub follows_begun : Follows s (with_heard (forgotten_all (numbers (filter is_lost core.links)) core.heard) (with_links (filter is_there core.links) core)) (begin_round t)
   follows_begun = record {
     moment = follows.moment ∙ sym (moment_after FoundGone (gone_links t) t);
     links =
@@ -494,11 +528,12 @@ module _ (s : Setting) (core : CoreSeen) (t : Trace) (follows : Follows s core t
         ∙ ap (λ stopped. map (link_seen s (begin_round t)) (stopped ++ live_links (begin_round t))) (sym (going_after (gone_links t) t ∙ going));
     accepted = follows.accepted ∙ sym (accepted_after FoundGone (gone_links t) t);
     stations = subst (Agrees core.stations) (sym (accepted_after FoundGone (gone_links t) t)) follows.stations;
+    heard = subst (λ ks. Remembers (forgotten_all ks core.heard) (begin_round t)) (sym lost_numbers) (remembers_all_ended FoundGone (gone_links t) core.heard t follows.heard);
     took = took_after s FoundGone (gone_links t) t follows.took;
   }
 
   -- at a stop all links end, and keep their texts
-  pub follows_stopped : Follows s core (end_all ByStop (live_links t) t)
+  pub follows_stopped : Follows s (with_heard (forgotten_all (numbers core.links) core.heard) core) (end_all ByStop (live_links t) t)
   follows_stopped = record {
     moment = follows.moment ∙ sym (moment_after ByStop (live_links t) t);
     links =
@@ -510,5 +545,6 @@ module _ (s : Setting) (core : CoreSeen) (t : Trace) (follows : Follows s core t
         ∙ append-nil (stopped_links t ++ live_links t)));
     accepted = follows.accepted ∙ sym (accepted_after ByStop (live_links t) t);
     stations = subst (Agrees core.stations) (sym (accepted_after ByStop (live_links t) t)) follows.stations;
+    heard = subst (λ ks. Remembers (forgotten_all ks core.heard) (end_all ByStop (live_links t) t)) (sym live_numbers) (remembers_all_ended ByStop (live_links t) core.heard t follows.heard);
     took = took_after s ByStop (live_links t) t follows.took;
   }

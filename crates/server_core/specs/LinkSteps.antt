@@ -1,14 +1,16 @@
 -- What each happening changes of a link.
-use Rattle.std.specs.Prelude.{◌≡◌, ℕ, ◌<◌, ◌==◌, ◌≤◌, Bool, true, false, nat_le, nat_lt, List, [], ◌∷◌, ◌++◌, length, map, not, ◌&&◌, is_some, Option, Some, None, if◌then◌else◌}
+use Rattle.std.specs.Prelude.{◌≡◌, ℕ, ◌<◌, ◌==◌, ◌≤◌, Bool, true, false, nat_le, nat_lt, List, [], ◌∷◌, ◌++◌, length, map, not, ◌&&◌, ◌||◌, is_some, Option, Some, None, if◌then◌else◌}
 use Rattle.std.specs.List.{list_any, flat_map, zip}
 use Rattle.std.specs.Option.{option_and_then}
 use Rattle.aprs_base.specs.PacketSeen.{PacketSeen}
-use Rattle.aprs_base.specs.Bytes.{is_station}
+use Rattle.aprs_base.specs.Bytes.{is_call, is_station}
 use Rattle.aprs_base.specs.Held.{Held, held_after}
 use Rattle.filter_lang.specs.Terms.{TermSeen}
 use Rattle.filter_eval.specs.Passes.{fresh, is_some_and, is_text, passes_of}
 use Rattle.filter_eval.specs.declared.seen.Seen.{Seen}
-use Rattle.station_table.specs.Stations.{StationsSeen, gate_at, is_young, noted, place_at, seen_in}
+use Rattle.station_table.specs.Stations.{StationsSeen, gate_at, is_young, place_at, seen_in}
+use Rattle.station_table.specs.Stations as station
+use Rattle.heard_routing.specs.Heard.{HeardSeen, courtesies, is_among, noted, promised, receivers, without_link, without_promises}
 use Rattle.aprs_history.specs.declared.verdicts.FilterAnswer.{FilterAnswer}
 use Rattle.aprs_history.specs.declared.verdicts.FilterAnswer.TheVariants.{Active, Denied}
 use Rattle.aprs_history.specs.declared.verdicts.Session.{Session}
@@ -18,6 +20,7 @@ use Rattle.aprs_history.specs.Links.{Opening}
 use Rattle.aprs_history.specs.declared.verdicts.Verdict.{Verdict}
 use Rattle.aprs_history.specs.declared.verdicts.Verdict.TheVariants.{PassedOver, Refused, LoggedIn, Filtered, Accepted}
 use Rattle.aprs_history.specs.Scenes.{has_filters, is_only, packet_of, verified_login}
+use Rattle.aprs_history.specs.Messages.{is_message, is_position, is_to_login}
 use Rattle.aprs_history.specs.Sights.{named_call}
 use Rattle.aprs_history.specs.Texts.{banner, filter_reply, filter_words, login_reply, port_wants, refusal_reply, refused_filter}
 use Rattle.server_core.specs.declared.link.SourcePlace.{SourcePlace}
@@ -135,17 +138,21 @@ held_at number links = picked_at held_kept None number links
 abbrev pub passes_packet : PacketSeen → SourcePlace → LinkSeen → Bool
 passes_packet packet source link = passes_of link.filter packet link.friends link.mine source.place source.gate
 
--- whether a link is sent an accepted packet of another
-abbrev pub wants_packet : ℕ → PacketSeen → SourcePlace → LinkSeen → Bool
-wants_packet from packet source link =
-    not (from == link.link) && is_some link.session && port_wants link.opening (passes_packet packet source link)
+-- whether the message rule asks for a packet, where these links heard its receiver and are owed it
+abbrev pub is_asked_at : PacketSeen → List ℕ → List ℕ → LinkSeen → Bool
+is_asked_at packet hearers owed link = is_to_login packet link.session || is_among link.link hearers || is_among link.link owed
 
-abbrev pub with_copy : ℕ → PacketSeen → SourcePlace → LinkSeen → LinkSeen
-with_copy from packet source link = if wants_packet from packet source link then with_text packet.line link else link
+-- whether a link is sent an accepted packet of another
+abbrev pub wants_packet : ℕ → PacketSeen → SourcePlace → List ℕ → List ℕ → LinkSeen → Bool
+wants_packet from packet source hearers owed link =
+    not (from == link.link) && is_some link.session && port_wants link.opening (passes_packet packet source link || is_asked_at packet hearers owed link)
+
+abbrev pub with_copy : ℕ → PacketSeen → SourcePlace → List ℕ → List ℕ → LinkSeen → LinkSeen
+with_copy from packet source hearers owed link = if wants_packet from packet source hearers owed link then with_text packet.line link else link
 
 -- it is tested by what was known before it
-abbrev pub with_packet : ℕ → PacketSeen → SourcePlace → LinkSeen → LinkSeen
-with_packet from packet source link = with_places packet (with_copy from packet source link)
+abbrev pub with_packet : ℕ → PacketSeen → SourcePlace → List ℕ → List ℕ → LinkSeen → LinkSeen
+with_packet from packet source hearers owed link = with_places packet (with_copy from packet source hearers owed link)
 
 -- a link that has just been opened
 abbrev pub new_link_seen : ℕ → Opening → LinkSeen
@@ -162,6 +169,10 @@ new_link_seen number opening = record {
   blocked = false;
   gone = false;
 }
+
+-- a link that was found gone
+abbrev pub is_lost : LinkSeen → Bool
+is_lost link = link.gone
 
 -- it isn't blocked, and has lines to take
 abbrev pub is_ready : LinkSeen → Bool
@@ -227,11 +238,60 @@ abbrev pub after_login : List ℕ → ℕ → Session → CoreSeen → CoreSeen
 after_login server number session core =
     record core { links = map (at_link number (with_session session (sighting_in core session.call) (login_reply server session))) core.links }
 
+-- ---- the message rule
+
+-- the receiver of a message, where it is a call
+abbrev pub call_in : Option (List ℕ) → Option (List ℕ)
+call_in None = None
+call_in (Some to) = if is_call to then Some to else None
+
+abbrev pub receiver_of : PacketSeen → Option (List ℕ)
+receiver_of packet = if is_message packet then call_in packet.body.to else None
+
+-- the links that heard it
+abbrev pub hearers_of : ℕ → HeardSeen → Option (List ℕ) → List ℕ
+hearers_of now table None = []
+hearers_of now table (Some to) = receivers table to now
+
+abbrev pub hearers_in : CoreSeen → PacketSeen → List ℕ
+hearers_in core packet = hearers_of core.moment core.heard (receiver_of packet)
+
+-- the links that are owed a position
+abbrev pub owed_in : CoreSeen → PacketSeen → List ℕ
+owed_in core packet = if is_position packet then courtesies core.heard packet.parts.source core.moment else []
+
+-- a position spends the promises of its source
+abbrev pub spent : PacketSeen → HeardSeen → HeardSeen
+spent packet table = if is_position packet then without_promises packet.parts.source table else table
+
+-- a link is promised the sender's next position where it isn't the sender's and its port has filters
+abbrev pub may_promise : List LinkSeen → ℕ → ℕ → Bool
+may_promise links from link = not (from == link) && filters_at link links
+
+abbrev pub promised_one : List LinkSeen → ℕ → List ℕ → ℕ → ℕ → HeardSeen → HeardSeen
+promised_one links from sender now link table = if may_promise links from link then promised link sender now table else table
+
+-- the same for several links, one after another
+abbrev pub promised_all : List LinkSeen → ℕ → List ℕ → ℕ → List ℕ → HeardSeen → HeardSeen
+promised_all links from sender now [] table = table
+promised_all links from sender now (link ∷ more) table = promised_all links from sender now more (promised_one links from sender now link table)
+
+-- what was heard and promised, after a packet
+abbrev pub heard_with : ℕ → PacketSeen → CoreSeen → HeardSeen
+heard_with number packet core =
+    noted number packet.parts.source core.moment (promised_all core.links number packet.parts.source core.moment (hearers_in core packet) (spent packet core.heard))
+
+-- links end, and nothing is kept of them
+abbrev pub forgotten_all : List ℕ → HeardSeen → HeardSeen
+forgotten_all [] table = table
+forgotten_all (link ∷ more) table = forgotten_all more (without_link link table)
+
 abbrev pub after_packet : ℕ → PacketSeen → CoreSeen → CoreSeen
 after_packet number packet core = record core {
-  links = map (with_packet number packet (source_found core packet.parts.source)) core.links;
+  links = map (with_packet number packet (source_found core packet.parts.source) (hearers_in core packet) (owed_in core packet)) core.links;
   accepted = core.accepted ++ packet ∷ [];
-  stations = noted packet core.stations;
+  stations = station.noted packet core.stations;
+  heard = heard_with number packet core;
 }
 
 -- what is kept after a verdict on what a link said

@@ -6,6 +6,7 @@ mod conf;
 mod judging;
 mod link;
 mod links;
+mod messages;
 mod places;
 mod queue;
 mod replies;

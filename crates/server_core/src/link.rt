@@ -1,17 +1,19 @@
 //! What the core keeps of a link.
-ghost use Rattle.std.specs.Prelude.{◌≡◌, IsTrue, IfSome, is_some, ℕ, ◌≤◌, ◌<◌, List, ◌++◌, Some, None, OnOk, IfOk, length, min, take, option_map, true, false};
+ghost use Rattle.std.specs.Prelude.{◌≡◌, ◌||◌, IsTrue, IfSome, is_some, ℕ, ◌≤◌, ◌<◌, List, ◌++◌, Some, None, OnOk, IfOk, length, min, take, option_map, true, false};
 ghost use Rattle.std.specs.Arc.{arc_value};
 ghost use Rattle.aprs_base.specs.Held.{held_after};
-ghost use Rattle.server_core.specs.LinkSteps.{at_moment, is_ready, list_of, new_link_seen, number_of, passes_packet, wants_packet, when_gone, with_bytes, with_copy, with_filter, with_packet, with_room, with_seen, with_session, with_taken, with_text};
+ghost use Rattle.server_core.specs.LinkSteps.{at_moment, is_asked_at, is_lost, is_ready, list_of, new_link_seen, number_of, passes_packet, wants_packet, when_gone, with_bytes, with_copy, with_filter, with_packet, with_room, with_seen, with_session, with_taken, with_text};
 ghost use Rattle.aprs_base.specs.Bytes.{IsLine, is_station};
 ghost use Rattle.aprs_history.specs.Verdicts.{client_origin};
 ghost use Rattle.aprs_history.specs.Scenes.{has_filters, is_only, is_only_kind, verified_login};
 ghost use Rattle.q_construct.specs.Rule.{has_station};
 ghost use Rattle.aprs_base.specs.Cuts.{cuts_by};
+ghost use Rattle.aprs_history.specs.Messages.{is_to_login};
 ghost use Rattle.aprs_history.specs.Texts.{port_wants};
 ghost use Rattle.filter_eval.specs.Passes.{is_some_and, is_text};
 ghost use Rattle.server_core.specs.Pending.{pending_bytes};
 
+use crate::messages::{is_among, is_message_to};
 use crate::places::{forget_friends, see_friend, still_seen};
 use crate::queue::Queue;
 use aprs_base::{Addr, Call, Cut, Cutter, Line, Memory, Packet, PortKind, copy_call};
@@ -214,22 +216,56 @@ impl Link {
         )
     }
 
+    /// Whether the packet is a message to its own login.
+    fn is_receiver(&self, packet: &Packet) -> bool
+        ensures { result ≡ is_to_login packet.now self.now.session }
+    {
+        match &self.session {
+            Some(session) => is_message_to(packet, &session.call),
+            None => false,
+        }
+    }
+
+    /// Whether the message rule asks for a packet, where these links heard its receiver and are owed it.
+    fn is_asked(&self, packet: &Packet, hearers: &[u32], owed: &[u32]) -> bool
+        ensures { result ≡ is_asked_at packet.now hearers.now owed.now self.now }
+    {
+        self.is_receiver(packet) || is_among(self.number, hearers) || is_among(self.number, owed)
+    }
+
     /// Whether its port sends it a packet that came from another link.
-    fn port_wants(&self, packet: &Packet, source: &SourcePlace) -> bool
-        ensures { result ≡ port_wants self.now.opening (passes_packet packet.now source.now self.now) }
+    fn port_wants(
+        &self,
+        packet: &Packet,
+        source: &SourcePlace,
+        hearers: &[u32],
+        owed: &[u32],
+    ) -> bool
+        ensures { result ≡ port_wants self.now.opening (passes_packet packet.now source.now self.now || is_asked_at packet.now hearers.now owed.now self.now) }
     {
         match self.kind {
             PortKind::Full => true,
-            PortKind::Igate | PortKind::Only => self.passes(packet, source),
+            PortKind::Igate | PortKind::Only => {
+                self.passes(packet, source) || self.is_asked(packet, hearers, owed)
+            }
             PortKind::Dupe | PortKind::Submit | PortKind::Core => false,
         }
     }
 
     /// Whether it is sent a packet that came from another link.
-    pub fn wants(&self, from: u32, packet: &Packet, source: &SourcePlace) -> bool
-        ensures { result ≡ wants_packet from packet.now source.now self.now }
+    pub fn wants(
+        &self,
+        from: u32,
+        packet: &Packet,
+        source: &SourcePlace,
+        hearers: &[u32],
+        owed: &[u32],
+    ) -> bool
+        ensures { result ≡ wants_packet from packet.now source.now hearers.now owed.now self.now }
     {
-        self.number != from && self.session.is_some() && self.port_wants(packet, source)
+        self.number != from
+            && self.session.is_some()
+            && self.port_wants(packet, source, hearers, owed)
     }
 
     /// Takes a packet that came from another link, where it wants it.
@@ -238,11 +274,13 @@ impl Link {
         from: u32,
         packet: &Packet,
         source: &SourcePlace,
+        hearers: &[u32],
+        owed: &[u32],
     ) -> Result<(), Memory>
         ensures number { self.new.link ≡ self.old.link }
-        ensures ok { OnOk result (self.new ≡ with_copy from packet.now source.now self.old) }
+        ensures ok { OnOk result (self.new ≡ with_copy from packet.now source.now hearers.now owed.now self.old) }
     {
-        if self.wants(from, packet, source) {
+        if self.wants(from, packet, source, hearers, owed) {
             self.push(packet.line.clone()?)?;
         }
         Ok(())
@@ -264,11 +302,13 @@ impl Link {
         from: u32,
         packet: &Packet,
         source: &SourcePlace,
+        hearers: &[u32],
+        owed: &[u32],
     ) -> Result<(), Memory>
         ensures number { self.new.link ≡ self.old.link }
-        ensures ok { OnOk result (self.new ≡ with_packet from packet.now source.now self.old) }
+        ensures ok { OnOk result (self.new ≡ with_packet from packet.now source.now hearers.now owed.now self.old) }
     {
-        self.take_copy(from, packet, source)?;
+        self.take_copy(from, packet, source, hearers, owed)?;
         if let Some(seen) = seen_in(packet) {
             self.see(&packet.parts.source, seen);
         }
@@ -334,6 +374,13 @@ impl Link {
     {
         self.queue.taken(count);
         self.blocked = count < offered;
+    }
+
+    /// Whether a send found it gone.
+    pub fn is_lost(&self) -> bool
+        ensures { result ≡ is_lost self.now }
+    {
+        self.gone
     }
 
     /// Whether it is to be offered its next bytes.

@@ -70,18 +70,20 @@ pub(crate) fn offer(links: &[Link], number: u32, out: &mut [u8]) -> usize
     }
 }
 
-/// All links hear of an accepted packet: those that want it take it.
+/// All links hear of an accepted packet: those that want it take it. The message rule asks for it at `hearers` and `owed`.
 pub(crate) fn share(
     links: &mut Vec<Link>,
     from: u32,
     packet: &Packet,
     source: &SourcePlace,
+    hearers: &[u32],
+    owed: &[u32],
 ) -> Result<(), Memory>
     ensures numbers { numbers links.new.items ≡ numbers links.old.items }
-    ensures ok { OnOk result (links.new.items ≡ map (with_packet from packet.now source.now) links.old.items) }
+    ensures ok { OnOk result (links.new.items ≡ map (with_packet from packet.now source.now hearers.now owed.now) links.old.items) }
 {
     for link in links.iter_mut() {
-        link.hear(from, packet, source)?;
+        link.hear(from, packet, source, hearers, owed)?;
     }
     Ok(())
 }

@@ -15,7 +15,7 @@ ghost use Rattle.aprs_history.specs.Stands.{Follows};
 ghost use Rattle.aprs_history.specs.History.{History, begin_round, end_all, say_all, trace_of, with_bytes_of, with_event};
 ghost use Rattle.aprs_history.specs.Rounds.{AreFresh, events_trace, greatest_after, is_whole, only_listens, stopped_after, with_events};
 ghost use Rattle.aprs_history.specs.Texts.{untaken};
-ghost use Rattle.server_core.specs.LinkSteps.{AreServed, Rises, after_login, after_packet, all_few, filters_at, has_few, has_number, is_ready, number_of, numbers, pending_at, session_at, source_found};
+ghost use Rattle.server_core.specs.LinkSteps.{AreServed, Rises, after_login, after_packet, all_few, filters_at, has_few, has_number, is_ready, number_of, numbers, owed_in, pending_at, promised_all, session_at, source_found, spent};
 ghost use Rattle.aprs_base.specs.declared.events.Happening.{Happening};
 ghost use Rattle.aprs_base.specs.declared.events.Sent.{Sent};
 ghost use Rattle.server_core.specs.Meaning.{AreActs, Stands, numbered, setting_of};
@@ -33,6 +33,9 @@ use crate::links::{
     all, bring, drop_gone, drop_link, forget_places, give_room, has_filters_at, has_session_at,
     log_in, lose, offer, origin_at, others, ready, reply, set_filter, share, take,
 };
+use crate::messages::{
+    forget_all, forget_lost, hearers_of, is_position, owed_to, promise_all, receiver_of,
+};
 use crate::places::friends_found;
 use crate::replies::{denied_line, login_line, refusal_line};
 use aprs_base::{Addr, Cut, Event, Line, Memory, Packet, Parts, Source};
@@ -40,6 +43,7 @@ use aprs_body::classify;
 use aprs_conf::Conf;
 use aprs_history::{FilterAnswer, Refusal, Session, Verdict};
 use filter_lang::FilterSet;
+use heard_routing::Heard;
 use station_table::Stations;
 use std::alloc::Global;
 use std::hash::RandomState;
@@ -77,6 +81,8 @@ pub struct Core {
     accepted: Vec<Packet>,
     /// Where stations were last seen, and which are gates.
     stations: Stations,
+    /// Which stations each link heard, and whose next positions links are owed.
+    heard: Heard,
     greatest: u32,
     stopped: bool,
 }
@@ -87,9 +93,9 @@ impl Model for Core {
 
     ghost Value = { CoreMeaning };
 
-    ghost view = { λ c. record { conf = c.conf; seen = record { moment = c.moment; links = c.links.items; accepted = c.accepted.items; stations = c.stations; greatest = c.greatest; stopped = c.stopped } } };
+    ghost view = { λ c. record { conf = c.conf; seen = record { moment = c.moment; links = c.links.items; accepted = c.accepted.items; stations = c.stations; heard = c.heard; greatest = c.greatest; stopped = c.stopped } } };
 
-    ghost invariant = { λ c. IsKept (record { conf = c.conf; seen = record { moment = c.moment; links = c.links.items; accepted = c.accepted.items; stations = c.stations; greatest = c.greatest; stopped = c.stopped } }) };
+    ghost invariant = { λ c. IsKept (record { conf = c.conf; seen = record { moment = c.moment; links = c.links.items; accepted = c.accepted.items; stations = c.stations; heard = c.heard; greatest = c.greatest; stopped = c.stopped } }) };
 }
 
 impl Core {
@@ -98,6 +104,7 @@ impl Core {
         ensures walks { (t : Trace) → Walks self.old t → Walks self.new (begin_round t) }
         ensures rest { SameRest self.old self.new }
     {
+        forget_lost(&mut self.heard, self.links.as_slice());
         drop_gone(&mut self.links);
     }
 
@@ -219,12 +226,59 @@ impl Core {
         }
     }
 
+    /// The links that are owed a position, whose promises are spent; none for other packets.
+    fn spend(&mut self, alloc: Global, packet: &Packet) -> Result<Vec<u32>, Memory>
+        ensures owed { IfOk result (λ links. links.items ≡ owed_in self.old.seen packet.now) }
+        ensures spent { OnOk result (self.new ≡ record self.old { seen = record self.old.seen { heard = spent packet.now self.old.seen.heard } }) }
+    {
+        if is_position(packet) {
+            owed_to(alloc, &mut self.heard, self.moment, &packet.parts.source)
+        } else {
+            Ok(Vec::new(alloc))
+        }
+    }
+
+    /// The links that heard a message's receiver are promised its sender's next position.
+    fn promise(
+        &mut self,
+        alloc: Global,
+        number: u32,
+        packet: &Packet,
+        hearers: &[u32],
+    ) -> Result<(), Memory>
+        ensures { OnOk result (self.new ≡ record self.old { seen = record self.old.seen {
+            heard = promised_all self.old.seen.links number packet.now.parts.source self.old.seen.moment hearers.now self.old.seen.heard } }) }
+    {
+        promise_all(
+            alloc,
+            &mut self.heard,
+            self.links.as_slice(),
+            number,
+            &packet.parts.source,
+            self.moment,
+            hearers,
+        )
+    }
+
     /// An accepted packet goes to the links that want it, tells where its source is, and is kept.
     fn keep(&mut self, alloc: Global, number: u32, packet: Packet) -> Result<(), Memory>
         ensures { OnOk result (self.new ≡ record self.old { seen = after_packet number packet self.old.seen }) }
     {
         let source = self.source_of(&packet);
-        share(&mut self.links, number, &packet, &source)?;
+        let to = receiver_of(&packet);
+        let hearers = hearers_of(alloc, &self.heard, self.moment, &to)?;
+        let owed = self.spend(alloc, &packet)?;
+        self.promise(alloc, number, &packet, hearers.as_slice())?;
+        self.heard
+            .note(alloc, number, &packet.parts.source, self.moment)?;
+        share(
+            &mut self.links,
+            number,
+            &packet,
+            &source,
+            hearers.as_slice(),
+            owed.as_slice(),
+        )?;
         self.stations.note(alloc, &packet)?;
         self.accepted.push(packet)?;
         Ok(())
@@ -306,6 +360,7 @@ impl Core {
         ensures dead { (t : Trace) → Walks self.old t → is_live t number ≡ false → Walks self.new t }
         ensures rest { SameRest self.old self.new }
     {
+        self.heard.forget(number);
         drop_link(&mut self.links, number);
     }
 
@@ -358,6 +413,7 @@ impl Core {
         ensures greatest { self.new.seen.greatest ≡ self.old.seen.greatest }
         ensures stopped { self.new.seen.stopped ≡ true }
     {
+        forget_all(&mut self.heard, self.links.as_slice());
         self.stopped = true;
     }
 
@@ -511,6 +567,7 @@ impl Core {
             links: Vec::new(alloc),
             accepted: Vec::new(alloc),
             stations: Stations::new(alloc, hasher)?,
+            heard: Heard::new(alloc, hasher)?,
             greatest: 0,
             stopped: false,
         })

@@ -1,5 +1,5 @@
-use Rattle.std.proofs.Common.{subst, sym}
-use Rattle.server_core.specs.LinkSteps.{Rises, numbers, is_there}
+use Rattle.std.proofs.Common.{ap, filter, subst, sym, ◌∙◌}
+use Rattle.server_core.specs.LinkSteps.{Rises, forgotten_all, is_lost, numbers, is_there}
 use Rattle.server_core.specs.Steps.{Walks}
 use Rattle.server_core.proofs.LinkLemmas.{rises_filter}
 use Rattle.server_core.proofs.CoreLemmas.{walks_begun}
@@ -13,4 +13,5 @@ invariant_of-self c = record {
 }
 
 pub returns-clause-walks : goal.returns-clause-walks
-returns-clause-walks c = λ t walks. walks_begun _ t c.drop_gone.new.links.items (subst (λ core. Walks core t) (sym c.self.view_is) walks) c.drop_gone.ensures
+returns-clause-walks c = λ t walks. walks_begun _ t c.drop_gone.new.links.items c.forget_lost.new.heard (subst (λ core. Walks core t) (sym c.self.view_is) walks) c.drop_gone.ensures
+    (c.forget_lost.ensures ∙ ap (λ links. forgotten_all (numbers (filter is_lost links)) c.self.inside.heard) c.as_slice.ensures.value)

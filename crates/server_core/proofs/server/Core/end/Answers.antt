@@ -13,7 +13,7 @@ invariant_of-self c = record {
 }
 
 pub returns-clause-live : goal.returns-clause-live
-returns-clause-live c = λ t walks live. walks_ended _ t (subst (λ core. Walks core t) (sym c.self.view_is) walks) c.args.number c.drop_link.new.links.items c.drop_link.ensures
+returns-clause-live c = λ t walks live. walks_ended _ t (subst (λ core. Walks core t) (sym c.self.view_is) walks) c.args.number c.drop_link.new.links.items c.forget.new.self c.drop_link.ensures c.forget.ensures.removed
 
 pub returns-clause-dead : goal.returns-clause-dead
-returns-clause-dead c = λ t walks dead. walks_no_end _ t (subst (λ core. Walks core t) (sym c.self.view_is) walks) c.args.number c.drop_link.new.links.items dead c.drop_link.ensures
+returns-clause-dead c = λ t walks dead. walks_no_end _ t (subst (λ core. Walks core t) (sym c.self.view_is) walks) c.args.number c.drop_link.new.links.items c.forget.new.self dead c.drop_link.ensures c.forget.ensures.removed

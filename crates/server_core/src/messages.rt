@@ -1,0 +1,164 @@
+//! Messages: whom they are for, which links heard their receivers, and which are owed their senders' positions.
+ghost use Rattle.std.specs.Prelude.{◌≡◌, ◌&&◌, ◌++◌, OnOk, IfOk, List, ℕ, filter};
+ghost use Rattle.aprs_base.specs.declared.texts.Word9.{Word9};
+ghost use Rattle.filter_eval.specs.Passes.{is_some_and, is_text};
+ghost use Rattle.aprs_history.specs.Messages.{is_message, is_position};
+ghost use Rattle.heard_routing.specs.Heard.{courtesies, is_among, without_promises};
+ghost use Rattle.server_core.specs.LinkSteps.{call_in, forgotten_all, hearers_of, is_lost, may_promise, numbers, promised_all, promised_one, receiver_of};
+
+use crate::link::Link;
+use crate::links::has_filters_at;
+use aprs_base::{Call, Memory, Packet, Word9};
+use aprs_body::class;
+use heard_routing::Heard;
+use std::alloc::Global;
+
+pub(crate) fn is_message(packet: &Packet) -> bool
+    ensures { result ≡ is_message packet.now }
+{
+    packet.body.class & class::MESSAGE != 0
+}
+
+pub(crate) fn is_position(packet: &Packet) -> bool
+    ensures { result ≡ is_position packet.now }
+{
+    packet.body.class & class::POSITION != 0
+}
+
+/// Whether there is a receiver, and it is the call.
+fn is_for(to: &Option<Word9>, call: &Call) -> bool
+    ensures { result ≡ is_some_and (λ to. is_text to call.now) to.now }
+{
+    match to {
+        Some(to) => to.bytes() == call.bytes(),
+        None => false,
+    }
+}
+
+/// Whether the packet is a message to the call.
+pub(crate) fn is_message_to(packet: &Packet, call: &Call) -> bool
+    ensures { result ≡ (is_message packet.now && is_some_and (λ to. is_text to call.now) packet.now.body.to) }
+{
+    is_message(packet) && is_for(&packet.body.to, call)
+}
+
+pub(crate) fn is_among(number: u32, numbers: &[u32]) -> bool
+    ensures { result ≡ is_among number numbers.now }
+{
+    numbers.iter().any(|other| number == *other)
+}
+
+/// The word, where it is a call.
+fn call_in(to: &Option<Word9>) -> Option<Call>
+    ensures { result ≡ call_in to.now }
+{
+    match to {
+        Some(to) => Call::read(to.bytes()),
+        None => None,
+    }
+}
+
+/// The receiver of a message, where it is a call.
+pub(crate) fn receiver_of(packet: &Packet) -> Option<Call>
+    ensures { result ≡ receiver_of packet.now }
+{
+    if is_message(packet) {
+        call_in(&packet.body.to)
+    } else {
+        None
+    }
+}
+
+/// The links that heard the receiver, rising.
+pub(crate) fn hearers_of(
+    alloc: Global,
+    heard: &Heard,
+    now: u64,
+    to: &Option<Call>,
+) -> Result<Vec<u32>, Memory>
+    ensures { IfOk result (λ links. links.items ≡ hearers_of now heard.now to.now) }
+{
+    let mut links = Vec::new(alloc);
+    if let Some(to) = to {
+        heard.receivers(alloc, to, now, &mut links)?;
+    }
+    Ok(links)
+}
+
+/// The links that are owed the sender's position, rising. The promises are spent.
+pub(crate) fn owed_to(
+    alloc: Global,
+    heard: &mut Heard,
+    now: u64,
+    sender: &Call,
+) -> Result<Vec<u32>, Memory>
+    ensures owed { IfOk result (λ links. links.items ≡ courtesies heard.old sender.now now) }
+    ensures spent { OnOk result (heard.new ≡ without_promises sender.now heard.old) }
+{
+    let mut links = Vec::new(alloc);
+    heard.courtesy(alloc, sender, now, &mut links)?;
+    Ok(links)
+}
+
+/// Whether a link may be promised the next position of a sender from another link.
+fn may_promise(links: &[Link], from: u32, link: u32) -> bool
+    ensures { result ≡ may_promise links.now from link }
+{
+    link != from && has_filters_at(links, link)
+}
+
+/// Promises a link the sender's next position, where it may have one.
+fn promise_one(
+    alloc: Global,
+    heard: &mut Heard,
+    links: &[Link],
+    from: u32,
+    sender: &Call,
+    now: u64,
+    link: u32,
+) -> Result<(), Memory>
+    ensures { OnOk result (heard.new ≡ promised_one links.now from sender.now now link heard.old) }
+{
+    if may_promise(links, from, link) {
+        heard.promise(alloc, link, sender, now)?;
+    }
+    Ok(())
+}
+
+/// The same for several links.
+pub(crate) fn promise_all(
+    alloc: Global,
+    heard: &mut Heard,
+    links: &[Link],
+    from: u32,
+    sender: &Call,
+    now: u64,
+    hearers: &[u32],
+) -> Result<(), Memory>
+    ensures { OnOk result (heard.new ≡ promised_all links.now from sender.now now hearers.now heard.old) }
+{
+    for link in hearers {
+        promise_one(alloc, heard, links, from, sender, now, *link)?;
+    }
+    Ok(())
+}
+
+/// Forgets what the links heard and were promised that a send found gone.
+pub(crate) fn forget_lost(heard: &mut Heard, links: &[Link])
+    ensures { heard.new ≡ forgotten_all (numbers (filter is_lost links.now)) heard.old }
+{
+    for link in links {
+        if link.is_lost() {
+            heard.forget(link.number());
+        }
+    }
+}
+
+/// Forgets what all links heard and were promised.
+pub(crate) fn forget_all(heard: &mut Heard, links: &[Link])
+    ensures { heard.new ≡ forgotten_all (numbers links.now) heard.old }
+{
+    for link in links {
+        heard.forget(link.number());
+    }
+}
