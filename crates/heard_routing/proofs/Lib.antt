@@ -1,4 +1,0 @@
-pub mod EntryLemmas
-pub mod HeardLemmas
-pub mod LookLemmas
-pub mod RisingLemmas

@@ -1,4 +1,0 @@
-pub mod Entries
-pub mod Heard
-pub mod LastHeard
-pub mod Rising
