@@ -1,0 +1,246 @@
+-- A table of heard stations keeps when links last heard calls.
+use Rattle.std.proofs.Common.{◌≡◌, ℕ, ◌-◌, ◌<◌, ◌≤◌, Bool, true, false, cond, not, ◌&&◌, ◌==◌, List, [], ◌∷◌, ◌++◌, Option, Some, None, Result, Ok, Err, OnOk, refl, sym, ap, ◌∙◌, subst, arith, true≢false, is_some}
+use Rattle.std.specs.List.{All, AllByRecursion}
+use Rattle.std.specs.Map.{lookup}
+use Rattle.std.proofs.lemmas.Bool.{eqb-true, leb-true, leb-false}
+use Rattle.std.proofs.lemmas.List.Elements.{recursion_from_All}
+use Rattle.aprs_base.specs.PacketSeen.{PacketSeen}
+use Rattle.filter_eval.specs.Passes.{is_some_and, is_text}
+use Rattle.station_table.specs.Last.{later_or}
+use Rattle.station_table.proofs.LastSeen.{told_more}
+use Rattle.heard_routing.specs.Entries.{HasEachOnce, is_key}
+use Rattle.heard_routing.specs.Heard.{HeardSeen, IsRisingListOf, heard_age, heard_at, is_receiver, is_recent, nothing, noted, recent, without_link}
+use Rattle.heard_routing.specs.LastHeard.{Agrees, AgreesAt, IsFromElsewhere, IsHeard, but_not, heard_by, is_from, is_hearer, last_heard, still}
+use Rattle.heard_routing.proofs.EntryLemmas.{and_first, and_second}
+use Rattle.heard_routing.proofs.LookLemmas.{heard_noted, heard_recent, heard_without_link}
+
+-- ---- one more packet
+
+later_cond : (b : Bool) (moment : ℕ) (earlier : Option ℕ) → cond b (Some moment) earlier ≡ later_or earlier (cond b (Some moment) None)
+later_cond true moment earlier = refl
+later_cond false moment earlier = refl
+
+-- what is noted is what the packet tells
+told_by : (packet : PacketSeen) (link : ℕ) (call : List ℕ) (moment : ℕ) → IsHeard packet link call moment → (other : ℕ) (text : List ℕ)
+    → heard_by other text packet ≡ cond (is_key (other, text) (link, call)) (Some moment) None
+told_by packet link call moment heard other text =
+    ap (λ from. cond (is_from other from && is_text text packet.parts.source) (Some packet.moment) None) heard.from_link
+    ∙ ap (λ source. cond (other == link && is_text text source) (Some packet.moment) None) heard.of_call
+    ∙ ap (λ at. cond (other == link && is_text text call) (Some at) None) heard.at_moment
+
+noted_later : (packet : PacketSeen) (table : HeardSeen) (link : ℕ) (call : List ℕ) (moment : ℕ) → IsHeard packet link call moment → (other : ℕ) (text : List ℕ)
+    → heard_at (noted link call moment table) other text ≡ later_or (heard_at table other text) (heard_by other text packet)
+noted_later packet table link call moment heard other text =
+    heard_noted table link other call text moment
+    ∙ later_cond (is_key (other, text) (link, call)) moment (heard_at table other text)
+    ∙ ap (later_or (heard_at table other text)) (sym (told_by packet link call moment heard other text))
+
+last_more : (packets : List PacketSeen) (packet : PacketSeen) (link : ℕ) (call : List ℕ) → last_heard (packets ++ packet ∷ []) link call ≡ later_or (last_heard packets link call) (heard_by link call packet)
+last_more packets packet link call = told_more (heard_by link call) packets packet
+
+still_later : (age now : ℕ) (a b o : Option ℕ) → still age now a ≡ still age now b → still age now (later_or a o) ≡ still age now (later_or b o)
+still_later age now a b None h = h
+still_later age now a b (Some x) h = refl
+
+-- a living link and one that doesn't live are two
+apart : (lives : ℕ → Bool) (link other : ℕ) → lives link ≡ true → lives other ≡ false → (other == link) ≡ false
+apart lives link other here there = by (other == link) refl
+  where
+    by : (b : Bool) → (other == link) ≡ b → b ≡ false
+    by true is = absurd (true≢false (sym here ∙ ap lives (sym (eqb-true other link is)) ∙ there))
+    by false is = refl
+
+noted_others : (lives : ℕ → Bool) (table : HeardSeen) (link : ℕ) (call : List ℕ) (moment : ℕ) → lives link ≡ true → (other : ℕ) → lives other ≡ false → (text : List ℕ)
+    → heard_at table other text ≡ None → heard_at (noted link call moment table) other text ≡ None
+noted_others lives table link call moment here other there text none =
+    heard_noted table link other call text moment ∙ ap (λ b. cond (b && is_text text call) (Some moment) (heard_at table other text)) (apart lives link other here there) ∙ none
+
+-- ---- a table and packets
+
+pub new_agrees : (lives : ℕ → Bool) → Agrees lives nothing []
+new_agrees lives = record { heard = λ link here call. refl; others = λ link there call. refl }
+
+pub agrees_at : (now : ℕ) (lives : ℕ → Bool) (table : HeardSeen) (packets : List PacketSeen) → Agrees lives table packets → AgreesAt now lives table packets
+agrees_at now lives table packets agrees = record { heard = λ link here call. ap (still heard_age now) (agrees.heard link here call); others = agrees.others }
+
+-- a packet of a living link, noted
+pub note_agrees : (lives : ℕ → Bool) (table : HeardSeen) (packets : List PacketSeen) (packet : PacketSeen) (link : ℕ) (call : List ℕ) (moment : ℕ)
+    → IsHeard packet link call moment → lives link ≡ true → Agrees lives table packets → Agrees lives (noted link call moment table) (packets ++ packet ∷ [])
+note_agrees lives table packets packet link call moment heard living agrees = record {
+  heard = λ other here text.
+      noted_later packet table link call moment heard other text ∙ ap (λ o. later_or o (heard_by other text packet)) (agrees.heard other here text)
+      ∙ sym (last_more packets packet other text);
+  others = λ other there text. noted_others lives table link call moment living other there text (agrees.others other there text);
+}
+
+pub note_agrees_at : (now : ℕ) (lives : ℕ → Bool) (table : HeardSeen) (packets : List PacketSeen) (packet : PacketSeen) (link : ℕ) (call : List ℕ) (moment : ℕ)
+    → IsHeard packet link call moment → lives link ≡ true → AgreesAt now lives table packets → AgreesAt now lives (noted link call moment table) (packets ++ packet ∷ [])
+note_agrees_at now lives table packets packet link call moment heard living agrees = record {
+  heard = λ other here text.
+      ap (still heard_age now) (noted_later packet table link call moment heard other text)
+      ∙ still_later heard_age now (heard_at table other text) (last_heard packets other text) (heard_by other text packet) (agrees.heard other here text)
+      ∙ ap (still heard_age now) (sym (last_more packets packet other text));
+  others = λ other there text. noted_others lives table link call moment living other there text (agrees.others other there text);
+}
+
+pub note_goes_on : {A E : Type 0} (result : Result A E) (lives : ℕ → Bool) (old new : HeardSeen) (packets : List PacketSeen) (packet : PacketSeen) (link : ℕ) (call : List ℕ) (moment : ℕ)
+    → OnOk result (new ≡ noted link call moment old) → IsHeard packet link call moment → lives link ≡ true → Agrees lives old packets → OnOk result (Agrees lives new (packets ++ packet ∷ []))
+note_goes_on (Ok x) lives old new packets packet link call moment is heard living agrees =
+    subst (λ table. Agrees lives table (packets ++ packet ∷ [])) (sym is) (note_agrees lives old packets packet link call moment heard living agrees)
+note_goes_on (Err e) lives old new packets packet link call moment is heard living agrees = tt
+
+pub note_goes_on_at : {A E : Type 0} (result : Result A E) (now : ℕ) (lives : ℕ → Bool) (old new : HeardSeen) (packets : List PacketSeen) (packet : PacketSeen) (link : ℕ) (call : List ℕ) (moment : ℕ)
+    → OnOk result (new ≡ noted link call moment old) → IsHeard packet link call moment → lives link ≡ true → AgreesAt now lives old packets → OnOk result (AgreesAt now lives new (packets ++ packet ∷ []))
+note_goes_on_at (Ok x) now lives old new packets packet link call moment is heard living agrees =
+    subst (λ table. AgreesAt now lives table (packets ++ packet ∷ [])) (sym is) (note_agrees_at now lives old packets packet link call moment heard living agrees)
+note_goes_on_at (Err e) now lives old new packets packet link call moment is heard living agrees = tt
+
+-- a packet of no living link, of which nothing is noted
+not_told : (packets : List PacketSeen) (packet : PacketSeen) (link : ℕ) (call : List ℕ) → is_from link packet.from ≡ false → last_heard (packets ++ packet ∷ []) link call ≡ last_heard packets link call
+not_told packets packet link call is =
+    last_more packets packet link call ∙ ap (λ b. later_or (last_heard packets link call) (cond (b && is_text call packet.parts.source) (Some packet.moment) None)) is
+
+pub elsewhere_agrees : (lives : ℕ → Bool) (table : HeardSeen) (packets : List PacketSeen) (packet : PacketSeen) → IsFromElsewhere lives packet → Agrees lives table packets
+    → Agrees lives table (packets ++ packet ∷ [])
+elsewhere_agrees lives table packets packet elsewhere agrees = record {
+  heard = λ link here call. agrees.heard link here call ∙ sym (not_told packets packet link call (elsewhere link here));
+  others = agrees.others;
+}
+
+pub elsewhere_agrees_at : (now : ℕ) (lives : ℕ → Bool) (table : HeardSeen) (packets : List PacketSeen) (packet : PacketSeen) → IsFromElsewhere lives packet → AgreesAt now lives table packets
+    → AgreesAt now lives table (packets ++ packet ∷ [])
+elsewhere_agrees_at now lives table packets packet elsewhere agrees = record {
+  heard = λ link here call. agrees.heard link here call ∙ ap (still heard_age now) (sym (not_told packets packet link call (elsewhere link here)));
+  others = agrees.others;
+}
+
+-- ---- links that come and go
+
+silent_by : (packets : List PacketSeen) (link : ℕ) (call : List ℕ) → AllByRecursion (λ packet. is_from link packet.from ≡ false) packets → last_heard packets link call ≡ None
+silent_by [] link call all = refl
+silent_by (packet ∷ packets) link call all =
+    ap (later_or (heard_by link call packet)) (silent_by packets link call all.1) ∙ ap (λ b. cond (b && is_text call packet.parts.source) (Some packet.moment) None) all.0
+
+-- a link of which no packet came has heard nothing
+pub silent : (packets : List PacketSeen) (link : ℕ) (call : List ℕ) → All (λ packet. is_from link packet.from ≡ false) packets → last_heard packets link call ≡ None
+silent packets link call all = silent_by packets link call (recursion_from_All (λ packet. is_from link packet.from ≡ false) packets all)
+
+-- more links live, of which no packet came
+pub opened_agrees : (lives more : ℕ → Bool) (table : HeardSeen) (packets : List PacketSeen)
+    → ((link : ℕ) → more link ≡ true → lives link ≡ false → (call : List ℕ) → last_heard packets link call ≡ None) → ((link : ℕ) → more link ≡ false → lives link ≡ false)
+    → Agrees lives table packets → Agrees more table packets
+opened_agrees lives more table packets fresh fewer agrees = record {
+  heard = λ link here call. by link here call (lives link) refl;
+  others = λ link there call. agrees.others link (fewer link there) call;
+}
+  where
+    by : (link : ℕ) → more link ≡ true → (call : List ℕ) → (b : Bool) → lives link ≡ b → heard_at table link call ≡ last_heard packets link call
+    by link here call true is = agrees.heard link is call
+    by link here call false is = agrees.others link is call ∙ sym (fresh link here is call)
+
+pub opened_agrees_at : (now : ℕ) (lives more : ℕ → Bool) (table : HeardSeen) (packets : List PacketSeen)
+    → ((link : ℕ) → more link ≡ true → lives link ≡ false → (call : List ℕ) → last_heard packets link call ≡ None) → ((link : ℕ) → more link ≡ false → lives link ≡ false)
+    → AgreesAt now lives table packets → AgreesAt now more table packets
+opened_agrees_at now lives more table packets fresh fewer agrees = record {
+  heard = λ link here call. by link here call (lives link) refl;
+  others = λ link there call. agrees.others link (fewer link there) call;
+}
+  where
+    by : (link : ℕ) → more link ≡ true → (call : List ℕ) → (b : Bool) → lives link ≡ b → still heard_age now (heard_at table link call) ≡ still heard_age now (last_heard packets link call)
+    by link here call true is = agrees.heard link is call
+    by link here call false is = ap (still heard_age now) (agrees.others link is call ∙ sym (fresh link here is call))
+
+kept_of : (table : HeardSeen) (gone link : ℕ) (call : List ℕ) → not (gone == link) ≡ true → heard_at (without_link gone table) link call ≡ heard_at table link call
+kept_of table gone link call is = heard_without_link table gone link call ∙ ap (λ b. cond b (heard_at table link call) None) is
+
+none_of : (lives : ℕ → Bool) (table : HeardSeen) (gone link : ℕ) (call : List ℕ) → but_not gone lives link ≡ false → (lives link ≡ false → heard_at table link call ≡ None)
+    → heard_at (without_link gone table) link call ≡ None
+none_of lives table gone link call there none = heard_without_link table gone link call ∙ by (not (gone == link)) there
+  where
+    by : (b : Bool) → b && lives link ≡ false → cond b (heard_at table link call) None ≡ None
+    by true is = none is
+    by false is = refl
+
+pub forget_agrees : (lives : ℕ → Bool) (table : HeardSeen) (packets : List PacketSeen) (gone : ℕ) → Agrees lives table packets → Agrees (but_not gone lives) (without_link gone table) packets
+forget_agrees lives table packets gone agrees = record {
+  heard = λ link here call.
+      kept_of table gone link call (and_first (not (gone == link)) (lives link) here) ∙ agrees.heard link (and_second (not (gone == link)) (lives link) here) call;
+  others = λ link there call. none_of lives table gone link call there (λ is. agrees.others link is call);
+}
+
+pub forget_agrees_at : (now : ℕ) (lives : ℕ → Bool) (table : HeardSeen) (packets : List PacketSeen) (gone : ℕ) → AgreesAt now lives table packets
+    → AgreesAt now (but_not gone lives) (without_link gone table) packets
+forget_agrees_at now lives table packets gone agrees = record {
+  heard = λ link here call.
+      ap (still heard_age now) (kept_of table gone link call (and_first (not (gone == link)) (lives link) here)) ∙ agrees.heard link (and_second (not (gone == link)) (lives link) here) call;
+  others = λ link there call. none_of lives table gone link call there (λ is. agrees.others link is call);
+}
+
+-- promises aside, as they come and go
+pub same_heard_agrees : (lives : ℕ → Bool) (table other : HeardSeen) (packets : List PacketSeen) → other.heard ≡ table.heard → Agrees lives table packets → Agrees lives other packets
+same_heard_agrees lives table other packets same agrees = record {
+  heard = λ link here call. ap (λ entries. lookup (is_key (link, call)) entries) same ∙ agrees.heard link here call;
+  others = λ link there call. ap (λ entries. lookup (is_key (link, call)) entries) same ∙ agrees.others link there call;
+}
+
+pub same_heard_agrees_at : (now : ℕ) (lives : ℕ → Bool) (table other : HeardSeen) (packets : List PacketSeen) → other.heard ≡ table.heard → AgreesAt now lives table packets
+    → AgreesAt now lives other packets
+same_heard_agrees_at now lives table other packets same agrees = record {
+  heard = λ link here call. ap (λ entries. still heard_age now (lookup (is_key (link, call)) entries)) same ∙ agrees.heard link here call;
+  others = λ link there call. ap (λ entries. lookup (is_key (link, call)) entries) same ∙ agrees.others link there call;
+}
+
+-- ---- as time goes by
+
+-- what is recent was recent before
+recent_before : (age before now moment : ℕ) → before ≤ now → is_recent age now moment ≡ true → is_recent age before moment ≡ true
+recent_before age before now moment h late = by (is_recent age before moment) refl
+  where
+    by : (b : Bool) → is_recent age before moment ≡ b → b ≡ true
+    by true is = refl
+    by false is = let a : now - moment ≤ age = leb-true (now - moment) age late in let b : age < before - moment = leb-false (before - moment) age is in absurd (omega arith)
+
+still_again : (age before now : ℕ) (o : Option ℕ) → before ≤ now → still age now (still age before o) ≡ still age now o
+still_again age before now None h = refl
+still_again age before now (Some moment) h = by (is_recent age before moment) (is_recent age now moment) refl refl
+  where
+    by : (b c : Bool) → is_recent age before moment ≡ b → is_recent age now moment ≡ c → still age now (cond b (Some moment) None) ≡ still age now (Some moment)
+    by true c is now_is = refl
+    by false true is now_is = absurd (true≢false (sym (recent_before age before now moment h now_is) ∙ is))
+    by false false is now_is = ap (λ b. cond b (Some moment) None) (sym now_is)
+
+pub recent_agrees_at : (before now : ℕ) (lives : ℕ → Bool) (table : HeardSeen) (packets : List PacketSeen) → HasEachOnce table.heard → before ≤ now → AgreesAt before lives table packets
+    → AgreesAt now lives (recent now table) packets
+recent_agrees_at before now lives table packets once h agrees = let here : now ≤ now = omega arith in record {
+  heard = λ link living call.
+      ap (still heard_age now) (heard_recent now table link call once) ∙ still_again heard_age now now (heard_at table link call) here
+      ∙ sym (still_again heard_age before now (heard_at table link call) h) ∙ ap (still heard_age now) (agrees.heard link living call)
+      ∙ still_again heard_age before now (last_heard packets link call) h;
+  others = λ link there call. heard_recent now table link call once ∙ ap (still heard_age now) (agrees.others link there call);
+}
+
+-- ---- who heard a call
+
+is_still : (age now : ℕ) (o : Option ℕ) → is_some_and (is_recent age now) o ≡ is_some (still age now o)
+is_still age now None = refl
+is_still age now (Some moment) = by (is_recent age now moment)
+  where
+    by : (b : Bool) → b ≡ is_some (cond b (Some moment) None)
+    by true = refl
+    by false = refl
+
+hears : (now : ℕ) (lives : ℕ → Bool) (table : HeardSeen) (packets : List PacketSeen) (call : List ℕ) → AgreesAt now lives table packets → (link : ℕ)
+    → is_receiver table call now link ≡ is_hearer lives packets call now link
+hears now lives table packets call agrees link = by (lives link) refl
+  where
+    by : (b : Bool) → lives link ≡ b → is_receiver table call now link ≡ (b && is_some_and (is_recent heard_age now) (last_heard packets link call))
+    by true is =
+        is_still heard_age now (heard_at table link call) ∙ ap (λ o. is_some o) (agrees.heard link is call) ∙ sym (is_still heard_age now (last_heard packets link call))
+    by false is = ap (λ o. is_some_and (is_recent heard_age now) o) (agrees.others link is call)
+
+pub hearers_listed : (now : ℕ) (lives : ℕ → Bool) (table : HeardSeen) (packets : List PacketSeen) (call numbers : List ℕ) → AgreesAt now lives table packets
+    → IsRisingListOf numbers (is_receiver table call now) → IsRisingListOf numbers (is_hearer lives packets call now)
+hearers_listed now lives table packets call numbers agrees listed = record {
+  rises = listed.rises;
+  exactly = λ link. listed.exactly link ∙ hears now lives table packets call agrees link;
+}

@@ -1,0 +1,4 @@
+pub mod EntryLemmas
+pub mod HeardLemmas
+pub mod LookLemmas
+pub mod RisingLemmas

@@ -1,0 +1,13 @@
+use Rattle.std.proofs.Common.{rules, subst, sym}
+use Rattle.heard_routing.specs.Entries.{HasEachOnce}
+use Rattle.heard_routing.specs.LastHeard.{AgreesAt}
+use Rattle.heard_routing.proofs.HeardLemmas.{recent_agrees_at}
+use Rattle.heard_routing.proofs.heard.Heard.expire.Goals as goal
+
+pub returns-clause-kept : goal.returns-clause-kept
+returns-clause-kept c = search rules
+
+pub returns-clause-last_at : goal.returns-clause-last_at
+returns-clause-last_at c = λ before lives packets early agrees.
+    subst (λ table. AgreesAt c.args.now lives table packets) (sym (returns-clause-kept c))
+    (recent_agrees_at before c.args.now lives c.args.self.now packets (subst (λ table. HasEachOnce table.heard) c.self.view_is c.self.invariant.0) early agrees)
