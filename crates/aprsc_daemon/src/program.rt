@@ -248,7 +248,8 @@ fn run<R: Threads + Sync + Wait, F: Files, W: Wire, S: Sink>(
 }
 
 /// Runs the server: the words are `-c FILE`, and the file holds the configuration. What happens on the wire is a run for
-/// this configuration, and the bytes that each link takes are a prefix of its defined text.
+/// this configuration, and the bytes that each link takes are a prefix of its defined text. `hasher` is the key of the tables
+/// in memory, on which no text depends.
 ///
 /// The status is 0 after a stop, 1 for bad words, 2 for a bad configuration, 3 where its file can't be read, 4 where a
 /// listener failed, 5 where the wire failed, 6 for want of memory, and 7 where the sink failed.
