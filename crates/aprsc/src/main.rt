@@ -6,6 +6,7 @@ use aprsc_daemon::{RealFiles, RealSink, aprsc};
 use std::alloc::{AllocError, Global};
 use std::env::{self, Env};
 use std::fs::Files;
+use std::hash::RandomState;
 use std::io::Print;
 use std::marker::Sync;
 use std::process::ExitCode;
@@ -14,6 +15,9 @@ use std::thread::Threads;
 
 /// The status for want of memory.
 const NO_MEMORY: u8 = 6;
+
+/// The status where the system gives no random words.
+const NO_RANDOM: u8 = 8;
 
 fn opened(link: u32) -> Event {
     Event::Opened {
@@ -61,7 +65,7 @@ fn words<R: AllocGlobal + Env>(rt: &R) -> Result<Vec<String>, AllocError> {
     Ok(words)
 }
 
-fn run<R>(rt: &R) -> Result<u8, AllocError>
+fn run<R>(rt: &R, hasher: &RandomState) -> Result<u8, AllocError>
 where
     R: AllocGlobal + Env + Files + Print + Sync + Threads + Wait,
 {
@@ -72,9 +76,20 @@ where
     };
     let mut files = RealFiles::new(rt);
     let mut out = RealSink::new(rt);
-    Ok(aprsc(rt, alloc, words.as_slice(), &mut files, &mut wire, &mut out))
+    Ok(aprsc(
+        rt,
+        alloc,
+        words.as_slice(),
+        &mut files,
+        &mut wire,
+        &mut out,
+        hasher,
+    ))
 }
 
 fn main(rt: HostRuntime) -> ExitCode {
-    ExitCode::from(run(&rt).unwrap_or(NO_MEMORY))
+    let Ok(hasher) = RandomState::new(&rt) else {
+        return ExitCode::from(NO_RANDOM);
+    };
+    ExitCode::from(run(&rt, &hasher).unwrap_or(NO_MEMORY))
 }

@@ -18,7 +18,7 @@ use Rattle.aprsc_daemon.specs.declared.configuring.Trouble.TheVariants as troubl
 abbrev pub is_built_kind : PortKind → Bool
 is_built_kind kind.Full = true
 is_built_kind kind.Only = true
-is_built_kind kind.Igate = false
+is_built_kind kind.Igate = true
 is_built_kind kind.Dupe = false
 is_built_kind kind.Submit = false
 is_built_kind kind.Core = false

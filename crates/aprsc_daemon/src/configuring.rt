@@ -32,7 +32,7 @@ pub(crate) enum Unfit {
 fn is_built_kind(kind: PortKind) -> bool
     ensures { result ≡ is_built_kind kind }
 {
-    matches!(kind, PortKind::Full | PortKind::Only)
+    matches!(kind, PortKind::Full | PortKind::Only | PortKind::Igate)
 }
 
 /// Whether a listener is of a kind that is built, or idle.

@@ -21,6 +21,7 @@ use aprs_base::{FileError, Files, Memory, Sink, SinkError, Wire};
 use aprs_conf::Conf;
 use server_core::Core;
 use std::alloc::Global;
+use std::hash::RandomState;
 use std::marker::Sync;
 use std::sync::Wait;
 use std::thread::Threads;
@@ -64,6 +65,7 @@ fn serve_conf<R: Threads + Sync + Wait, W: Wire>(
     alloc: Global,
     conf: Conf,
     wire: &mut W,
+    hasher: &RandomState,
 ) -> End
     requires listens { length (numbered conf.listens) ≤ 16 }
     requires station { IsTrue (is_station conf.server) }
@@ -72,7 +74,7 @@ fn serve_conf<R: Threads + Sync + Wait, W: Wire>(
     ensures failed { result ≡ End.Failed → Rose (W.shown wire.old).stops (W.shown wire.new).stops }
     ensures stops { (W.shown wire.old).stops ≤ (W.shown wire.new).stops }
 {
-    match Core::new(alloc, conf, 1) {
+    match Core::new(alloc, hasher, conf, 1) {
         Ok(mut core) => serve(rt, alloc, &mut core, wire),
         Err(Memory) => End::Memory,
     }
@@ -84,6 +86,7 @@ fn open_and_serve<R: Threads + Sync + Wait, W: Wire>(
     alloc: Global,
     conf: Conf,
     wire: &mut W,
+    hasher: &RandomState,
 ) -> Result<End, ListenError>
     requires listens { length (numbered conf.listens) ≤ 16 }
     requires station { IsTrue (is_station conf.server) }
@@ -97,7 +100,7 @@ fn open_and_serve<R: Threads + Sync + Wait, W: Wire>(
         return Err(ListenError::Memory);
     };
     listen_all(wire, listens.as_slice())?;
-    Ok(serve_conf(rt, alloc, conf, wire))
+    Ok(serve_conf(rt, alloc, conf, wire, hasher))
 }
 
 fn ended(end: End) -> Status
@@ -138,6 +141,7 @@ fn run_conf<R: Threads + Sync + Wait, W: Wire, S: Sink>(
     conf: Conf,
     wire: &mut W,
     out: &mut S,
+    hasher: &RandomState,
 ) -> Status
     requires listens { length (numbered conf.listens) ≤ 16 }
     requires station { IsTrue (is_station conf.server) }
@@ -152,7 +156,7 @@ fn run_conf<R: Threads + Sync + Wait, W: Wire, S: Sink>(
           sink_after = S.shown out.new;
         }) }
 {
-    match open_and_serve(rt, alloc, conf, wire) {
+    match open_and_serve(rt, alloc, conf, wire, hasher) {
         Ok(end) => ended(end),
         Err(ListenError::Failed(n)) => say_made(out, listen_failed(alloc, n), Status::NoListener),
         Err(ListenError::Memory) => Status::NoMemory,
@@ -167,6 +171,7 @@ fn run_text<R: Threads + Sync + Wait, W: Wire, S: Sink>(
     text: &[u8],
     wire: &mut W,
     out: &mut S,
+    hasher: &RandomState,
 ) -> Status
     requires short { length text.now ≤ 65536 }
     ensures { (words : List (List ℕ)) (files files_after : FilesShown) → file_word words ≡ Some file.now → Holds files.told file.now text.now
@@ -181,7 +186,7 @@ fn run_text<R: Threads + Sync + Wait, W: Wire, S: Sink>(
         }) }
 {
     match read_conf(alloc, text) {
-        Ok(conf) => run_conf(rt, alloc, conf, wire, out),
+        Ok(conf) => run_conf(rt, alloc, conf, wire, out, hasher),
         Err(Unfit::Trouble(why)) => say_made(out, trouble(alloc, file, why), Status::BadFile),
         Err(Unfit::Memory) => Status::NoMemory,
     }
@@ -195,6 +200,7 @@ fn run_file<R: Threads + Sync + Wait, F: Files, W: Wire, S: Sink>(
     files: &mut F,
     wire: &mut W,
     out: &mut S,
+    hasher: &RandomState,
 ) -> Status
     ensures { (words : List (List ℕ)) → file_word words ≡ Some file.now
         → Cause result (record {
@@ -209,7 +215,7 @@ fn run_file<R: Threads + Sync + Wait, F: Files, W: Wire, S: Sink>(
 {
     let mut text = Vec::new(alloc);
     match files.read(file, MOST_READ, &mut text) {
-        Ok(()) => run_text(rt, alloc, file, text.as_slice(), wire, out),
+        Ok(()) => run_text(rt, alloc, file, text.as_slice(), wire, out, hasher),
         Err(FileError::Big) => say_made(out, too_large(alloc, file), Status::BadFile),
         Err(FileError::Failed) => say_made(out, unread(alloc, file), Status::UnreadFile),
         Err(FileError::Memory) => Status::NoMemory,
@@ -223,6 +229,7 @@ fn run<R: Threads + Sync + Wait, F: Files, W: Wire, S: Sink>(
     files: &mut F,
     wire: &mut W,
     out: &mut S,
+    hasher: &RandomState,
 ) -> Status
     ensures { Cause result (record {
       words = map string_bytes words.now;
@@ -235,13 +242,14 @@ fn run<R: Threads + Sync + Wait, F: Files, W: Wire, S: Sink>(
     }) }
 {
     match file_word(words) {
-        Some(file) => run_file(rt, alloc, file, files, wire, out),
+        Some(file) => run_file(rt, alloc, file, files, wire, out, hasher),
         None => say(out, usage(), Status::BadWords),
     }
 }
 
 /// Runs the server: the words are `-c FILE`, and the file holds the configuration. What happens on the wire is a run for
-/// this configuration, and the bytes that each link takes are a prefix of its defined text.
+/// this configuration, and the bytes that each link takes are a prefix of its defined text. `hasher` is the key of the tables
+/// in memory, on which no text depends.
 ///
 /// The status is 0 after a stop, 1 for bad words, 2 for a bad configuration, 3 where its file can't be read, 4 where a
 /// listener failed, 5 where the wire failed, 6 for want of memory, and 7 where the sink failed.
@@ -252,6 +260,7 @@ pub fn aprsc<R: Threads + Sync + Wait, F: Files, W: Wire, S: Sink>(
     files: &mut F,
     wire: &mut W,
     out: &mut S,
+    hasher: &RandomState,
 ) -> u8
     // Where the files tell what they hold, the happenings that the call appended are a run for the named configuration.
     ensures run { (conf : ConfSeen) (told : List MemFile) → (F.shown files.old).told ≡ Some told
@@ -268,5 +277,5 @@ pub fn aprsc<R: Threads + Sync + Wait, F: Files, W: Wire, S: Sink>(
       sink_after = S.shown out.new;
     }) }
 {
-    run(rt, alloc, words, files, wire, out).code()
+    run(rt, alloc, words, files, wire, out, hasher).code()
 }

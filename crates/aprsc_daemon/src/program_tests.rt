@@ -2,15 +2,22 @@
 use crate::aprsc;
 use aprs_base::{
     Addr, Chunk, Event, Happening, MemFile, MemFiles, MemSink, MemWire, Sent, Take, Text,
+    copy_event,
 };
 use std::alloc::Global;
+use std::hash::RandomState;
 use std::marker::Sync;
 use std::process::Abort;
+use std::random::RandomSource;
 use std::sync::Wait;
 use std::test::Fail;
 use std::thread::Threads;
 
 const CONF: &[u8] = b"ServerId T2TEST\nPassCode 8385\nListen \"full\" fullfeed tcp 0.0.0.0 10152\n";
+
+const GATEWAY_PORT: &[u8] = b"Listen \"filt\" igate tcp 0.0.0.0 14580\n";
+
+const GATEWAY_REPLY: &[u8] = b"# logresp K1XYZ verified, server T2TEST\r\n";
 
 const FIRST_LOGIN: &[u8] = b"user N0CALL pass 13023 vers t 1\r\n";
 
@@ -72,8 +79,12 @@ impl Left {
 }
 
 fn opened(link: u32) -> Event {
+    opened_on(0, link)
+}
+
+fn opened_on(listener: u16, link: u32) -> Event {
     Event::Opened {
-        listener: 0,
+        listener,
         link,
         from: Addr {
             ip: [127, 0, 0, 1],
@@ -87,7 +98,7 @@ fn said(link: u32, bytes: &[u8]) -> Result<Event, Fail> {
 }
 
 /// Runs `-c c` over a file `c` with these bytes, and these events.
-fn run_over<R: Threads + Sync + Wait>(
+fn run_over<R: Threads + Sync + Wait + RandomSource>(
     rt: &R,
     alloc: Global,
     conf: &[u8],
@@ -119,6 +130,7 @@ fn run_over<R: Threads + Sync + Wait>(
         &mut files,
         &mut wire,
         &mut sink,
+        &RandomState::new(rt)?,
     );
     Ok(Left {
         status,
@@ -127,16 +139,25 @@ fn run_over<R: Threads + Sync + Wait>(
     })
 }
 
-/// Two links that log in, and a packet of the first.
-fn two_stations(alloc: Global) -> Result<Vec<Event>, Fail> {
+/// Two links, the first on this listener and the second on the full one, say these lines.
+fn session(alloc: Global, listener: u16, lines: &[(u32, &[u8])]) -> Result<Vec<Event>, Fail> {
     let mut events = Vec::new(alloc);
-    events.push(Event::Tick(1000))?;
-    events.push(opened(1))?;
+    events.push(Event::Tick(784_111_777))?;
+    events.push(opened_on(listener, 1))?;
     events.push(opened(2))?;
-    for (link, line) in [(1, FIRST_LOGIN), (2, SECOND_LOGIN), (1, PACKET)] {
-        events.push(said(link, line)?)?;
+    for (link, line) in lines {
+        events.push(said(*link, line)?)?;
     }
     Ok(events)
+}
+
+/// Two links that log in, and a packet of the first.
+fn two_stations(alloc: Global) -> Result<Vec<Event>, Fail> {
+    session(
+        alloc,
+        0,
+        &[(1, FIRST_LOGIN), (2, SECOND_LOGIN), (1, PACKET)],
+    )
 }
 
 /// The same, each byte an event of its own.
@@ -175,6 +196,93 @@ fn sends_a_packet_to_the_other_station(rt: HostRuntime) -> Result<(), Fail> {
         assert!(rt; left.taken(alloc, 2)?.as_slice() == second.as_slice());
     }
     Ok(())
+}
+
+/// These events, each in a round of its own.
+fn one_by_one(alloc: Global, events: &[Event]) -> Result<Vec<Event>, Fail> {
+    let mut all = Vec::new(alloc);
+    for event in events {
+        all.push(copy_event(event))?;
+        all.push(Event::Tick(784_111_777))?;
+    }
+    Ok(all)
+}
+
+/// Runs a session over a full port and one for gateways, once in one round and once with a round for each line, and checks
+/// what each link takes.
+fn check_gateway<R: Threads + Sync + Wait + RandomSource + Abort>(
+    rt: &R,
+    alloc: Global,
+    lines: &[(u32, &[u8])],
+    first: &[&[u8]],
+    second: &[&[u8]],
+) -> Result<(), Fail> {
+    let conf = joined(alloc, &[CONF, GATEWAY_PORT])?;
+    let first = joined(alloc, first)?;
+    let second = joined(alloc, second)?;
+    let whole = session(alloc, 1, lines)?;
+    let parted = one_by_one(alloc, whole.as_slice())?;
+    for events in [whole, parted] {
+        let left = run_over(rt, alloc, conf.as_slice(), events, Outside::well(alloc))?;
+        assert!(rt; left.status == 0);
+        assert!(rt; left.text.is_empty());
+        assert!(rt; left.taken(alloc, 1)?.as_slice() == first.as_slice());
+        assert!(rt; left.taken(alloc, 2)?.as_slice() == second.as_slice());
+    }
+    Ok(())
+}
+
+#[test]
+fn serves_a_gateway_with_a_filter(rt: HostRuntime) -> Result<(), Fail> {
+    let lines: [(u32, &[u8]); 6] = [
+        (1, b"user K1XYZ pass 14986 vers igate 2.1 filter m/50\r\n"),
+        (2, SECOND_LOGIN),
+        (1, b"K1XYZ>APRS:!4903.50N/07201.75W&\r\n"),
+        (1, b"#keepalive\r\n"),
+        (2, b"K1ABC>APRS:!4903.50N/07201.75W-\r\n"),
+        (1, b"N1ABC>APRS,WIDE1-1*,K1XYZ,I:>on\r\n"),
+    ];
+    let first: [&[u8]; 4] = [
+        BANNER,
+        GATEWAY_REPLY,
+        b"# filter m/50 active\r\n",
+        b"K1ABC>APRS,TCPIP*,qAC,T2TEST:!4903.50N/07201.75W-\r\n",
+    ];
+    let second: [&[u8]; 4] = [
+        BANNER,
+        SECOND_REPLY,
+        b"K1XYZ>APRS,TCPIP*,qAC,T2TEST:!4903.50N/07201.75W&\r\n",
+        b"N1ABC>APRS,WIDE1-1*,qAR,K1XYZ:>on\r\n",
+    ];
+    check_gateway(&rt, rt.alloc(), &lines, &first, &second)
+}
+
+#[test]
+fn changes_a_filter_by_command(rt: HostRuntime) -> Result<(), Fail> {
+    let lines: [(u32, &[u8]); 8] = [
+        (1, b"user K1XYZ pass 14986 vers igate 2.1\r\n"),
+        (2, SECOND_LOGIN),
+        (2, b"K1ABC>APRS:>1\r\n"),
+        (1, b"#filter b/K1ABC\r\n"),
+        (2, b"K1ABC>APRS:>2\r\n"),
+        (1, b"#filter b/K1XYZ ?\r\n"),
+        (2, b"K1ABC>APRS:>3\r\n"),
+        (2, b"#filter b/K1XYZ\r\n"),
+    ];
+    let first: [&[u8]; 6] = [
+        BANNER,
+        GATEWAY_REPLY,
+        b"# filter b/K1ABC active\r\n",
+        b"K1ABC>APRS,TCPIP*,qAC,T2TEST:>2\r\n",
+        b"# filter refused, term 2\r\n",
+        b"K1ABC>APRS,TCPIP*,qAC,T2TEST:>3\r\n",
+    ];
+    let second: [&[u8]; 3] = [
+        BANNER,
+        SECOND_REPLY,
+        b"# filter refused, this port has no filter\r\n",
+    ];
+    check_gateway(&rt, rt.alloc(), &lines, &first, &second)
 }
 
 fn only_stop(alloc: Global) -> Result<Vec<Event>, Fail> {
@@ -299,7 +407,7 @@ fn names_what_failed(rt: HostRuntime) -> Result<(), Fail> {
 }
 
 /// Runs a configuration until a stop, and checks the status and the text.
-fn check_conf<R: Threads + Sync + Wait + Abort>(
+fn check_conf<R: Threads + Sync + Wait + RandomSource + Abort>(
     rt: &R,
     alloc: Global,
     conf: &[u8],
@@ -314,7 +422,7 @@ fn check_conf<R: Threads + Sync + Wait + Abort>(
 
 #[test]
 fn names_what_is_wrong_with_a_configuration(rt: HostRuntime) -> Result<(), Fail> {
-    let cases: [(&[u8], &[u8]); 10] = [
+    let cases: [(&[u8], &[u8]); 11] = [
         (b"", b"c: missing ServerId\n"),
         (
             b"ServerId T2TEST\nServerId T2TEST\n",
@@ -327,7 +435,11 @@ fn names_what_is_wrong_with_a_configuration(rt: HostRuntime) -> Result<(), Fail>
         (b"ClientTimeout 0s\n", b"c: line 1: bad-time\n"),
         (b"Uplink u full tcp \"\" 1\n", b"c: line 1: bad-host\n"),
         (
-            b"ServerId T2TEST\nPassCode 8385\nListen a igate tcp :: 1\n",
+            b"ServerId T2TEST\nPassCode 8385\nListen a dupefeed tcp :: 1\n",
+            b"c: not-built\n",
+        ),
+        (
+            b"ServerId T2TEST\nPassCode 8385\nListen a udpsubmit udp :: 1\n",
             b"c: not-built\n",
         ),
         (
