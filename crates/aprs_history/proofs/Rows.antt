@@ -27,10 +27,10 @@ use Rattle.login_pass.specs.Passcode.{passcode_of}
 setting : Setting
 setting = record { server = codes "T2TEST"; listens = record { kind = kind.Full; at = record { ip = 0 ∷ 0 ∷ 0 ∷ 0 ∷ []; port = 10152 } } ∷ [] }
 
-crlf : List ℕ
+unfoldable pub crlf : List ℕ
 crlf = 13 ∷ 10 ∷ []
 
-client : Addr
+unfoldable pub client : Addr
 client = record { ip = 10 ∷ 0 ∷ 0 ∷ 7 ∷ []; port = 4000 }
 
 listening : History
@@ -112,7 +112,7 @@ same_when_slow = refl
 
 -- ---- single lines
 
-abbrev link_of : List ℕ → Bool → Bool → List (List ℕ) → Scene
+abbrev pub link_of : List ℕ → Bool → Bool → List (List ℕ) → Scene
 link_of login verified only others = record {
   server = codes "T2TEST";
   only = only;
@@ -123,10 +123,10 @@ link_of login verified only others = record {
   accepted = [];
 }
 
-abbrev stranger : Scene
+abbrev pub stranger : Scene
 stranger = record { server = codes "T2TEST"; only = false; filters = false; session = None; others = []; moment = 1000; accepted = [] }
 
-abbrev verdict_on : Scene → List ℕ → Verdict
+abbrev pub verdict_on : Scene → List ℕ → Verdict
 verdict_on scene text = verdict_of scene (cut.Line text)
 
 abbrev sent_on : Verdict → Option (List ℕ)
