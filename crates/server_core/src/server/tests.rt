@@ -9,8 +9,10 @@ use crate::acts::Acts;
 use aprs_base::{Addr, Call, Chunk, Event, ListenSpec, Memory, PortKind, Text};
 use aprs_conf::{Conf, Listen};
 use std::alloc::Global;
+use std::hash::RandomState;
 use std::marker::Sync;
 use std::process::Abort;
+use std::random::RandomSource;
 use std::test::Fail;
 use std::thread::Threads;
 
@@ -55,7 +57,7 @@ fn conf_of(alloc: Global, server: Call, listens: Vec<Listen>) -> Conf
 }
 
 /// A core with this call, which listens on a full port and on one for clients alone.
-fn core_of<R: Abort>(rt: &R, alloc: Global, server: &[u8]) -> Result<Core, Memory>
+fn core_of<R: RandomSource + Abort>(rt: &R, alloc: Global, server: &[u8]) -> Result<Core, Memory>
     ensures { IfOk result (λ core. (core.seen.greatest ≡ 0) × (core.seen.stopped ≡ false)) }
 {
     let server = Call::read(server).expect(rt, "a call");
@@ -64,10 +66,11 @@ fn core_of<R: Abort>(rt: &R, alloc: Global, server: &[u8]) -> Result<Core, Memor
     listens.push(listen(alloc, PortKind::Full))?;
     listens.push(listen(alloc, PortKind::Only))?;
     assert!(rt; listens.len() == 2);
-    Core::new(alloc, conf_of(alloc, server, listens), 1)
+    let hasher = RandomState::new(rt).expect(rt, "a hasher");
+    Core::new(alloc, &hasher, conf_of(alloc, server, listens), 1)
 }
 
-fn new_core<R: Abort>(rt: &R, alloc: Global) -> Result<Core, Memory>
+fn new_core<R: RandomSource + Abort>(rt: &R, alloc: Global) -> Result<Core, Memory>
     ensures { IfOk result (λ core. (core.seen.greatest ≡ 0) × (core.seen.stopped ≡ false)) }
 {
     core_of(rt, alloc, b"T2TEST")
@@ -175,7 +178,10 @@ fn take_next<R: Abort>(rt: &R, core: &mut Core, link: u32, want: &[u8], most: us
 }
 
 /// Two clients, who have logged in and taken all.
-fn two_clients<R: Threads + Sync + Abort>(rt: &R, alloc: Global) -> Result<Core, Memory>
+fn two_clients<R: Threads + Sync + RandomSource + Abort>(
+    rt: &R,
+    alloc: Global,
+) -> Result<Core, Memory>
     ensures { IfOk result (λ core. core.seen.stopped ≡ false) }
 {
     let mut core = new_core(rt, alloc)?;
@@ -191,7 +197,7 @@ fn two_clients<R: Threads + Sync + Abort>(rt: &R, alloc: Global) -> Result<Core,
 }
 
 /// The first client says this, and the second is offered that.
-fn check_heard<R: Threads + Sync + Abort>(
+fn check_heard<R: Threads + Sync + RandomSource + Abort>(
     rt: &R,
     alloc: Global,
     said: &[u8],
@@ -320,7 +326,7 @@ fn drain<R: Abort>(rt: &R, core: &mut Core, link: u32)
     core.took(link, count, count);
 }
 
-fn check_relayed<R: Threads + Sync + Abort>(
+fn check_relayed<R: Threads + Sync + RandomSource + Abort>(
     rt: &R,
     alloc: Global,
     server: &[u8],
