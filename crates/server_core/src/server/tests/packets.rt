@@ -1,15 +1,13 @@
 //! What one client says, and another hears.
-use super::session::{Row, Session, begin, play};
-use aprs_base::Memory;
+use super::session::{Row, core_after, run};
 use std::alloc::Global;
 use std::marker::Sync;
 use std::process::Abort;
 use std::random::RandomSource;
-use std::test::Fail;
 use std::thread::Threads;
 
 /// Two clients log in.
-const LOGINS: [Row<'static>; 6] = [
+const TWO_CLIENTS: [Row<'static>; 6] = [
     Row::Opens(1, 0),
     Row::Opens(2, 0),
     Row::Says(1, b"user N0CALL pass 13023\r\n"),
@@ -24,24 +22,15 @@ const LOGINS: [Row<'static>; 6] = [
     ),
 ];
 
-/// Two clients, who have logged in and taken all.
-fn two_clients<R: Threads + Sync + RandomSource + Abort>(
-    rt: &R,
-    alloc: Global,
-) -> Result<Session, Memory> {
-    begin(rt, alloc, b"T2TEST", &LOGINS)
-}
-
 /// The first client says this, and the second is offered that.
 fn check_heard<'a, R: Threads + Sync + RandomSource + Abort>(
     rt: &R,
     alloc: Global,
     said: &'a [u8],
     heard: &'a [u8],
-) -> Result<(), Memory> {
-    let mut session = two_clients(rt, alloc)?;
+) {
     let rows = [Row::Says(1, said), Row::Gets(1, b""), Row::Gets(2, heard)];
-    play(rt, alloc, &mut session, &rows)
+    run(rt, alloc, b"T2TEST", &TWO_CLIENTS, &rows);
 }
 
 const HI: &[u8] = b"N0CALL>APRS,TCPIP*,qAC,T2TEST:>hi\r\n";
@@ -72,74 +61,79 @@ const PACKETS: [(&[u8], &[u8]); 12] = [
 ];
 
 #[test]
-fn sends_packets_to_the_others(rt: HostRuntime) -> Result<(), Fail> {
-    for (said, heard) in PACKETS {
-        check_heard(&rt, rt.alloc(), said, heard)?;
+fn sends_packets_to_the_others(rt: HostRuntime) {
+    for (said, heard) in &PACKETS {
+        check_heard(&rt, rt.alloc(), said, heard);
     }
-    Ok(())
 }
 
-/// When N0CALL says something, and what K1ABC-9 hears of it.
-const REPEATS: [(u64, &[u8], &[u8]); 8] = [
-    (1000, b"N0CALL>APRS,WIDE1-1:>hi\r\n", HI),
-    (1005, b"N0CALL>APRS,WIDE2-2:>hi\r\n", b""),
-    (1005, b"N0CALL>APRS-4,WIDE1-1:>hi\r\n", b""),
-    (1005, b"N0CALL>APRS,WIDE1-1:>hi  \r\n", b""),
-    (
-        1005,
-        b"N0CALL>APRS:>hi there\r\n",
-        b"N0CALL>APRS,TCPIP*,qAC,T2TEST:>hi there\r\n",
-    ),
-    (1029, b"N0CALL>APRS,WIDE1-1:>hi\r\n", b""),
-    (1030, b"N0CALL>APRS,WIDE1-1:>hi\r\n", HI),
-    (1031, b"N0CALL>APRS,WIDE1-1:>hi\r\n", b""),
+/// What N0CALL says at some moments, and what K1ABC-9 hears of it.
+const REPEATS: [Row<'static>; 20] = [
+    Row::Says(1, b"N0CALL>APRS,WIDE1-1:>hi\r\n"),
+    Row::Gets(2, HI),
+    Row::Tick(1005),
+    Row::Says(1, b"N0CALL>APRS,WIDE2-2:>hi\r\n"),
+    Row::Gets(2, b""),
+    Row::Says(1, b"N0CALL>APRS-4,WIDE1-1:>hi\r\n"),
+    Row::Gets(2, b""),
+    Row::Says(1, b"N0CALL>APRS,WIDE1-1:>hi  \r\n"),
+    Row::Gets(2, b""),
+    Row::Says(1, b"N0CALL>APRS:>hi there\r\n"),
+    Row::Gets(2, b"N0CALL>APRS,TCPIP*,qAC,T2TEST:>hi there\r\n"),
+    Row::Tick(1029),
+    Row::Says(1, b"N0CALL>APRS,WIDE1-1:>hi\r\n"),
+    Row::Gets(2, b""),
+    Row::Tick(1030),
+    Row::Says(1, b"N0CALL>APRS,WIDE1-1:>hi\r\n"),
+    Row::Gets(2, HI),
+    Row::Tick(1031),
+    Row::Says(1, b"N0CALL>APRS,WIDE1-1:>hi\r\n"),
+    Row::Gets(2, b""),
 ];
 
 #[test]
-fn drops_duplicates_for_half_a_minute(rt: HostRuntime) -> Result<(), Fail> {
-    let mut session = two_clients(&rt, rt.alloc())?;
-    for (moment, said, heard) in REPEATS {
-        let rows = [Row::Tick(moment), Row::Says(1, said), Row::Gets(2, heard)];
-        play(&rt, rt.alloc(), &mut session, &rows)?;
-    }
-    Ok(())
+fn drops_duplicates_for_half_a_minute(rt: HostRuntime) {
+    run(&rt, rt.alloc(), b"T2TEST", &TWO_CLIENTS, &REPEATS);
 }
+
+const TWO_BODIES: [Row<'static>; 2] = [
+    Row::Says(
+        1,
+        b"N0CALL>APRS:!4903.50N/07201.75W-\r\nN0CALL>APRS::K1ABC    :hi\r\n",
+    ),
+    Row::Tick(1000),
+];
 
 #[test]
-fn reads_the_bodies_of_accepted_packets(rt: HostRuntime) -> Result<(), Fail> {
-    let mut session = two_clients(&rt, rt.alloc())?;
-    let said = b"N0CALL>APRS:!4903.50N/07201.75W-\r\nN0CALL>APRS::K1ABC    :hi\r\n";
-    let rows = [Row::Says(1, said), Row::Tick(1000)];
-    play(&rt, rt.alloc(), &mut session, &rows)?;
-    let packets: Vec<(u64, u16)> = session
-        .core
-        .accepted
-        .iter()
-        .map(|packet| (packet.moment, packet.body.class))
-        .collect(rt.alloc())?;
-    assert!(rt; packets.as_slice() == [(1000, 1), (1000, 8)].as_slice());
-    Ok(())
+fn reads_the_bodies_of_accepted_packets(rt: HostRuntime) {
+    let core = core_after(&rt, rt.alloc(), b"T2TEST", &TWO_CLIENTS, &TWO_BODIES);
+    assert!(rt; core.accepted.len() == 2);
+    let first = &core.accepted[0];
+    let second = &core.accepted[1];
+    assert!(rt; (first.moment, first.body.class) == (1000, 1));
+    assert!(rt; (second.moment, second.body.class) == (1000, 8));
 }
 
-/// A packet of N0CALL with a body of so many bytes, behind such a head, and then such a line.
-fn long_packet(alloc: Global, head: &[u8], body: usize, next: &[u8]) -> Result<Vec<u8>, Memory> {
-    let mut text = head.to_vec(alloc)?;
-    for _ in 0..body {
-        text.push(b'x')?;
-    }
-    text.extend_from_slice(b"\r\n")?;
-    text.extend_from_slice(next)?;
-    Ok(text)
+/// The head, a body of so many bytes, and the next line.
+fn long_packet<R: Abort>(rt: &R, alloc: Global, head: &[u8], body: usize, next: &[u8]) -> Vec<u8> {
+    let mut text = head.to_vec(alloc).expect(rt, "memory");
+    text.resize(text.len().saturating_add(body), b'x')
+        .expect(rt, "memory");
+    text.extend_from_slice(b"\r\n").expect(rt, "memory");
+    text.extend_from_slice(next).expect(rt, "memory");
+    text
 }
+
+/// How many bytes a body has, and whether the packet is heard.
+const BODIES: [(usize, bool); 3] = [(480, true), (481, false), (499, false)];
 
 #[test]
-fn keeps_the_limit_of_a_line(rt: HostRuntime) -> Result<(), Fail> {
+fn keeps_the_limit_of_a_line(rt: HostRuntime) {
     let alloc = rt.alloc();
-    let longest = long_packet(alloc, b"N0CALL>APRS,TCPIP*,qAC,T2TEST:", 480, HI)?;
-    let cases = [(480, longest.as_slice()), (481, HI), (499, HI)];
-    for (body, heard) in cases {
-        let said = long_packet(alloc, b"N0CALL>APRS:", body, b"N0CALL>APRS:>hi\r\n")?;
-        check_heard(&rt, alloc, said.as_slice(), heard)?;
+    let longest = long_packet(&rt, alloc, b"N0CALL>APRS,TCPIP*,qAC,T2TEST:", 480, HI);
+    for (body, is_heard) in &BODIES {
+        let said = long_packet(&rt, alloc, b"N0CALL>APRS:", *body, b"N0CALL>APRS:>hi\r\n");
+        let heard = if *is_heard { longest.as_slice() } else { HI };
+        check_heard(&rt, alloc, said.as_slice(), heard);
     }
-    Ok(())
 }

@@ -1,11 +1,9 @@
 //! How a server marks the way of a packet.
-use super::session::{Row, begin};
-use aprs_base::Memory;
+use super::session::{Row, run};
 use std::alloc::Global;
 use std::marker::Sync;
 use std::process::Abort;
 use std::random::RandomSource;
-use std::test::Fail;
 use std::thread::Threads;
 
 /// A packet of one client, and what another is offered.
@@ -23,20 +21,21 @@ fn check_relayed<R: Threads + Sync + RandomSource + Abort>(
     alloc: Global,
     server: &[u8],
     relay: &Relay,
-) -> Result<(), Memory> {
-    let rows = [
+) {
+    let logins = [
         Row::Opens(1, relay.listener),
         Row::Opens(2, 0),
         Row::Says(1, relay.sender),
         Row::Says(2, relay.receiver),
         Row::Drains(1),
         Row::Drains(2),
+    ];
+    let rows = [
         Row::Says(1, relay.said),
         Row::Gets(1, b""),
         Row::Gets(2, relay.heard),
     ];
-    begin(rt, alloc, server, &rows)?;
-    Ok(())
+    run(rt, alloc, server, &logins, &rows);
 }
 
 const GATE: &[u8] = b"user OH7LZB pass 20900\r\n";
@@ -147,17 +146,15 @@ const TRACES: [Relay; 3] = [
 ];
 
 #[test]
-fn marks_the_way_of_a_packet(rt: HostRuntime) -> Result<(), Fail> {
+fn marks_the_way_of_a_packet(rt: HostRuntime) {
     for relay in &RELAYS {
-        check_relayed(&rt, rt.alloc(), b"T2TEST", relay)?;
+        check_relayed(&rt, rt.alloc(), b"T2TEST", relay);
     }
-    Ok(())
 }
 
 #[test]
-fn traces_the_way_through_servers(rt: HostRuntime) -> Result<(), Fail> {
+fn traces_the_way_through_servers(rt: HostRuntime) {
     for relay in &TRACES {
-        check_relayed(&rt, rt.alloc(), b"T2LEAF", relay)?;
+        check_relayed(&rt, rt.alloc(), b"T2LEAF", relay);
     }
-    Ok(())
 }
