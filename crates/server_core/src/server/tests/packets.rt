@@ -1,5 +1,5 @@
 //! What one client says, and another hears.
-use super::session::{Row, core_after, run};
+use super::session::{Row, core_after, repeated, run};
 use std::alloc::Global;
 use std::marker::Sync;
 use std::process::Abort;
@@ -114,26 +114,40 @@ fn reads_the_bodies_of_accepted_packets(rt: HostRuntime) {
     assert!(rt; (second.moment, second.body.class) == (1000, 8));
 }
 
-/// The head, a body of so many bytes, and the next line.
-fn long_packet<R: Abort>(rt: &R, alloc: Global, head: &[u8], body: usize, next: &[u8]) -> Vec<u8> {
-    let mut text = head.to_vec(alloc).expect(rt, "memory");
-    text.resize(text.len().saturating_add(body), b'x')
-        .expect(rt, "memory");
-    text.extend_from_slice(b"\r\n").expect(rt, "memory");
-    text.extend_from_slice(next).expect(rt, "memory");
-    text
+#[test]
+fn sends_the_longest_line(rt: HostRuntime) {
+    let said = repeated(
+        &rt,
+        rt.alloc(),
+        b"N0CALL>APRS:",
+        b"x",
+        480,
+        b"\r\nN0CALL>APRS:>hi\r\n",
+    );
+    let heard = repeated(
+        &rt,
+        rt.alloc(),
+        b"N0CALL>APRS,TCPIP*,qAC,T2TEST:",
+        b"x",
+        480,
+        b"\r\nN0CALL>APRS,TCPIP*,qAC,T2TEST:>hi\r\n",
+    );
+    check_heard(&rt, rt.alloc(), said.as_slice(), heard.as_slice());
 }
 
-/// How many bytes a body has, and whether the packet is heard.
-const BODIES: [(usize, bool); 3] = [(480, true), (481, false), (499, false)];
+const TOO_LONG: [usize; 2] = [481, 499];
 
 #[test]
-fn keeps_the_limit_of_a_line(rt: HostRuntime) {
-    let alloc = rt.alloc();
-    let longest = long_packet(&rt, alloc, b"N0CALL>APRS,TCPIP*,qAC,T2TEST:", 480, HI);
-    for (body, is_heard) in &BODIES {
-        let said = long_packet(&rt, alloc, b"N0CALL>APRS:", *body, b"N0CALL>APRS:>hi\r\n");
-        let heard = if *is_heard { longest.as_slice() } else { HI };
-        check_heard(&rt, alloc, said.as_slice(), heard);
+fn drops_longer_lines(rt: HostRuntime) {
+    for body in &TOO_LONG {
+        let said = repeated(
+            &rt,
+            rt.alloc(),
+            b"N0CALL>APRS:",
+            b"x",
+            *body,
+            b"\r\nN0CALL>APRS:>hi\r\n",
+        );
+        check_heard(&rt, rt.alloc(), said.as_slice(), HI);
     }
 }

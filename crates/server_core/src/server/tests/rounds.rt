@@ -1,5 +1,6 @@
 //! What is to be done after a round.
-use super::session::{Row, core_after, is_served, run};
+use super::cores::is_served;
+use super::session::{Row, core_after, run};
 
 const STOPPED: [Row<'static>; 5] = [
     Row::Opens(1, 0),
