@@ -1,0 +1,162 @@
+//! The core that sessions are run over, and what it must be given.
+ghost use Rattle.std.specs.Prelude.{◌≡◌, ◌<◌, ◌≤◌, ◌+◌, IsTrue, IfSome, length};
+ghost use Rattle.aprs_base.specs.Outside.{new_link};
+ghost use Rattle.aprs_history.specs.History.{is_round_event};
+ghost use Rattle.aprs_history.specs.Rounds.{AreFresh, is_whole};
+ghost use Rattle.server_core.specs.LinkSteps.{has_number};
+
+use super::super::Core;
+use crate::acts::Acts;
+use aprs_base::{Addr, Call, Chunk, Event, ListenSpec, PortKind, Text};
+use aprs_conf::{Conf, Listen};
+use std::alloc::Global;
+use std::hash::RandomState;
+use std::marker::Sync;
+use std::process::Abort;
+use std::random::RandomSource;
+use std::thread::Threads;
+
+const HERE: Addr = Addr {
+    ip: [127, 0, 0, 1],
+    port: 14580,
+};
+
+fn no_text(alloc: Global) -> Text {
+    Text {
+        bytes: Vec::new(alloc),
+    }
+}
+
+fn listen(alloc: Global, kind: PortKind) -> Listen {
+    Listen {
+        name: no_text(alloc),
+        spec: ListenSpec { kind, at: HERE },
+        idle: false,
+    }
+}
+
+fn conf_of(alloc: Global, server: Call, listens: Vec<Listen>) -> Conf
+    ensures server { result.server ≡ server }
+    ensures listens { result.listens ≡ listens.items }
+{
+    Conf {
+        server,
+        code: 8385,
+        admin: no_text(alloc),
+        email: no_text(alloc),
+        listens,
+        uplinks: Vec::new(alloc),
+        group: None,
+        peers: Vec::new(alloc),
+        up_timeout: 15,
+        client_timeout: 172_800,
+        max_clients: 500,
+    }
+}
+
+/// A core with this call, which listens on a full port, on an igate port and on one for clients alone.
+pub(super) fn core_of<R: RandomSource + Abort>(rt: &R, alloc: Global, server: &[u8]) -> Core {
+    let server = Call::read(server).expect(rt, "a call");
+    assert!(rt; server.is_station());
+    let listens = Vec::from_array(
+        alloc,
+        [
+            listen(alloc, PortKind::Full),
+            listen(alloc, PortKind::Igate),
+            listen(alloc, PortKind::Only),
+        ],
+    )
+    .expect(rt, "memory");
+    assert!(rt; listens.len() == 3);
+    let hasher = RandomState::new(rt).expect(rt, "a hasher");
+    Core::new(alloc, &hasher, conf_of(alloc, server, listens), 1).expect(rt, "memory")
+}
+
+pub(super) fn opened(link: u32, listener: u16) -> Event {
+    Event::Opened {
+        listener,
+        link,
+        from: HERE,
+    }
+}
+
+pub(super) fn bytes<R: Abort>(rt: &R, link: u32, text: &[u8]) -> Event {
+    Event::Bytes(link, Chunk::new(text).expect(rt, "a chunk"))
+}
+
+fn is_round_event(event: &Event) -> bool
+    ensures { result ≡ is_round_event event.now }
+{
+    matches!(event, Event::Tick(_) | Event::Stop)
+}
+
+/// Whether the last of the events ends a round, after so many before them.
+fn is_whole(before: usize, events: &[Event]) -> bool
+    requires { before + length events.now ≤ 512 }
+    ensures { result ≡ is_whole before events.now }
+{
+    match events {
+        [] => false,
+        [event] => is_round_event(event) || before == 511,
+        [event, rest @ ..] => !is_round_event(event) && is_whole(before + 1, rest),
+    }
+}
+
+fn new_link(event: &Event) -> Option<u32>
+    ensures { result ≡ new_link event.now }
+{
+    match event {
+        Event::Opened { link, .. } => Some(*link),
+        Event::Joined { link, .. } => Some(*link),
+        _ => None,
+    }
+}
+
+/// Whether the links that the events bring rise above the greatest so far.
+fn are_fresh(greatest: u32, events: &[Event]) -> bool
+    ensures { IsTrue result → AreFresh greatest events.now }
+{
+    match events {
+        [] => true,
+        [event, rest @ ..] => match new_link(event) {
+            Some(link) => greatest < link && are_fresh(link, rest),
+            None => are_fresh(greatest, rest),
+        },
+    }
+}
+
+/// Takes a round of these events, where it may be given now.
+pub(super) fn round<R: Threads + Sync + Abort>(
+    rt: &R,
+    alloc: Global,
+    core: &mut Core,
+    events: &[Event],
+) -> Acts {
+    assert!(rt; events.len() <= 512);
+    assert!(rt; is_whole(0, events));
+    assert!(rt; are_fresh(core.greatest, events));
+    assert!(rt; !core.stopped);
+    core.round(rt, alloc, events).expect(rt, "memory")
+}
+
+pub(super) fn is_served(core: &Core, link: u32) -> bool
+    ensures { result ≡ has_number link core.now.seen.links }
+{
+    core.links.iter().any(|served| served.number == link)
+}
+
+/// The link is offered these bytes, and takes at most so many.
+pub(super) fn take_next<R: Abort>(rt: &R, core: &mut Core, link: u32, want: &[u8], most: usize) {
+    let mut out = [0; 600];
+    assert!(rt; is_served(core, link));
+    let count = core.offer(link, &mut out);
+    assert!(rt; &out[..count] == want);
+    core.took(link, count, count.min(most));
+}
+
+pub(super) fn drain<R: Abort>(rt: &R, core: &mut Core, link: u32) {
+    let mut out = [0; 600];
+    assert!(rt; is_served(core, link));
+    let count = core.offer(link, &mut out);
+    core.took(link, count, count);
+}
