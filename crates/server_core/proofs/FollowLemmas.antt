@@ -173,7 +173,7 @@ module _ (base : LinkSeen) (accepted : List PacketSeen) (now : ℕ) (session : O
     -- a login, perhaps with a filter
     login_shape : (new : Session) (reply : List ℕ) (answer : Option FilterAnswer) (own : Bool)
         → keeping base (accepted ++ []) now (if own then Some new else session) (if own then filter_after (LoggedIn new answer) terms else terms)
-            (queued (lines ++ (if own then reply ∷ login_filter_reply answer else [])) taken)
+        (queued (lines ++ (if own then reply ∷ login_filter_reply answer else [])) taken)
         ≡ (if own then with_login accepted now new reply answer kept else kept)
     login_shape new reply None true =
         ap (λ packets. keeping base packets now (Some new) terms (queued (lines ++ reply ∷ []) taken)) (append-nil accepted)
@@ -194,7 +194,7 @@ module _ (base : LinkSeen) (accepted : List PacketSeen) (now : ℕ) (session : O
     -- a packet, which the link wants or not
     packet_shape : (packet : PacketSeen) (own wanted : Bool) → packet.moment ≡ now
         → keeping base (accepted ++ packet ∷ []) now (if own then session else session) (if own then terms else terms)
-            (queued (lines ++ (if wanted then packet.line ∷ [] else [])) taken)
+        (queued (lines ++ (if wanted then packet.line ∷ [] else [])) taken)
         ≡ with_places packet (if wanted then with_text packet.line kept else kept)
     packet_shape packet true true at =
         ap (λ (q : Queued). keeping base (accepted ++ packet ∷ []) now session terms q) (queued-push lines packet.line taken le)
@@ -284,7 +284,7 @@ module _ (s : Setting) where
       → is_among j hearers ≡ is_to_heard t (packet_of k (moment_of t) parts line) j → is_among j owed ≡ is_owed t (packet_of k (moment_of t) parts line) j
       → link_seen s (Said k cut (Accepted parts line) ∷ t) j
       ≡ with_packet k (packet_of k (moment_of t) parts line)
-          (record { place = sighting (accepted_of t) (moment_of t) parts.source; gate = is_gate_at (accepted_of t) (moment_of t) parts.source }) hearers owed (link_seen s t j)
+      (record { place = sighting (accepted_of t) (moment_of t) parts.source; gate = is_gate_at (accepted_of t) (moment_of t) parts.source }) hearers owed (link_seen s t j)
   unfolding link_seen
   accepted_seen t took k cut parts line hearers owed j live heard due =
       let base = link_seen s t j in

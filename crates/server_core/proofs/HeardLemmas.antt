@@ -152,6 +152,7 @@ remembers_no_end table t k dead remembers = record {
     nowhere_shape : (gone member : Bool) (told : Option ℕ) → (gone ≡ true → member ≡ false) → cond (not gone) (if member then told else None) None ≡ (if member then told else None)
     nowhere_shape true member told none = sym (ap (λ b. if b then told else None) (none refl))
     nowhere_shape false member told none = refl
+
     nowhere : (told : Option ℕ) (l : ℕ) → cond (not (k == l)) (if is_live t l then told else None) None ≡ (if is_live t l then told else None)
     nowhere told l = nowhere_shape (k == l) (is_live t l) told (λ same. ap (is_live t) (sym (eqb-true k l same)) ∙ dead)
 
@@ -183,6 +184,7 @@ promise_shape hears other filters false position now told = unchanged hears (oth
     kept : (p : Bool) → (if p then told else told) ≡ told
     kept true = refl
     kept false = refl
+
     unchanged : (h m p : Bool) → cond (h && (m && false)) (Some now) (if p then told else told) ≡ told
     unchanged true true p = kept p
     unchanged true false p = kept p
@@ -208,9 +210,11 @@ module _ (table : HeardSeen) (t : Trace) (remembers : Remembers table t) (packet
       heard_there to =
           (links_listed heard_age (moment_of t) to table.heard remembers.once_heard).exactly l
           ∙ ap (is_some_and (is_recent heard_age (moment_of t))) (remembers.heard l to ∙ ap (λ b. if b then heard_of t l to else None) live)
+
       by_call : (to : List ℕ) (call : Bool) → is_among l (hearers_of (moment_of t) table (if call then Some to else None)) ≡ call && is_some_and (is_recent heard_age (moment_of t)) (heard_of t l to)
       by_call to true = heard_there to
       by_call to false = refl
+
       by : (message : Bool) (to : Option (List ℕ)) → is_among l (hearers_of (moment_of t) table (if message then call_in to else None)) ≡ message && is_some_and (has_heard t l) to
       by true None = refl
       by true (Some to) = by_call to (is_call to)

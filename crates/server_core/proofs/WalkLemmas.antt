@@ -270,6 +270,7 @@ module _ (s : Setting) (core : CoreSeen) (t : Trace) (follows : Follows s core t
     where
       step : LinkSeen → LinkSeen
       step = at_link k (with_login (accepted_of t) (moment_of t) session (login_reply s.server session) answer)
+
       logged_in : (answer : Option FilterAnswer)
           → (after_login_answer k answer (after_login s.server k session core)).links ≡ map (link_seen s (Said k cut (LoggedIn session answer) ∷ t)) (served_links t)
           → Follows s (after_login_answer k answer (after_login s.server k session core)) (Said k cut (LoggedIn session answer) ∷ t)

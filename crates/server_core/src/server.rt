@@ -246,8 +246,11 @@ impl Core {
         packet: &Packet,
         hearers: &[u32],
     ) -> Result<(), Memory>
-        ensures { OnOk result (self.new ≡ record self.old { seen = record self.old.seen {
-            heard = promised_all self.old.seen.links number packet.now.parts.source self.old.seen.moment hearers.now self.old.seen.heard } }) }
+        ensures { OnOk result (self.new ≡ record self.old {
+          seen = record self.old.seen {
+            heard = promised_all self.old.seen.links number packet.now.parts.source self.old.seen.moment hearers.now self.old.seen.heard;
+          };
+        }) }
     {
         promise_all(
             alloc,

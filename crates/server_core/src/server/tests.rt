@@ -3,6 +3,7 @@
 mod cores;
 mod filters;
 mod logins;
+mod messages;
 mod packets;
 mod relays;
 mod rounds;

@@ -16,6 +16,8 @@ pub(super) enum Row<'a> {
     Opens(u32, u16),
     /// The link brings these bytes.
     Says(u32, &'a [u8]),
+    /// The link's other side ends it.
+    Ends(u32),
     /// The link can take bytes again.
     Room(u32),
     /// The round ends, and it is so many seconds since 1970.
@@ -94,6 +96,7 @@ fn step<R: Threads + Sync + Abort>(rt: &R, alloc: Global, session: &mut Session,
     match row {
         Row::Opens(link, listener) => come(rt, session, opened(link, listener)),
         Row::Says(link, text) => come(rt, session, bytes(rt, link, text)),
+        Row::Ends(link) => come(rt, session, Event::Ended(link)),
         Row::Room(link) => come(rt, session, Event::Room(link)),
         Row::Tick(moment) => end_round(rt, alloc, session, Event::Tick(moment)),
         Row::Stop => end_round(rt, alloc, session, Event::Stop),
