@@ -1,5 +1,5 @@
 -- A table of heard stations keeps when links last heard calls.
-use Rattle.std.proofs.Common.{◌≡◌, ℕ, ◌-◌, ◌<◌, ◌≤◌, Bool, true, false, cond, not, ◌&&◌, ◌==◌, List, [], ◌∷◌, ◌++◌, Option, Some, None, Result, Ok, Err, OnOk, refl, sym, ap, ◌∙◌, subst, arith, true≢false, is_some}
+use Rattle.std.proofs.Common.{◌≡◌, ℕ, ◌-◌, ◌<◌, ◌≤◌, Bool, true, false, cond, filter, map, not, ◌&&◌, ◌==◌, List, [], ◌∷◌, ◌++◌, Option, Some, None, Result, Ok, Err, OnOk, refl, sym, ap, ◌∙◌, subst, arith, true≢false, is_some}
 use Rattle.std.specs.List.{All, AllByRecursion}
 use Rattle.std.specs.Map.{lookup}
 use Rattle.std.proofs.lemmas.Bool.{eqb-true, leb-true, leb-false}
@@ -8,8 +8,9 @@ use Rattle.aprs_base.specs.PacketSeen.{PacketSeen}
 use Rattle.filter_eval.specs.Passes.{is_some_and, is_text}
 use Rattle.station_table.specs.Last.{later_or}
 use Rattle.station_table.proofs.LastSeen.{told_more}
-use Rattle.heard_routing.specs.Entries.{HasEachOnce, is_key}
-use Rattle.heard_routing.specs.Heard.{HeardSeen, IsRisingListOf, heard_age, heard_at, is_receiver, is_recent, nothing, noted, recent, without_link}
+use Rattle.heard_routing.specs.Entries.{Entry, HasEachOnce, is_key}
+use Rattle.heard_routing.specs.Heard.{HeardSeen, IsRisingListOf, courtesies, heard_age, heard_at, is_receiver, is_recent, is_recent_entry, is_recent_of, link_of, nothing, noted, promise_age, receivers, recent, without_link}
+use Rattle.heard_routing.specs.Rising.{rising}
 use Rattle.heard_routing.specs.LastHeard.{Agrees, AgreesAt, IsFromElsewhere, IsHeard, but_not, heard_by, is_from, is_hearer, last_heard, still}
 use Rattle.heard_routing.proofs.EntryLemmas.{and_first, and_second}
 use Rattle.heard_routing.proofs.LookLemmas.{heard_noted, heard_recent, heard_without_link}
@@ -208,6 +209,38 @@ still_again age before now (Some moment) h = by (is_recent age before moment) (i
     by true c is now_is = refl
     by false true is now_is = absurd (true≢false (sym (recent_before age before now moment h now_is) ∙ is))
     by false false is now_is = ap (λ b. cond b (Some moment) None) (sym now_is)
+
+-- what agreed at an earlier moment
+pub agrees_later : (before now : ℕ) (lives : ℕ → Bool) (table : HeardSeen) (packets : List PacketSeen) → before ≤ now → AgreesAt before lives table packets → AgreesAt now lives table packets
+agrees_later before now lives table packets h agrees = record {
+  heard = λ link living call.
+      sym (still_again heard_age before now (heard_at table link call) h) ∙ ap (still heard_age now) (agrees.heard link living call)
+      ∙ still_again heard_age before now (last_heard packets link call) h;
+  others = agrees.others;
+}
+
+-- what is removed could not be given any more
+still_given : (age now later : ℕ) (call : List ℕ) (entries : List Entry) → now ≤ later
+    → filter (is_recent_of age call later) (filter (is_recent_entry age now) entries) ≡ filter (is_recent_of age call later) entries
+still_given age now later call [] h = refl
+still_given age now later call (e ∷ entries) h = by (still_given age now later call entries h) (is_recent_entry age now e) (is_recent_of age call later e) refl refl
+  where
+    by : filter (is_recent_of age call later) (filter (is_recent_entry age now) entries) ≡ filter (is_recent_of age call later) entries
+        → (b c : Bool) → is_recent_entry age now e ≡ b → is_recent_of age call later e ≡ c
+        → filter (is_recent_of age call later) (cond b (e ∷ filter (is_recent_entry age now) entries) (filter (is_recent_entry age now) entries))
+        ≡ cond (is_recent_of age call later e) (e ∷ filter (is_recent_of age call later) entries) (filter (is_recent_of age call later) entries)
+    by rest true c now_is is = ap (λ l. cond (is_recent_of age call later e) (e ∷ l) l) rest
+    by rest false true now_is is =
+        let recent' = and_second (is_text call e.0.1) (is_recent age later e.1) is in
+        absurd (true≢false (sym (recent_before age now later e.1 h recent') ∙ now_is))
+    by rest false false now_is is = rest ∙ ap (λ b. cond b (e ∷ filter (is_recent_of age call later) entries) (filter (is_recent_of age call later) entries)) (sym is)
+
+pub given_later : (now later : ℕ) (table : HeardSeen) (call : List ℕ) → now ≤ later
+    → (receivers (recent now table) call later ≡ receivers table call later) × (courtesies (recent now table) call later ≡ courtesies table call later)
+given_later now later table call h = (
+  ap (λ entries. rising (map link_of entries)) (still_given heard_age now later call table.heard h),
+  ap (λ entries. rising (map link_of entries)) (still_given promise_age now later call table.promises h),
+)
 
 pub recent_agrees_at : (before now : ℕ) (lives : ℕ → Bool) (table : HeardSeen) (packets : List PacketSeen) → HasEachOnce table.heard → before ≤ now → AgreesAt before lives table packets
     → AgreesAt now lives (recent now table) packets

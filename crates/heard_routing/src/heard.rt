@@ -1,7 +1,6 @@
 //! The table of heard stations and of promises.
 ghost use Rattle.std.specs.Prelude.{◌≡◌, ℕ, ◌≤◌, Bool, true, ◌++◌, ◌∷◌, [], List, OnOk, OnErr, IfOk};
 ghost use Rattle.aprs_base.specs.PacketSeen.{PacketSeen};
-ghost use Rattle.heard_routing.specs.Entries.{HasEachOnce};
 ghost use Rattle.heard_routing.specs.LastHeard.{Agrees, AgreesAt, IsHeard, but_not, is_hearer};
 ghost use Rattle.heard_routing.specs.Heard.{IsRisingListOf, courtesies, is_promised, is_receiver, nothing, noted, promised, receivers, recent, without_link, without_promises};
 
@@ -132,6 +131,8 @@ impl Heard {
     /// what was promised more than half an hour before.
     pub fn expire(&mut self, now: u64)
         ensures kept { self.new ≡ recent now self.old }
+        // From now on the same links are given as without it.
+        ensures given { (call : List ℕ) (later : ℕ) → now ≤ later → (receivers self.new call later ≡ receivers self.old call later) × (courtesies self.new call later ≡ courtesies self.old call later) }
         ensures last_at { (before : ℕ) (lives : ℕ → Bool) (packets : List PacketSeen) → before ≤ now → AgreesAt before lives self.old packets → AgreesAt now lives self.new packets }
     {
         keep_recent(&mut self.heard, now, HEARD_AGE);

@@ -2,7 +2,6 @@
 ghost use Rattle.std.specs.Prelude.{◌≡◌, ◌++◌, map, filter, IfOk, OnOk, OnErr};
 ghost use Rattle.heard_routing.specs.Entries.{HasEachOnce};
 ghost use Rattle.heard_routing.specs.Heard.{IsRisingListOf, has_recent, is_recent_of, link_of, links_with};
-ghost use Rattle.heard_routing.specs.Rising.{rising};
 
 use crate::entries::{Entry, is_recent};
 use aprs_base::{Call, Memory};
