@@ -49,4 +49,4 @@ own_place trace link = login_in (accepted_of trace) (moment_of trace) (session_o
 abbrev pub filter_passes : Trace → PacketSeen → ℕ → Bool
 filter_passes trace packet link =
     passes_of (filter_of trace link) packet (friends_of trace link) (own_place trace link)
-        (sighting (accepted_of trace) (moment_of trace) packet.parts.source) (is_gate_at (accepted_of trace) (moment_of trace) packet.parts.source)
+    (sighting (accepted_of trace) (moment_of trace) packet.parts.source) (is_gate_at (accepted_of trace) (moment_of trace) packet.parts.source)

@@ -1,7 +1,7 @@
 -- The steps of the core, and the trace that it follows.
-use Rattle.std.proofs.Common.{◌≡◌, ℕ, ◌<◌, ◌==◌, ◌∷◌, ◌++◌, [], List, map, filter, refl, sym, ap, ◌∙◌, subst, true, false, Option, Some, None, max, min, append-nil, arith, ⊎_elim, ◌||◌, if◌then◌else◌, not, cond, ◌^◌, IfOk, Result, Ok, Err, Vec, Global}
+use Rattle.std.proofs.Common.{◌≡◌, ℕ, ◌<◌, ◌==◌, ◌∷◌, ◌++◌, [], List, map, filter, refl, sym, ap, ◌∙◌, subst, true, false, Option, Some, None, max, min, append-nil, arith, ⊎_elim, ◌||◌, not, cond, ◌^◌, IfOk, Result, Ok, Err, Vec, Global}
 use Rattle.std.specs.List.{flat_map}
-use Rattle.std.proofs.lemmas.Bool.{true≢false, eqb-true, cases_Bool}
+use Rattle.std.proofs.lemmas.Bool.{true≢false, cases_Bool}
 use Rattle.aprs_base.specs.Held.{held_after}
 use Rattle.aprs_base.specs.declared.texts.Addr.{Addr}
 use Rattle.aprs_base.specs.declared.cutting.Cut.{Cut}
@@ -15,7 +15,7 @@ use Rattle.aprs_history.specs.Trace.{Trace, Ticked, Opened, Brought, Said, Roome
 use Rattle.aprs_history.specs.Links.{session_of, opening_of, brought_by, gone_links}
 use Rattle.aprs_history.specs.History.{begin_round, end_all}
 use Rattle.aprs_history.specs.Stands.{LinkSeen, link_seen, Follows}
-use Rattle.server_core.specs.LinkSteps.{at_link, has_that, has_number, is_there, is_another, with_room, with_bytes, new_link_seen, numbers, Rises, session_at, held_at, picked_at, session_kept, held_kept, filters_at, filters_kept, only_at, only_kept, others_at, at_moment, forgotten_all, is_lost}
+use Rattle.server_core.specs.LinkSteps.{at_link, has_that, has_number, is_there, is_another, with_room, with_bytes, new_link_seen, numbers, Rises, session_at, held_at, session_kept, held_kept, filters_at, filters_kept, only_at, only_kept, others_at, at_moment, forgotten_all, is_lost}
 use Rattle.heard_routing.specs.Heard.{HeardSeen, without_link}
 use Rattle.aprs_conf.specs.Seen.{ConfSeen}
 use Rattle.server_core.specs.Meaning.{CoreMeaning, setting_of}

@@ -1,17 +1,13 @@
 -- A step at the link of one number, among links whose numbers rise.
-use Rattle.std.proofs.Common.{◌≡◌, ℕ, zero, suc, ◌+◌, ◌≤◌, ◌<◌, Bool, true, false, List, [], ◌∷◌, length, Option, if◌then◌else◌, get_or, map, refl, sym, ap, ◌∙◌, subst, arith, eq-eqb, Some, None, slice_set, ⊎_elim, cond, nat_lt, ◌||◌, ◌++◌, take, drop, add-one, filter, le_refl, take_all, append-nil, ◌==◌}
+use Rattle.std.proofs.Common.{◌≡◌, ℕ, zero, suc, ◌+◌, ◌≤◌, ◌<◌, Bool, true, false, List, [], ◌∷◌, length, get_or, map, refl, sym, ap, ◌∙◌, subst, arith, eq-eqb, Some, None, slice_set, ⊎_elim, cond, nat_lt, ◌||◌, ◌++◌, take, drop, add-one, filter, le_refl, take_all, append-nil, ◌==◌}
 use Rattle.std.specs.List.{position, position_or_len, list_any, zip}
 use Rattle.std.proofs.lemmas.Bool.{ltb-true, ltb-false, cases_Bool, false_from_ne_true, eqb-true, true≢false}
 use Rattle.std.proofs.lemmas.List.Sums.{passes_at_first, fails_before_first}
 use Rattle.std.proofs.lemmas.List.Folds.{list_any_none}
 use Rattle.std.proofs.lemmas.List.{drop_all}
-use Rattle.aprs_base.specs.PacketSeen.{PacketSeen}
-use Rattle.filter_eval.specs.declared.seen.Seen.{Seen}
-use Rattle.station_table.specs.Stations.{seen_in}
 use Rattle.aprs_history.specs.Trace.{is_member}
 use Rattle.aprs_history.specs.Stands.{LinkSeen}
-use Rattle.server_core.specs.LinkSteps.{AreServed, Rises, at_link, has_that, picked_at, with_copy, with_packet, wants_packet, with_seen, with_text, has_number, numbers}
-use Rattle.server_core.specs.declared.link.SourcePlace.{SourcePlace}
+use Rattle.server_core.specs.LinkSteps.{AreServed, Rises, at_link, has_that, picked_at, has_number, numbers}
 
 -- numbers that differ
 pub not_that : (number : ℕ) (link : LinkSeen) → (link.link ≡ number → ⊥) → has_that number link ≡ false

@@ -1,15 +1,11 @@
 -- The walk over a round: what the core keeps follows the trace, entry by entry.
-use Rattle.std.proofs.Common.{◌≡◌, ℕ, ◌+◌, ◌≤◌, ◌<◌, ◌==◌, Bool, true, false, not, ◌||◌, List, [], ◌∷◌, ◌++◌, length, map, filter, refl, sym, ap, ◌∙◌, subst, arith, Option, Some, None, ⊎_elim, append-nil, append_assoc, length-append, max, min, eq-eqb, cond, if◌then◌else◌}
+use Rattle.std.proofs.Common.{◌≡◌, ℕ, ◌+◌, ◌≤◌, ◌<◌, ◌==◌, Bool, true, false, not, ◌||◌, List, [], ◌∷◌, ◌++◌, length, map, filter, refl, sym, ap, ◌∙◌, subst, arith, Option, Some, None, ⊎_elim, append-nil, append_assoc, max, min, eq-eqb, cond, if◌then◌else◌}
 use Rattle.std.proofs.lemmas.Bool.{eqb-true, cases_Bool, false_from_ne_true, true≢false}
-use Rattle.std.proofs.lemmas.List.Concat.{flat_map-append}
 use Rattle.aprs_base.specs.Held.{held_after}
 use Rattle.aprs_base.specs.declared.texts.Addr.{Addr}
 use Rattle.aprs_base.specs.declared.cutting.Cut.{Cut}
 use Rattle.aprs_base.specs.declared.packets.Parts.{Parts}
 use Rattle.aprs_base.specs.declared.packets.PortKind.{PortKind}
-use Rattle.aprs_base.specs.PacketSeen.{PacketSeen}
-use Rattle.filter_lang.specs.Terms.{TermSeen}
-use Rattle.filter_eval.specs.declared.seen.Seen.{Seen}
 use Rattle.heard_routing.specs.Heard.{HeardSeen, without_link}
 use Rattle.station_table.specs.Last.{Agrees}
 use Rattle.station_table.proofs.LastSeen.{note_agrees}
@@ -24,10 +20,10 @@ use Rattle.aprs_history.specs.Links.{brought_by, opening_of, taken_by, is_gone, 
 use Rattle.aprs_history.specs.Scenes.{accepted_of, has_filters, packet_of}
 use Rattle.aprs_history.specs.Messages.{heard_of, promise_of}
 use Rattle.aprs_history.specs.Sights.{friend_in, is_gate_at, sighting}
-use Rattle.aprs_history.specs.Texts.{lines_of, text_bytes, ended_line, added_by, login_reply, refusal_reply}
+use Rattle.aprs_history.specs.Texts.{lines_of, text_bytes, added_by, login_reply, refusal_reply}
 use Rattle.aprs_history.specs.Stands.{LinkSeen, CoreSeen, link_seen, TookNoMore, Follows, Remembers}
 use Rattle.aprs_history.specs.History.{end_all, begin_round}
-use Rattle.server_core.specs.LinkSteps.{filters_at, filters_kept, forgotten_all, hearers_of, is_lost, owed_in, receiver_of, after_answer, after_login, after_login_answer, after_packet, after_verdict, found_in, has_that, with_answer, with_reply, at_link, at_moment, with_room, when_gone, with_taken, with_bytes, with_text, with_session, with_packet, new_link_seen, numbers, place_young, source_found, is_there, is_another, Rises}
+use Rattle.server_core.specs.LinkSteps.{filters_at, filters_kept, forgotten_all, hearers_of, is_lost, owed_in, receiver_of, after_answer, after_login, after_login_answer, after_packet, after_verdict, found_in, has_that, with_answer, with_reply, at_link, at_moment, with_room, when_gone, with_taken, with_bytes, with_text, with_session, with_packet, new_link_seen, numbers, is_there, is_another, Rises}
 use Rattle.server_core.specs.declared.link.SourcePlace.{SourcePlace}
 use Rattle.server_core.proofs.SightLemmas.{answer_same, friends_found, map_same, sighting_found, source_known}
 use Rattle.server_core.proofs.MemberLemmas.{eqb_turned, member_filtered, member_later}

@@ -22,7 +22,7 @@ use Rattle.aprs_history.specs.declared.verdicts.Verdict.TheVariants.{PassedOver,
 use Rattle.aprs_history.specs.Scenes.{has_filters, is_only, packet_of, verified_login}
 use Rattle.aprs_history.specs.Messages.{is_message, is_position, is_to_login}
 use Rattle.aprs_history.specs.Sights.{named_call}
-use Rattle.aprs_history.specs.Texts.{banner, filter_reply, filter_words, login_reply, port_wants, refusal_reply, refused_filter}
+use Rattle.aprs_history.specs.Texts.{banner, filter_words, login_reply, port_wants, refusal_reply, refused_filter}
 use Rattle.server_core.specs.declared.link.SourcePlace.{SourcePlace}
 use Rattle.server_core.specs.Pending.{with_line, without_bytes, pending_bytes}
 

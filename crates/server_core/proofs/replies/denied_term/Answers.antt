@@ -1,5 +1,4 @@
-use Rattle.std.proofs.Common.{◌≡◌, ◌≤◌, ◌++◌, ap, arith, codes, length, length-append, refl, subst, sym, List, ℕ, ◌∙◌}
-use Rattle.std.specs.Fmt.{decimal}
+use Rattle.std.proofs.Common.{◌≤◌, ◌++◌, ap, codes, length, subst, sym, List, ℕ, ◌∙◌}
 use Rattle.aprs_base.specs.Bytes.{IsInner}
 use Rattle.server_core.proofs.VerdictLemmas.{term_words}
 use Rattle.server_core.proofs.replies.denied_term.Goals as goal
