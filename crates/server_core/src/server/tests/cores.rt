@@ -4,6 +4,7 @@ ghost use Rattle.aprs_base.specs.Outside.{new_link};
 ghost use Rattle.aprs_history.specs.History.{is_round_event};
 ghost use Rattle.aprs_history.specs.Rounds.{AreFresh, is_whole};
 ghost use Rattle.server_core.specs.LinkSteps.{has_number};
+ghost use Rattle.server_core.specs.Meaning.{numbered};
 
 use super::super::Core;
 use crate::acts::Acts;
@@ -35,16 +36,22 @@ fn listen(alloc: Global, kind: PortKind) -> Listen {
     }
 }
 
-fn conf_of(alloc: Global, server: Call, listens: Vec<Listen>) -> Conf
+/// A full port, an igate port and one for clients alone.
+fn conf_of<R: Abort>(rt: &R, alloc: Global, server: Call) -> Conf
     ensures server { result.server ≡ server }
-    ensures listens { result.listens ≡ listens.items }
+    ensures listens { length (numbered result.listens) ≤ 16 }
 {
+    let listens = [
+        listen(alloc, PortKind::Full),
+        listen(alloc, PortKind::Igate),
+        listen(alloc, PortKind::Only),
+    ];
     Conf {
         server,
         code: 8385,
         admin: no_text(alloc),
         email: no_text(alloc),
-        listens,
+        listens: Vec::from_array(alloc, listens).expect(rt, "memory"),
         uplinks: Vec::new(alloc),
         group: None,
         peers: Vec::new(alloc),
@@ -54,22 +61,12 @@ fn conf_of(alloc: Global, server: Call, listens: Vec<Listen>) -> Conf
     }
 }
 
-/// A core with this call, which listens on a full port, on an igate port and on one for clients alone.
+/// A core with this call and those ports.
 pub(super) fn core_of<R: RandomSource + Abort>(rt: &R, alloc: Global, server: &[u8]) -> Core {
     let server = Call::read(server).expect(rt, "a call");
     assert!(rt; server.is_station());
-    let listens = Vec::from_array(
-        alloc,
-        [
-            listen(alloc, PortKind::Full),
-            listen(alloc, PortKind::Igate),
-            listen(alloc, PortKind::Only),
-        ],
-    )
-    .expect(rt, "memory");
-    assert!(rt; listens.len() == 3);
     let hasher = RandomState::new(rt).expect(rt, "a hasher");
-    Core::new(alloc, &hasher, conf_of(alloc, server, listens), 1).expect(rt, "memory")
+    Core::new(alloc, &hasher, conf_of(rt, alloc, server), 1).expect(rt, "memory")
 }
 
 pub(super) fn opened(link: u32, listener: u16) -> Event {
@@ -145,18 +142,24 @@ pub(super) fn is_served(core: &Core, link: u32) -> bool
     core.links.iter().any(|served| served.number == link)
 }
 
-/// The link is offered these bytes, and takes at most so many.
-pub(super) fn take_next<R: Abort>(rt: &R, core: &mut Core, link: u32, want: &[u8], most: usize) {
-    let mut out = [0; 600];
-    assert!(rt; is_served(core, link));
-    let count = core.offer(link, &mut out);
-    assert!(rt; &out[..count] == want);
-    core.took(link, count, count.min(most));
+fn is_wanted(bytes: &[u8], want: Option<&[u8]>) -> bool {
+    match want {
+        Some(want) => bytes == want,
+        None => true,
+    }
 }
 
-pub(super) fn drain<R: Abort>(rt: &R, core: &mut Core, link: u32) {
+/// The link is offered these bytes, where some are named, and takes at most so many.
+pub(super) fn take_next<R: Abort>(
+    rt: &R,
+    core: &mut Core,
+    link: u32,
+    want: Option<&[u8]>,
+    most: usize,
+) {
     let mut out = [0; 600];
     assert!(rt; is_served(core, link));
     let count = core.offer(link, &mut out);
-    core.took(link, count, count);
+    assert!(rt; is_wanted(&out[..count], want));
+    core.took(link, count, count.min(most));
 }

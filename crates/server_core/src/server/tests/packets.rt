@@ -1,5 +1,5 @@
 //! What one client says, and another hears.
-use super::session::{Row, core_after, repeated, run};
+use super::session::{Row, repeated, run};
 use std::alloc::Global;
 use std::marker::Sync;
 use std::process::Abort;
@@ -96,22 +96,19 @@ fn drops_duplicates_for_half_a_minute(rt: HostRuntime) {
     run(&rt, rt.alloc(), b"T2TEST", &TWO_CLIENTS, &REPEATS);
 }
 
-const TWO_BODIES: [Row<'static>; 2] = [
+const TWO_BODIES: [Row<'static>; 4] = [
     Row::Says(
         1,
         b"N0CALL>APRS:!4903.50N/07201.75W-\r\nN0CALL>APRS::K1ABC    :hi\r\n",
     ),
     Row::Tick(1000),
+    Row::Keeps(0, 1000, 1),
+    Row::Keeps(1, 1000, 8),
 ];
 
 #[test]
 fn reads_the_bodies_of_accepted_packets(rt: HostRuntime) {
-    let core = core_after(&rt, rt.alloc(), b"T2TEST", &TWO_CLIENTS, &TWO_BODIES);
-    assert!(rt; core.accepted.len() == 2);
-    let first = &core.accepted[0];
-    let second = &core.accepted[1];
-    assert!(rt; (first.moment, first.body.class) == (1000, 1));
-    assert!(rt; (second.moment, second.body.class) == (1000, 8));
+    run(&rt, rt.alloc(), b"T2TEST", &TWO_CLIENTS, &TWO_BODIES);
 }
 
 #[test]

@@ -1,6 +1,6 @@
 //! Sessions as tables of rows.
 use super::super::Core;
-use super::cores::{bytes, core_of, drain, opened, round, take_next};
+use super::cores::{bytes, core_of, is_served, opened, round, take_next};
 use crate::acts::Acts;
 use aprs_base::Event;
 use std::alloc::Global;
@@ -34,8 +34,14 @@ pub(super) enum Row<'a> {
     Drains(u32),
     /// These links were offered bytes after the last round.
     Offers(&'a [u32]),
-    /// The last round was a stop, and these links are closed.
+    /// These links are closed after the last round.
     Closes(&'a [u32]),
+    /// The last round was a stop.
+    Done,
+    /// The link isn't served.
+    Lacks(u32),
+    /// The accepted packet at this place, from 0, came at this moment, and its body has these classes.
+    Keeps(usize, u64, u16),
 }
 
 /// A core, the events of the round that goes on, and what was to be done after the last.
@@ -65,7 +71,21 @@ fn settle<R: Threads + Sync + Abort>(rt: &R, alloc: Global, session: &mut Sessio
     }
 }
 
+/// The round that goes on ends, and the link takes what it is offered.
 fn takes<R: Threads + Sync + Abort>(
+    rt: &R,
+    alloc: Global,
+    session: &mut Session,
+    link: u32,
+    want: Option<&[u8]>,
+    most: usize,
+) {
+    settle(rt, alloc, session);
+    take_next(rt, &mut session.core, link, want, most);
+}
+
+/// The same, where these bytes are offered, and none where there are none.
+fn gets<R: Threads + Sync + Abort>(
     rt: &R,
     alloc: Global,
     session: &mut Session,
@@ -73,23 +93,18 @@ fn takes<R: Threads + Sync + Abort>(
     want: &[u8],
     most: usize,
 ) {
-    settle(rt, alloc, session);
+    takes(rt, alloc, session, link, Some(want), most);
     assert!(rt; session.acts.offers.as_slice().contains(&link) != want.is_empty());
-    take_next(rt, &mut session.core, link, want, most);
 }
 
-fn drains<R: Threads + Sync + Abort>(rt: &R, alloc: Global, session: &mut Session, link: u32) {
-    settle(rt, alloc, session);
-    drain(rt, &mut session.core, link);
+fn are_same<R: Abort>(rt: &R, links: &[u32], want: &[u32]) {
+    assert!(rt; links == want);
 }
 
-fn offers<R: Abort>(rt: &R, acts: &Acts, links: &[u32]) {
-    assert!(rt; acts.offers.as_slice() == links);
-}
-
-fn closes<R: Abort>(rt: &R, acts: &Acts, links: &[u32]) {
-    assert!(rt; acts.done);
-    assert!(rt; acts.closes.as_slice() == links);
+fn keeps<R: Abort>(rt: &R, core: &Core, place: usize, moment: u64, class: u16) {
+    assert!(rt; place < core.accepted.len());
+    let packet = &core.accepted[place];
+    assert!(rt; packet.moment == moment && packet.body.class == class);
 }
 
 fn step<R: Threads + Sync + Abort>(rt: &R, alloc: Global, session: &mut Session, row: Row) {
@@ -101,11 +116,14 @@ fn step<R: Threads + Sync + Abort>(rt: &R, alloc: Global, session: &mut Session,
         Row::Tick(moment) => end_round(rt, alloc, session, Event::Tick(moment)),
         Row::Stop => end_round(rt, alloc, session, Event::Stop),
         Row::Gone(link) => session.core.gone(link),
-        Row::Gets(link, text) => takes(rt, alloc, session, link, text, 600),
-        Row::Takes(link, text, most) => takes(rt, alloc, session, link, text, most),
-        Row::Drains(link) => drains(rt, alloc, session, link),
-        Row::Offers(links) => offers(rt, &session.acts, links),
-        Row::Closes(links) => closes(rt, &session.acts, links),
+        Row::Gets(link, text) => gets(rt, alloc, session, link, text, 600),
+        Row::Takes(link, text, most) => gets(rt, alloc, session, link, text, most),
+        Row::Drains(link) => takes(rt, alloc, session, link, None, 600),
+        Row::Offers(links) => are_same(rt, session.acts.offers.as_slice(), links),
+        Row::Closes(links) => are_same(rt, session.acts.closes.as_slice(), links),
+        Row::Done => assert!(rt; session.acts.done),
+        Row::Lacks(link) => assert!(rt; !is_served(&session.core, link)),
+        Row::Keeps(place, moment, class) => keeps(rt, &session.core, place, moment, class),
     }
 }
 
@@ -134,22 +152,7 @@ fn new_session<R: RandomSource + Abort>(rt: &R, alloc: Global, server: &[u8]) ->
     }
 }
 
-/// The core of a server with this call, after a session that begins at 1000 and with the first rows, and goes on with more.
-pub(super) fn core_after<R: Threads + Sync + RandomSource + Abort>(
-    rt: &R,
-    alloc: Global,
-    server: &[u8],
-    first: &[Row],
-    more: &[Row],
-) -> Core {
-    let mut session = new_session(rt, alloc, server);
-    play(rt, alloc, &mut session, &[Row::Tick(1000)]);
-    play(rt, alloc, &mut session, first);
-    play(rt, alloc, &mut session, more);
-    session.core
-}
-
-/// The same, where only the rows are asked for.
+/// A session of a server with this call, which begins at 1000 and with the first rows, and goes on with more.
 pub(super) fn run<R: Threads + Sync + RandomSource + Abort>(
     rt: &R,
     alloc: Global,
@@ -157,7 +160,10 @@ pub(super) fn run<R: Threads + Sync + RandomSource + Abort>(
     first: &[Row],
     more: &[Row],
 ) {
-    core_after(rt, alloc, server, first, more);
+    let mut session = new_session(rt, alloc, server);
+    play(rt, alloc, &mut session, &[Row::Tick(1000)]);
+    play(rt, alloc, &mut session, first);
+    play(rt, alloc, &mut session, more);
 }
 
 /// The head, so many times the piece, and the end.
