@@ -5,8 +5,6 @@ use Rattle.std.proofs.lemmas.Fmt.{decimal-digits_of, decimal_digit}
 use Rattle.aprs_base.specs.declared.events.Event.TheVariants as event
 use Rattle.aprs_base.specs.declared.events.Happening.{Happening}
 use Rattle.aprs_base.specs.declared.events.Happening.TheVariants as did
-use Rattle.aprs_base.specs.declared.packets.ListenSpec.{ListenSpec}
-use Rattle.aprs_base.specs.declared.packets.PortKind.{PortKind}
 use Rattle.aprs_base.specs.declared.packets.PortKind.TheVariants as kind
 use Rattle.aprs_body.specs.Bodies.{body_of}
 use Rattle.aprs_position.specs.Either.{either_place}
@@ -24,19 +22,16 @@ use Rattle.q_construct.specs.Rule.{process_of, given_drops, built_drops, built_r
 use Rattle.tnc2_line.specs.Packet.{parts_of, text_of, via_of, head_of}
 use Rattle.aprs_history.specs.Setting.{Setting}
 use Rattle.aprs_history.specs.History.{History, trace_of}
-use Rattle.aprs_history.specs.Texts.{added_by, banner, lines_of}
+use Rattle.aprs_history.specs.Texts.{added_by, banner, lines_of, plain}
 use Rattle.aprs_history.specs.Verdicts.{Scene}
 use Rattle.aprs_history.specs.declared.verdicts.FilterAnswer.TheVariants.{Denied}
 use Rattle.aprs_history.specs.declared.verdicts.FilterFault.TheVariants as filter_fault
 use Rattle.aprs_history.specs.declared.verdicts.Verdict.TheVariants.{PassedOver, Filtered}
-use Rattle.aprs_history.proofs.Rows.{client, crlf, link_of, stranger, verdict_on}
-
-abbrev listen : PortKind → ℕ → ListenSpec
-listen kind port = record { kind = kind; at = record { ip = 0 ∷ 0 ∷ 0 ∷ 0 ∷ []; port = port } }
+use Rattle.aprs_history.proofs.Rows.{client, crlf, link_of, listen, server_on, stranger, verdict_on}
 
 -- a full port and an igate port
 setting : Setting
-setting = record { server = codes "T2TEST"; listens = listen kind.Full 10152 ∷ listen kind.Igate 14580 ∷ [] }
+setting = server_on (listen kind.Full 10152 ∷ listen kind.Igate 14580 ∷ [])
 
 -- ---- numbers
 
@@ -72,7 +67,7 @@ igate_stranger = record stranger { filters = true }
 
 -- what a link is told after its line
 abbrev told : Scene → List ℕ → List (List ℕ)
-told scene text = added_by setting [] 1 (verdict_on scene text) 1
+told scene text = plain (added_by setting [] 1 (verdict_on scene text) 1)
 
 two_terms : told igate (codes "#filter b/K1* -p/K1A") ≡ codes "# filter b/K1* -p/K1A active" ∷ []
 unfolding terms_of term_of what_of other_of named_of name_of excess_of canonical term_text

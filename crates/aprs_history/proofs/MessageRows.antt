@@ -1,7 +1,6 @@
 -- Small histories with messages, and what the definitions say of them.
 use Rattle.std.proofs.Common.{◌≡◌, refl, ℕ, List, [], ◌∷◌, ◌++◌, codes}
 use Rattle.aprs_base.specs.declared.packets.PortKind.TheVariants as kind
-use Rattle.aprs_base.specs.declared.texts.Addr.{Addr}
 use Rattle.aprs_base.specs.declared.events.Event.TheVariants as event
 use Rattle.aprs_base.specs.declared.events.Happening.{Happening}
 use Rattle.aprs_base.specs.declared.events.Happening.TheVariants as did
@@ -16,16 +15,10 @@ use Rattle.tnc2_line.specs.Packet.{parts_of, text_of, via_of, head_of}
 use Rattle.aprs_history.specs.Setting.{Setting}
 use Rattle.aprs_history.specs.History.{History, trace_of}
 use Rattle.aprs_history.specs.Texts.{lines_of, banner}
+use Rattle.aprs_history.proofs.Rows.{client, listen, server_on}
 
 setting : Setting
-setting = record {
-  server = codes "T2TEST";
-  listens = record { kind = kind.Full; at = record { ip = 0 ∷ 0 ∷ 0 ∷ 0 ∷ []; port = 10152 } }
-      ∷ record { kind = kind.Igate; at = record { ip = 0 ∷ 0 ∷ 0 ∷ 0 ∷ []; port = 14580 } } ∷ [];
-}
-
-client : Addr
-client = record { ip = 10 ∷ 0 ∷ 0 ∷ 7 ∷ []; port = 4000 }
+setting = server_on (listen kind.Full 10152 ∷ listen kind.Igate 14580 ∷ [])
 
 abbrev said : ℕ → List ℕ → Happening
 said link line = did.Event (event.Bytes link (line ++ 13 ∷ 10 ∷ []))
@@ -80,3 +73,23 @@ message_to_login : lines_of setting (trace_of setting (said 2 (codes "OH7LZB>APR
     ≡ greeted ++ codes "OH7LZB>APRS,TCPIP*,qAC,T2TEST::K1XYZ    :hello" ∷ []
 unfolding trace_of setting heard greeted client parts_of text_of via_of head_of login_of passcode_of process_of given_drops built_drops built_row rows body_of either_place plain_place fits passes_of
 message_to_login = refl
+
+-- nothing is kept for a link that has ended
+position_after_the_end : lines_of setting (trace_of setting (said 2 (codes "OH7LZB>APRS:!4903.50N/07201.75W-") ∷ at_moment 13600 ∷ did.Event (event.Ended 1) ∷ hello)) 1 ≡ greeted ++ told
+unfolding trace_of setting hello heard greeted told client parts_of text_of via_of head_of login_of passcode_of process_of given_drops built_drops built_row rows body_of either_place plain_place fits passes_of
+position_after_the_end = refl
+
+-- a position of the sender that the link itself brings spends the promise
+position_of_the_link : lines_of setting (trace_of setting (said 2 (codes "OH7LZB>APRS:!4903.50N/07201.75W-") ∷ said 1 (codes "OH7LZB>APRS,K1XYZ,I:!4903.50N/07201.76W-") ∷ hello)) 1
+    ≡ greeted ++ told
+unfolding trace_of setting hello heard greeted told client parts_of text_of via_of head_of login_of passcode_of process_of given_drops built_drops built_row rows body_of either_place plain_place fits passes_of
+position_of_the_link = refl
+
+-- after two messages one position goes along, and no second one
+again : History
+again = said 2 (codes "OH7LZB>APRS::K1ABC    :again") ∷ hello
+
+two_messages : lines_of setting (trace_of setting (said 2 (codes "OH7LZB>APRS:!4903.50N/07201.76W-") ∷ said 2 (codes "OH7LZB>APRS:!4903.50N/07201.75W-") ∷ again)) 1
+    ≡ greeted ++ told ++ codes "OH7LZB>APRS,TCPIP*,qAC,T2TEST::K1ABC    :again" ∷ placed
+unfolding trace_of setting again hello heard greeted told placed client parts_of text_of via_of head_of login_of passcode_of process_of given_drops built_drops built_row rows body_of either_place plain_place fits passes_of
+two_messages = refl

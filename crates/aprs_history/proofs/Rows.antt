@@ -1,6 +1,8 @@
 -- Small histories, and what the definitions say of them.
 use Rattle.std.proofs.Common.{◌≡◌, refl, ℕ, List, [], ◌∷◌, ◌++◌, ◌+◌, codes, map, Bool, true, false, Option, Some, None}
 use Rattle.aprs_base.specs.PacketSeen.{PacketSeen}
+use Rattle.aprs_base.specs.declared.packets.ListenSpec.{ListenSpec}
+use Rattle.aprs_base.specs.declared.packets.PortKind.{PortKind}
 use Rattle.aprs_base.specs.declared.packets.PortKind.TheVariants as kind
 use Rattle.aprs_base.specs.declared.texts.Addr.{Addr}
 use Rattle.aprs_base.specs.declared.events.Event.TheVariants as event
@@ -24,8 +26,24 @@ use Rattle.aprs_history.specs.declared.verdicts.Verdict.TheVariants.{PassedOver,
 use Rattle.aprs_history.specs.declared.verdicts.Refusal.TheVariants as refusal
 use Rattle.login_pass.specs.Passcode.{passcode_of}
 
+-- a server with these listeners, and else with the values that a configuration has where it says nothing
+abbrev pub server_on : List ListenSpec → Setting
+server_on listens = record {
+  server = codes "T2TEST";
+  code = 8385;
+  listens = listens;
+  uplinks = [];
+  peers = [];
+  up_timeout = 15;
+  client_timeout = 172800;
+  max_clients = 500;
+}
+
+abbrev pub listen : PortKind → ℕ → ListenSpec
+listen kind port = record { kind = kind; at = record { ip = 0 ∷ 0 ∷ 0 ∷ 0 ∷ []; port = port } }
+
 setting : Setting
-setting = record { server = codes "T2TEST"; listens = record { kind = kind.Full; at = record { ip = 0 ∷ 0 ∷ 0 ∷ 0 ∷ []; port = 10152 } } ∷ [] }
+setting = server_on (listen kind.Full 10152 ∷ [])
 
 unfoldable pub crlf : List ℕ
 crlf = 13 ∷ 10 ∷ []
@@ -129,6 +147,7 @@ stranger = record { server = codes "T2TEST"; only = false; filters = false; sess
 abbrev pub verdict_on : Scene → List ℕ → Verdict
 verdict_on scene text = verdict_of scene (cut.Line text)
 
+-- the line of a packet that is accepted
 abbrev sent_on : Verdict → Option (List ℕ)
 sent_on PassedOver = None
 sent_on (Refused why) = None
@@ -190,17 +209,22 @@ on_a_full_port = refl
 
 -- ---- duplicates
 
+-- the line of a packet that was accepted before, as it would be sent on
+abbrev shown_again : Verdict → Option (List ℕ)
+shown_again (Refused (refusal.Duplicate parts line)) = Some line
+shown_again verdict = None
+
 -- the verdict on a line, some seconds after the packet of the same link was accepted
 abbrev later_on : ℕ → List ℕ → Verdict
 later_on seconds text =
     let first = link_of (codes "N0CALL") true false [] in
     verdict_on (record first { moment = 1000 + seconds; accepted = accepted_by 1 1000 (verdict_on first (codes "N0CALL>APRS,WIDE1-1:>hi")) }) text
 
-again_by_another_path : later_on 5 (codes "N0CALL>APRS,WIDE2-2:>hi") ≡ Refused refusal.Duplicate
+again_by_another_path : shown_again (later_on 5 (codes "N0CALL>APRS,WIDE2-2:>hi")) ≡ Some (codes "N0CALL>APRS,TCPIP*,qAC,T2TEST:>hi")
 unfolding parts_of text_of via_of head_of process_of given_drops built_drops built_row rows
 again_by_another_path = refl
 
-again_after_29_seconds : later_on 29 (codes "N0CALL>APRS,WIDE1-1:>hi") ≡ Refused refusal.Duplicate
+again_after_29_seconds : shown_again (later_on 29 (codes "N0CALL>APRS,WIDE1-1:>hi")) ≡ Some (codes "N0CALL>APRS,TCPIP*,qAC,T2TEST:>hi")
 unfolding parts_of text_of via_of head_of process_of given_drops built_drops built_row rows
 again_after_29_seconds = refl
 
@@ -208,11 +232,11 @@ again_after_30_seconds : sent_on (later_on 30 (codes "N0CALL>APRS,WIDE1-1:>hi"))
 unfolding parts_of text_of via_of head_of process_of given_drops built_drops built_row rows
 again_after_30_seconds = refl
 
-again_with_an_ssid : later_on 5 (codes "N0CALL>APRS-4,WIDE1-1:>hi") ≡ Refused refusal.Duplicate
+again_with_an_ssid : shown_again (later_on 5 (codes "N0CALL>APRS-4,WIDE1-1:>hi")) ≡ Some (codes "N0CALL>APRS-4,TCPIP*,qAC,T2TEST:>hi")
 unfolding parts_of text_of via_of head_of process_of given_drops built_drops built_row rows
 again_with_an_ssid = refl
 
-again_with_blanks : later_on 5 (codes "N0CALL>APRS,WIDE1-1:>hi  ") ≡ Refused refusal.Duplicate
+again_with_blanks : shown_again (later_on 5 (codes "N0CALL>APRS,WIDE1-1:>hi  ")) ≡ Some (codes "N0CALL>APRS,TCPIP*,qAC,T2TEST:>hi  ")
 unfolding parts_of text_of via_of head_of process_of given_drops built_drops built_row rows
 again_with_blanks = refl
 

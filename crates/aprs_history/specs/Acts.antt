@@ -5,7 +5,7 @@ use Rattle.aprs_base.specs.declared.events.Happening.{Happening}
 use Rattle.aprs_base.specs.declared.events.Happening.TheVariants as did
 use Rattle.aprs_base.specs.declared.packets.ListenSpec.{ListenSpec}
 use Rattle.aprs_history.specs.Setting.{Setting}
-use Rattle.aprs_history.specs.Trace.{Trace, served_links, stopped_links}
+use Rattle.aprs_history.specs.Trace.{Trace, closed_links, served_links}
 use Rattle.aprs_history.specs.Links.{is_blocked, taken_by}
 use Rattle.aprs_history.specs.Texts.{lines_of, text_bytes, untaken}
 use Rattle.aprs_history.specs.History.{History, open_events, ends_round, is_stopped, trace_of}
@@ -33,7 +33,7 @@ offer_to setting trace link = Offers link (take 65536 (untaken setting trace lin
 
 -- after a round: an offer to each such link, and then a close of each that the server ended, in order
 abbrev pub acts_after : Setting → Trace → List Act
-acts_after setting trace = map (offer_to setting trace) (offered_links setting trace) ++ map Closes (stopped_links trace)
+acts_after setting trace = map (offer_to setting trace) (offered_links setting trace) ++ map Closes (closed_links trace)
 
 abbrev pub but_first : List Act → List Act
 but_first [] = []

@@ -9,9 +9,10 @@ use Rattle.aprs_base.specs.declared.events.Sent.{Sent}
 use Rattle.aprs_base.specs.declared.events.Sent.TheVariants as sent
 use Rattle.aprs_base.specs.declared.events.Happening.{Happening}
 use Rattle.aprs_base.specs.declared.events.Happening.TheVariants as did
+use Rattle.aprs_base.specs.declared.packets.PortKind.{PortKind}
 use Rattle.aprs_history.specs.Setting.{Setting, kind_at}
 use Rattle.aprs_history.specs.Verdicts.{verdict_of}
-use Rattle.aprs_history.specs.Trace.{Trace, Entry, EndReason, ByPeer, FoundGone, ByStop, Ticked, Opened, Brought, Said, Roomed, Took, Lost, Ended, live_links, is_live}
+use Rattle.aprs_history.specs.Trace.{Trace, Entry, Admission, NoPort, Served, EndReason, ByPeer, FoundGone, ByStop, RoundBegan, Ticked, Opened, Brought, Said, Roomed, Took, Lost, Ended, live_links, is_live}
 use Rattle.aprs_history.specs.Links.{brought_by, gone_links}
 use Rattle.aprs_history.specs.Scenes.{scene_of}
 
@@ -83,7 +84,17 @@ say_all setting link (cut ∷ cuts) trace = say_all setting link cuts (Said link
 
 -- what begins a round: the links that were found gone end
 abbrev pub begin_round : Trace → Trace
-begin_round trace = end_all FoundGone (gone_links trace) trace
+begin_round trace = end_all FoundGone (gone_links trace) (RoundBegan ∷ trace)
+
+-- what ends a round: after a stop all links that live end
+abbrev pub end_round : Bool → Trace → Trace
+end_round false trace = trace
+end_round true trace = end_all ByStop (live_links trace) trace
+
+-- a connection is served where the listener is one for clients
+abbrev pub admitted : Option PortKind → Admission
+admitted None = NoPort
+admitted (Some kind) = Served kind
 
 abbrev pub bring : Setting → ℕ → List ℕ → Trace → Trace
 bring setting link bytes trace = say_all setting link (cuts_by (brought_by trace link) bytes) (Brought link bytes ∷ trace)
@@ -94,17 +105,23 @@ with_bytes_of setting link bytes trace = if is_live trace link then bring settin
 -- what an event adds; one that names a link that doesn't live adds nothing
 abbrev pub with_event : Setting → Event → Trace → Trace
 with_event setting (event.Tick moment) trace = Ticked moment ∷ trace
-with_event setting (event.Opened listener link from) trace = Opened (kind_at setting listener) link from ∷ trace
+with_event setting (event.Opened listener link from) trace = Opened listener (admitted (kind_at setting listener)) link from ∷ trace
 with_event setting (event.Bytes link bytes) trace = with_bytes_of setting link bytes trace
 with_event setting (event.Ended link) trace = if is_live trace link then Ended link ByPeer ∷ trace else trace
 with_event setting (event.Room link) trace = if is_live trace link then Roomed link ∷ trace else trace
-with_event setting event.Stop trace = end_all ByStop (live_links trace) trace
+with_event setting event.Stop trace = trace
 with_event setting (event.Joined uplink link at) trace = trace
 with_event setting (event.Unjoined uplink) trace = trace
 with_event setting (event.Datagram listener from bytes) trace = trace
 
+-- the trace where an event comes after so many in its round
 abbrev pub begun : ℕ → Trace → Trace
 begun before trace = if before == 0 then begin_round trace else trace
+
+-- and once the event is there, which ends the round or doesn't
+abbrev pub ended : Bool → Event → Trace → Trace
+ended false e trace = trace
+ended true e trace = end_round (is_stop e) trace
 
 abbrev pub sent_entry : ℕ → List ℕ → Sent → Entry
 sent_entry link bytes (sent.Took n) = Took link (length bytes) n
@@ -112,7 +129,8 @@ sent_entry link bytes sent.Gone = Lost link
 
 unfoldable pub trace_of : Setting → History → Trace
 trace_of setting [] = []
-trace_of setting (did.Event e ∷ earlier) = with_event setting e (begun (open_events earlier) (trace_of setting earlier))
+trace_of setting (did.Event e ∷ earlier) =
+    ended (ends_round (open_events earlier) e) e (with_event setting e (begun (open_events earlier) (trace_of setting earlier)))
 trace_of setting (did.Sent link bytes outcome ∷ earlier) = sent_entry link bytes outcome ∷ trace_of setting earlier
 trace_of setting (did.Listen n ∷ earlier) = trace_of setting earlier
 trace_of setting (did.Closed link ∷ earlier) = trace_of setting earlier

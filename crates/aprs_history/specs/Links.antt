@@ -8,7 +8,7 @@ use Rattle.aprs_history.specs.declared.verdicts.FilterAnswer.TheVariants.{Active
 use Rattle.aprs_history.specs.declared.verdicts.Session.{Session}
 use Rattle.aprs_history.specs.declared.verdicts.Verdict.{Verdict}
 use Rattle.aprs_history.specs.declared.verdicts.Verdict.TheVariants.{PassedOver, Refused, LoggedIn, Filtered, Accepted}
-use Rattle.aprs_history.specs.Trace.{Trace, Opened, Brought, Said, Roomed, Took, Lost, moment_of, live_links}
+use Rattle.aprs_history.specs.Trace.{Trace, Admission, NoPort, Served, Opened, Brought, Said, Roomed, Took, Lost, moment_of, live_links}
 
 -- a link's opening: what it serves, where it came from, and when
 pub record Opening : Type 0 where
@@ -16,26 +16,26 @@ pub record Opening : Type 0 where
   pub from : Addr
   pub moment : ℕ
 
-abbrev pub opening_by : Option PortKind → Addr → ℕ → Option Opening
-opening_by None from moment = None
-opening_by (Some kind) from moment = Some (record { kind = kind; from = from; moment = moment })
+abbrev pub opening_by : Admission → Addr → ℕ → Option Opening
+opening_by NoPort from moment = None
+opening_by (Served kind) from moment = Some (record { kind = kind; from = from; moment = moment })
 
 abbrev pub opening_of : Trace → ℕ → Option Opening
 opening_of [] link = None
-opening_of (Opened serves opened from ∷ earlier) link = if link == opened then opening_by serves from (moment_of earlier) else opening_of earlier link
+opening_of (Opened listener admission opened from ∷ earlier) link = if link == opened then opening_by admission from (moment_of earlier) else opening_of earlier link
 opening_of (entry ∷ earlier) link = opening_of earlier link
 
 -- when its last bytes came, or else it was opened
 abbrev pub last_heard : Trace → ℕ → ℕ
 last_heard [] link = 0
-last_heard (Opened serves opened from ∷ earlier) link = if link == opened then moment_of earlier else last_heard earlier link
+last_heard (Opened listener admission opened from ∷ earlier) link = if link == opened then moment_of earlier else last_heard earlier link
 last_heard (Brought from bytes ∷ earlier) link = if link == from then moment_of earlier else last_heard earlier link
 last_heard (entry ∷ earlier) link = last_heard earlier link
 
 -- all that it brought
 abbrev pub brought_by : Trace → ℕ → List ℕ
 brought_by [] link = []
-brought_by (Opened serves opened from ∷ earlier) link = if link == opened then [] else brought_by earlier link
+brought_by (Opened listener admission opened from ∷ earlier) link = if link == opened then [] else brought_by earlier link
 brought_by (Brought from bytes ∷ earlier) link = if link == from then brought_by earlier link ++ bytes else brought_by earlier link
 brought_by (entry ∷ earlier) link = brought_by earlier link
 
@@ -49,7 +49,7 @@ session_after (Accepted parts line) before = before
 -- the last accepted login
 abbrev pub session_of : Trace → ℕ → Option Session
 session_of [] link = None
-session_of (Opened serves opened from ∷ earlier) link = if link == opened then None else session_of earlier link
+session_of (Opened listener admission opened from ∷ earlier) link = if link == opened then None else session_of earlier link
 session_of (Said by cut verdict ∷ earlier) link = if link == by then session_after verdict (session_of earlier link) else session_of earlier link
 session_of (entry ∷ earlier) link = session_of earlier link
 
@@ -69,21 +69,21 @@ filter_after (Accepted parts line) before = before
 -- the last filter that was accepted, or else the empty one
 abbrev pub filter_of : Trace → ℕ → List TermSeen
 filter_of [] link = []
-filter_of (Opened serves opened from ∷ earlier) link = if link == opened then [] else filter_of earlier link
+filter_of (Opened listener admission opened from ∷ earlier) link = if link == opened then [] else filter_of earlier link
 filter_of (Said by cut verdict ∷ earlier) link = if link == by then filter_after verdict (filter_of earlier link) else filter_of earlier link
 filter_of (entry ∷ earlier) link = filter_of earlier link
 
 -- how many bytes of its text it took
 abbrev pub taken_by : Trace → ℕ → ℕ
 taken_by [] link = 0
-taken_by (Opened serves opened from ∷ earlier) link = if link == opened then 0 else taken_by earlier link
+taken_by (Opened listener admission opened from ∷ earlier) link = if link == opened then 0 else taken_by earlier link
 taken_by (Took by offered taken ∷ earlier) link = if link == by then taken_by earlier link + taken else taken_by earlier link
 taken_by (entry ∷ earlier) link = taken_by earlier link
 
 -- it took less than it was offered, and has had no room since
 abbrev pub is_blocked : Trace → ℕ → Bool
 is_blocked [] link = false
-is_blocked (Opened serves opened from ∷ earlier) link = if link == opened then false else is_blocked earlier link
+is_blocked (Opened listener admission opened from ∷ earlier) link = if link == opened then false else is_blocked earlier link
 is_blocked (Took by offered taken ∷ earlier) link = if link == by then nat_lt taken offered else is_blocked earlier link
 is_blocked (Roomed roomed ∷ earlier) link = if link == roomed then false else is_blocked earlier link
 is_blocked (entry ∷ earlier) link = is_blocked earlier link
@@ -91,7 +91,7 @@ is_blocked (entry ∷ earlier) link = is_blocked earlier link
 -- a send found it gone
 abbrev pub is_gone : Trace → ℕ → Bool
 is_gone [] link = false
-is_gone (Opened serves opened from ∷ earlier) link = if link == opened then false else is_gone earlier link
+is_gone (Opened listener admission opened from ∷ earlier) link = if link == opened then false else is_gone earlier link
 is_gone (Lost lost ∷ earlier) link = if link == lost then true else is_gone earlier link
 is_gone (entry ∷ earlier) link = is_gone earlier link
 

@@ -31,7 +31,7 @@ heard_after now from (Filtered answer) link call before = before
 -- when a packet of that source was last accepted from a link
 abbrev pub heard_of : Trace → ℕ → List ℕ → Option ℕ
 heard_of [] link call = None
-heard_of (Opened serves opened from ∷ earlier) link call = if link == opened then None else heard_of earlier link call
+heard_of (Opened listener admission opened from ∷ earlier) link call = if link == opened then None else heard_of earlier link call
 heard_of (Said from cut verdict ∷ earlier) link call = heard_after (moment_of earlier) from verdict link call (heard_of earlier link call)
 heard_of (entry ∷ earlier) link call = heard_of earlier link call
 
@@ -73,7 +73,7 @@ promise_by earlier from (Filtered answer) link sender before = before
 -- when a message of that sender last went to a link by hearing, with no position of the sender since
 abbrev pub promise_of : Trace → ℕ → List ℕ → Option ℕ
 promise_of [] link sender = None
-promise_of (Opened serves opened from ∷ earlier) link sender = if link == opened then None else promise_of earlier link sender
+promise_of (Opened listener admission opened from ∷ earlier) link sender = if link == opened then None else promise_of earlier link sender
 promise_of (Said from cut verdict ∷ earlier) link sender = promise_by earlier from verdict link sender (promise_of earlier link sender)
 promise_of (entry ∷ earlier) link sender = promise_of earlier link sender
 

@@ -1,12 +1,27 @@
--- What a history is judged by: the server's call, and its numbered listeners.
+-- What a history is judged by: the server and its passcode, where it listens, the servers that it speaks to, and its limits.
 use Rattle.std.specs.Prelude.{ℕ, Bool, true, false, List, Option, Some, None, slice_get}
 use Rattle.aprs_base.specs.declared.packets.ListenSpec.{ListenSpec}
 use Rattle.aprs_base.specs.declared.packets.PortKind.{PortKind}
 use Rattle.aprs_base.specs.declared.packets.PortKind.TheVariants as kind
+use Rattle.aprs_base.specs.declared.packets.UplinkSpec.{UplinkSpec}
+use Rattle.aprs_base.specs.declared.texts.Addr.{Addr}
 
+-- a server with which datagrams are exchanged
+pub record Peer : Type 0 where
+  pub call : List ℕ
+  pub at : Addr
+
+-- times are in seconds
 pub record Setting : Type 0 where
   pub server : List ℕ
+  pub code : ℕ
+  -- the numbered listeners, and last that of the peer group, where there is one
   pub listens : List ListenSpec
+  pub uplinks : List UplinkSpec
+  pub peers : List Peer
+  pub up_timeout : ℕ
+  pub client_timeout : ℕ
+  pub max_clients : ℕ
 
 -- the kinds of port to which clients connect; datagrams come to the others
 abbrev pub client_kind : PortKind → Option PortKind

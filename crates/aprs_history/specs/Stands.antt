@@ -71,13 +71,17 @@ pub record Remembers (table : HeardSeen) (trace : Trace) : Type 0 where
   pub heard : (link : ℕ) (call : List ℕ) → heard_at table link call ≡ (if is_live trace link then heard_of trace link call else None)
   pub promised : (link : ℕ) (sender : List ℕ) → promised_at table link sender ≡ (if is_live trace link then promise_of trace link sender else None)
 
+-- the tables have the accepted packets, and what they told of stations and links
+pub record Keeps (packets : List PacketSeen) (sights : StationsSeen) (routes : HeardSeen) (trace : Trace) : Type 0 where
+  pub accepted : packets ≡ accepted_of trace
+  pub stations : Agrees sights (accepted_of trace)
+  pub heard : Remembers routes trace
+
 -- the points of a core that hold after each entry of a trace
 pub record Follows (setting : Setting) (core : CoreSeen) (trace : Trace) : Type 0 where
   pub moment : core.moment ≡ moment_of trace
   pub links : core.links ≡ map (link_seen setting trace) (served_links trace)
-  pub accepted : core.accepted ≡ accepted_of trace
-  pub stations : Agrees core.stations (accepted_of trace)
-  pub heard : Remembers core.heard trace
+  pub tables : Keeps core.accepted core.stations core.heard trace
   pub took : TookNoMore setting trace
 
 -- a core stands for a history whose rounds are finished

@@ -1,5 +1,5 @@
 -- The text that each link is to take, line by line, and what of it is still to be taken.
-use Rattle.std.specs.Prelude.{ℕ, ◌==◌, ◌+◌, ◌-◌, ◌&&◌, ◌||◌, Bool, true, false, not, nat_le, is_some, List, [], ◌∷◌, ◌++◌, length, drop, codes, Option, Some, None, if◌then◌else◌}
+use Rattle.std.specs.Prelude.{ℕ, ◌==◌, ◌+◌, ◌-◌, ◌&&◌, ◌||◌, Bool, true, false, not, nat_le, is_some, List, [], ◌∷◌, ◌++◌, length, map, drop, codes, Option, Some, None, if◌then◌else◌}
 use Rattle.std.specs.List.{flat_map}
 use Rattle.std.specs.Fmt.{decimal}
 use Rattle.aprs_base.specs.PacketSeen.{PacketSeen}
@@ -17,7 +17,7 @@ use Rattle.aprs_history.specs.declared.verdicts.Refusal.{Refusal}
 use Rattle.aprs_history.specs.declared.verdicts.Refusal.TheVariants as refusal
 use Rattle.aprs_history.specs.declared.verdicts.Verdict.{Verdict}
 use Rattle.aprs_history.specs.declared.verdicts.Verdict.TheVariants.{PassedOver, Refused, LoggedIn, Filtered, Accepted}
-use Rattle.aprs_history.specs.Trace.{Trace, Opened, Said, is_live, moment_of}
+use Rattle.aprs_history.specs.Trace.{Trace, Admission, NoPort, Served, Opened, Said, is_live, moment_of}
 use Rattle.aprs_history.specs.Links.{Opening, opening_of, session_of, taken_by}
 use Rattle.aprs_history.specs.Scenes.{packet_of}
 use Rattle.aprs_history.specs.Messages.{is_asked}
@@ -58,7 +58,7 @@ refusal_reply refusal.OwnName = Some (refused_login (codes "own name"))
 refusal_reply refusal.Long = None
 refusal_reply (refusal.Packet why) = None
 refusal_reply (refusal.Path why) = None
-refusal_reply refusal.Duplicate = None
+refusal_reply (refusal.Duplicate parts line) = None
 
 -- what is told of a filter that is refused
 abbrev pub refused_filter : List ℕ → List ℕ
@@ -83,17 +83,33 @@ abbrev pub filter_reply : FilterAnswer → List ℕ
 filter_reply (Active terms reply) = reply
 filter_reply (Denied why) = refused_filter (filter_words why)
 
-abbrev pub login_filter_reply : Option FilterAnswer → List (List ℕ)
+-- where a line of a text comes from
+pub data LineKind : Type 0 where
+  Banner : LineKind
+  Reply : LineKind
+  Relayed : (packet : PacketSeen) → LineKind
+
+pub record TextLine : Type 0 where
+  pub kind : LineKind
+  pub line : List ℕ
+
+abbrev pub reply_of : List ℕ → TextLine
+reply_of line = record { kind = Reply; line = line }
+
+abbrev pub relayed : PacketSeen → TextLine
+relayed packet = record { kind = Relayed packet; line = packet.line }
+
+abbrev pub login_filter_reply : Option FilterAnswer → List TextLine
 login_filter_reply None = []
-login_filter_reply (Some answer) = filter_reply answer ∷ []
+login_filter_reply (Some answer) = reply_of (filter_reply answer) ∷ []
 
-abbrev pub reply_lines : Option (List ℕ) → List (List ℕ)
+abbrev pub reply_lines : Option (List ℕ) → List TextLine
 reply_lines None = []
-reply_lines (Some line) = line ∷ []
+reply_lines (Some line) = reply_of line ∷ []
 
-abbrev pub banner_of : Option PortKind → List (List ℕ)
-banner_of None = []
-banner_of (Some kind) = banner ∷ []
+abbrev pub banner_of : Admission → List TextLine
+banner_of NoPort = []
+banner_of (Served kind) = record { kind = Banner; line = banner } ∷ []
 
 -- whether a port of that kind sends an accepted packet of another link, as the link's filter or the message rule asks for it or not
 abbrev pub kind_wants : PortKind → Bool → Bool
@@ -114,21 +130,39 @@ wants trace from packet link =
     not (from == link) && is_live trace link && is_some (session_of trace link) && port_wants (opening_of trace link) (filter_passes trace packet link || is_asked trace packet link)
 
 -- what a verdict on a line of one link adds to the text of another or of the same
-abbrev pub added_by : Setting → Trace → ℕ → Verdict → ℕ → List (List ℕ)
+abbrev pub added_by : Setting → Trace → ℕ → Verdict → ℕ → List TextLine
 added_by setting earlier from PassedOver link = []
 added_by setting earlier from (Refused why) link = if link == from then reply_lines (refusal_reply why) else []
 added_by setting earlier from (LoggedIn session answer) link =
-    if link == from then login_reply setting.server session ∷ login_filter_reply answer else []
-added_by setting earlier from (Filtered answer) link = if link == from then filter_reply answer ∷ [] else []
+    if link == from then reply_of (login_reply setting.server session) ∷ login_filter_reply answer else []
+added_by setting earlier from (Filtered answer) link = if link == from then reply_of (filter_reply answer) ∷ [] else []
 added_by setting earlier from (Accepted parts line) link =
-    if wants earlier from (packet_of from (moment_of earlier) parts line) link then line ∷ [] else []
+    let packet = packet_of from (moment_of earlier) parts line in
+    if wants earlier from packet link then relayed packet ∷ [] else []
 
--- the lines of a link's text, in order, from its opening on
+-- the text of a link: its lines, in order, from its opening on
+pub record Text : Type 0 where
+  pub lines : List TextLine
+
+abbrev pub with_lines : Text → List TextLine → Text
+with_lines text more = record { lines = text.lines ++ more }
+
+abbrev pub text_to : Setting → Trace → ℕ → Text
+text_to setting [] link = record { lines = [] }
+text_to setting (Opened listener admission opened from ∷ earlier) link =
+    if link == opened then record { lines = banner_of admission } else text_to setting earlier link
+text_to setting (Said from cut verdict ∷ earlier) link = with_lines (text_to setting earlier link) (added_by setting earlier from verdict link)
+text_to setting (entry ∷ earlier) link = text_to setting earlier link
+
+abbrev pub plain_line : TextLine → List ℕ
+plain_line text = text.line
+
+abbrev pub plain : List TextLine → List (List ℕ)
+plain lines = map plain_line lines
+
+-- its lines, wherever they come from
 abbrev pub lines_of : Setting → Trace → ℕ → List (List ℕ)
-lines_of setting [] link = []
-lines_of setting (Opened serves opened from ∷ earlier) link = if link == opened then banner_of serves else lines_of setting earlier link
-lines_of setting (Said from cut verdict ∷ earlier) link = lines_of setting earlier link ++ added_by setting earlier from verdict link
-lines_of setting (entry ∷ earlier) link = lines_of setting earlier link
+lines_of setting trace link = plain (text_to setting trace link).lines
 
 -- the bytes of the text that the link has not taken yet
 abbrev pub untaken : Setting → Trace → ℕ → List ℕ

@@ -1,5 +1,5 @@
 -- The trace of a history: what happened to each link, with the verdict on each line, the newest first.
-use Rattle.std.specs.Prelude.{ℕ, ◌==◌, Bool, not, List, [], ◌∷◌, ◌++◌, Option, Some, None, filter, max, min}
+use Rattle.std.specs.Prelude.{ℕ, ◌==◌, Bool, true, false, not, nat_lt, List, [], ◌∷◌, ◌++◌, filter, max, min, if◌then◌else◌}
 use Rattle.std.specs.List.{list_any}
 use Rattle.aprs_base.specs.declared.packets.PortKind.{PortKind}
 use Rattle.aprs_base.specs.declared.texts.Addr.{Addr}
@@ -12,10 +12,17 @@ pub data EndReason : Type 0 where
   FoundGone : EndReason
   ByStop : EndReason
 
+-- what becomes of a connection
+pub data Admission : Type 0 where
+  -- the listener isn't one for clients
+  NoPort : Admission
+  Served : (kind : PortKind) → Admission
+
 pub data Entry : Type 0 where
+  -- the entries of a round stand after this one
+  RoundBegan : Entry
   Ticked : (moment : ℕ) → Entry
-  -- with what it serves, which is nothing where the listener isn't one for clients
-  Opened : (serves : Option PortKind) → (link : ℕ) → (from : Addr) → Entry
+  Opened : (listener : ℕ) → (admission : Admission) → (link : ℕ) → (from : Addr) → Entry
   Brought : (link : ℕ) → (bytes : List ℕ) → Entry
   Said : (link : ℕ) → (cut : Cut) → (verdict : Verdict) → Entry
   Roomed : (link : ℕ) → Entry
@@ -39,14 +46,14 @@ moment_of (entry ∷ earlier) = moment_of earlier
 abbrev pub is_other : ℕ → ℕ → Bool
 is_other link other = not (other == link)
 
-abbrev pub opened_link : Option PortKind → ℕ → List ℕ
-opened_link None link = []
-opened_link (Some kind) link = link ∷ []
+abbrev pub opened_link : Admission → ℕ → List ℕ
+opened_link NoPort link = []
+opened_link (Served kind) link = link ∷ []
 
 -- the links that live, in the order of their opening, which is that of their numbers
 abbrev pub live_links : Trace → List ℕ
 live_links [] = []
-live_links (Opened serves link from ∷ earlier) = live_links earlier ++ opened_link serves link
+live_links (Opened listener admission link from ∷ earlier) = live_links earlier ++ opened_link admission link
 live_links (Ended link reason ∷ earlier) = filter (is_other link) (live_links earlier)
 live_links (entry ∷ earlier) = live_links earlier
 
@@ -70,3 +77,21 @@ stopped_links (entry ∷ earlier) = stopped_links earlier
 -- the links that have a text to take: those that live, and those that a stop ended
 abbrev pub served_links : Trace → List ℕ
 served_links trace = stopped_links trace ++ live_links trace
+
+-- the reasons for which the server closes a link
+abbrev pub is_closing : EndReason → Bool
+is_closing ByPeer = false
+is_closing FoundGone = false
+is_closing ByStop = true
+
+-- a number in its place among rising ones
+abbrev pub placed : ℕ → List ℕ → List ℕ
+placed n [] = n ∷ []
+placed n (m ∷ ms) = if nat_lt n m then n ∷ m ∷ ms else m ∷ placed n ms
+
+-- the links that ended in the last round by such a reason, rising
+abbrev pub closed_links : Trace → List ℕ
+closed_links [] = []
+closed_links (RoundBegan ∷ earlier) = []
+closed_links (Ended link reason ∷ earlier) = if is_closing reason then placed link (closed_links earlier) else closed_links earlier
+closed_links (entry ∷ earlier) = closed_links earlier

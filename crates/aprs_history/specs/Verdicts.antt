@@ -128,7 +128,8 @@ is_duplicate now accepted parts = list_any (is_repeat now (key_of parts)) accept
 
 abbrev pub packet_verdict : ℕ → List PacketSeen → Result Parts Refusal → Verdict
 packet_verdict now accepted (Err why) = Refused why
-packet_verdict now accepted (Ok parts) = if is_duplicate now accepted parts then Refused refusal.Duplicate else Accepted parts (text_of parts)
+packet_verdict now accepted (Ok parts) =
+    if is_duplicate now accepted parts then Refused (refusal.Duplicate parts (text_of parts)) else Accepted parts (text_of parts)
 
 -- the verdict on a line that is no comment: before the login it is a login, after it a packet
 abbrev pub line_verdict : Scene → Option Session → List ℕ → Verdict

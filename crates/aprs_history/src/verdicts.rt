@@ -27,8 +27,9 @@ pub enum Refusal {
     Packet(LineFault),
     /// The q construct rule drops the packet.
     Path(QDrop),
-    /// The same packet was accepted less than 30 seconds before.
-    Duplicate,
+    /// The same packet was accepted less than 30 seconds before. With it the packet's parts and its line as they would be
+    /// sent on.
+    Duplicate(Parts, Line),
 }
 
 /// Why a filter is refused.
