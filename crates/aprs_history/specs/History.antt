@@ -82,9 +82,13 @@ abbrev pub say_all : Setting → ℕ → List Cut → Trace → Trace
 say_all setting link [] trace = trace
 say_all setting link (cut ∷ cuts) trace = say_all setting link cuts (Said link cut (verdict_of (scene_of setting trace link) cut) ∷ trace)
 
--- what begins a round: the links that were found gone end
+-- the links that were found gone end
+abbrev pub end_gone : Trace → Trace
+end_gone trace = end_all FoundGone (gone_links trace) trace
+
+-- what begins a round
 abbrev pub begin_round : Trace → Trace
-begin_round trace = end_all FoundGone (gone_links trace) (RoundBegan ∷ trace)
+begin_round trace = end_gone (RoundBegan ∷ trace)
 
 -- what ends a round: after a stop all links that live end
 abbrev pub end_round : Bool → Trace → Trace

@@ -1,5 +1,5 @@
 -- The steps of the core, and the trace that it follows.
-use Rattle.std.proofs.Common.{◌≡◌, ℕ, ◌<◌, ◌==◌, ◌∷◌, ◌++◌, [], List, map, filter, refl, sym, ap, ◌∙◌, subst, true, false, Option, Some, None, max, min, append-nil, arith, ⊎_elim, ◌||◌, not, cond, ◌^◌, IfOk, Result, Ok, Err, Vec, Global}
+use Rattle.std.proofs.Common.{◌≡◌, ℕ, ◌<◌, ◌==◌, ◌∷◌, ◌++◌, [], List, map, filter, refl, sym, ap, ◌∙◌, subst, Bool, true, false, Option, Some, None, max, min, append-nil, arith, ⊎_elim, ◌||◌, not, cond, ◌^◌, IfOk, Result, Ok, Err, Vec, Global}
 use Rattle.std.specs.List.{flat_map}
 use Rattle.std.proofs.lemmas.Bool.{true≢false, cases_Bool}
 use Rattle.aprs_base.specs.Held.{held_after}
@@ -11,20 +11,20 @@ use Rattle.aprs_history.specs.declared.verdicts.Verdict.TheVariants.{PassedOver,
 use Rattle.aprs_history.specs.Setting.{Setting, kind_at}
 use Rattle.aprs_history.specs.Scenes.{has_filters, is_only, others_of, scene_of, verified_login}
 use Rattle.aprs_history.specs.Verdicts.{verdict_of}
-use Rattle.aprs_history.specs.Trace.{Trace, Ticked, Opened, Brought, Said, Roomed, Ended, ByPeer, ByStop, is_live, is_member, is_other, live_links, stopped_links, last_moment}
+use Rattle.aprs_history.specs.Trace.{Trace, RoundBegan, Ticked, Opened, Brought, Said, Roomed, Ended, ByPeer, is_live, is_member, is_other, live_links, stopped_links, last_moment}
 use Rattle.aprs_history.specs.Links.{session_of, opening_of, brought_by, gone_links}
-use Rattle.aprs_history.specs.History.{begin_round, end_all}
+use Rattle.aprs_history.specs.History.{admitted, begin_round, end_round}
 use Rattle.aprs_history.specs.Stands.{LinkSeen, link_seen, Follows}
 use Rattle.server_core.specs.LinkSteps.{at_link, has_that, has_number, is_there, is_another, with_room, with_bytes, new_link_seen, numbers, Rises, session_at, held_at, session_kept, held_kept, filters_at, filters_kept, only_at, only_kept, others_at, at_moment, forgotten_all, is_lost}
 use Rattle.heard_routing.specs.Heard.{HeardSeen, without_link}
 use Rattle.aprs_conf.specs.Seen.{ConfSeen}
 use Rattle.server_core.specs.Meaning.{CoreMeaning, setting_of}
 use Rattle.server_core.specs.Kept.{IsKept}
-use Rattle.server_core.specs.Steps.{SameRest, Walks, saying, scene_at, with_verdict}
+use Rattle.server_core.specs.Steps.{Rests, SameRest, Walks, saying, scene_at, with_verdict}
 use Rattle.server_core.proofs.LinkLemmas.{changed_none, rises_to, rises_push}
 use Rattle.server_core.proofs.FollowLemmas.{picked_missing, picked_seen}
 use Rattle.server_core.proofs.HeardLemmas.{remembers_no_end}
-use Rattle.server_core.proofs.WalkLemmas.{with_heard, with_links, follows_begun, going_after, follows_said, follows_roomed, follows_ticked, follows_brought, follows_opened, follows_unserved, follows_ended, follows_stopped}
+use Rattle.server_core.proofs.WalkLemmas.{with_heard, with_links, follows_began, follows_begun, going_after, open_after, follows_said, follows_roomed, follows_ticked, follows_brought, follows_opened, follows_unserved, follows_ended, follows_stopped}
 
 -- the core with other links
 abbrev pub relinked : List LinkSeen → CoreMeaning → CoreMeaning
@@ -34,14 +34,18 @@ relinked links core = record core { seen = record core.seen { links = links } }
 abbrev pub reheard : HeardSeen → CoreMeaning → CoreMeaning
 reheard heard core = record core { seen = record core.seen { heard = heard } }
 
-pub walks_begun : (core : CoreMeaning) (t : Trace) (links : List LinkSeen) (heard : HeardSeen) → Walks core t → links ≡ filter is_there core.seen.links
+pub walks_begun : (core : CoreMeaning) (t : Trace) (links : List LinkSeen) (heard : HeardSeen) → Rests core t → links ≡ filter is_there core.seen.links
     → heard ≡ forgotten_all (numbers (filter is_lost core.seen.links)) core.seen.heard → Walks (reheard heard (relinked links core)) (begin_round t)
-walks_begun core t links heard walks is forgotten = record {
-  follows = subst (λ ls. Follows (setting_of core.conf) (with_heard heard (with_links ls core.seen)) (begin_round t)) (sym is)
-      (subst (λ table. Follows (setting_of core.conf) (with_heard table (with_links (filter is_there core.seen.links) core.seen)) (begin_round t)) (sym forgotten)
-      (follows_begun (setting_of core.conf) core.seen t walks.follows walks.going));
-  going = going_after (gone_links t) t ∙ walks.going;
-}
+walks_begun core t links heard rests is forgotten =
+    let s = setting_of core.conf in
+    let began = follows_began s core.seen t rests.follows in
+    record {
+      follows = subst (λ ls. Follows s (with_heard heard (with_links ls core.seen)) (begin_round t)) (sym is)
+          (subst (λ table. Follows s (with_heard table (with_links (filter is_there core.seen.links) core.seen)) (begin_round t)) (sym forgotten)
+          (follows_begun s core.seen (RoundBegan ∷ t) began rests.going));
+      going = going_after (gone_links (RoundBegan ∷ t)) (RoundBegan ∷ t) ∙ rests.going;
+      open' = open_after (gone_links (RoundBegan ∷ t)) (RoundBegan ∷ t);
+    }
 
 -- the logins of others, as they are kept and as the trace has them
 others_seen : (s : Setting) (t : Trace) (number : ℕ) (ks : List ℕ)
@@ -89,13 +93,14 @@ module _ (core : CoreMeaning) (t : Trace) (walks : Walks core t) where
       ∙ ap (λ session. record (scene_at core number) { only = is_only (opening_of t number); filters = has_filters (opening_of t number); session = session }) (session_now number live)
       ∙ ap (λ others. record (scene_of (setting_of core.conf) t number) { others = others; moment = core.seen.moment; accepted = core.seen.accepted }) (others_now number)
       ∙ ap (λ moment. record (scene_of (setting_of core.conf) t number) { moment = moment; accepted = core.seen.accepted }) walks.follows.moment
-      ∙ ap (λ accepted. record (scene_of (setting_of core.conf) t number) { accepted = accepted }) walks.follows.accepted
+      ∙ ap (λ accepted. record (scene_of (setting_of core.conf) t number) { accepted = accepted }) walks.follows.tables.accepted
 
   pub walks_roomed : (number : ℕ) (links : List LinkSeen) → links ≡ map (at_link number with_room) core.seen.links → Walks (relinked links core) (Roomed number ∷ t)
   walks_roomed number links new = record {
     follows = subst (λ ls. Follows (setting_of core.conf) (with_links ls core.seen) (Roomed number ∷ t)) (sym new)
         (follows_roomed (setting_of core.conf) core.seen t walks.follows number);
     going = walks.going;
+    open' = walks.open';
   }
 
   pub walks_brought : (number : ℕ) (bytes : List ℕ) (links : List LinkSeen)
@@ -105,6 +110,7 @@ module _ (core : CoreMeaning) (t : Trace) (walks : Walks core t) where
     follows = subst (λ ls. Follows (setting_of core.conf) (with_links ls core.seen) (Brought number bytes ∷ t)) (sym new)
         (follows_brought (setting_of core.conf) core.seen t walks.follows number bytes);
     going = walks.going;
+    open' = walks.open';
   }
 
   pub walks_ended : (number : ℕ) (links : List LinkSeen) (heard : HeardSeen) → links ≡ filter (is_another number) core.seen.links → heard ≡ without_link number core.seen.heard
@@ -114,6 +120,7 @@ module _ (core : CoreMeaning) (t : Trace) (walks : Walks core t) where
         (subst (λ table. Follows (setting_of core.conf) (with_heard table (with_links (filter (is_another number) core.seen.links) core.seen)) (Ended number ByPeer ∷ t)) (sym forgotten)
         (follows_ended (setting_of core.conf) core.seen t walks.follows walks.going number));
     going = append-nil (stopped_links t) ∙ walks.going;
+    open' = walks.open';
   }
 
 -- a line that a link said
@@ -123,7 +130,7 @@ walks_heard core t walks number cut live =
     let verdict = verdict_of (scene_at core number) cut in
     let same : verdict ≡ verdict_of (scene_of (setting_of core.conf) t number) cut = ap (λ scene. verdict_of scene cut) (scene_now core t walks number live) in
     subst (λ judged. Walks (with_verdict number verdict core) (Said number cut judged ∷ t)) same
-    (record { follows = follows_said (setting_of core.conf) core.seen t walks.follows walks.going number cut verdict live; going = walks.going })
+    (record { follows = follows_said (setting_of core.conf) core.seen t walks.follows walks.going number cut verdict live; going = walks.going; open' = walks.open' })
 
 -- what a verdict leaves as it is
 pub rest_kept : (core : CoreMeaning) (number : ℕ) (verdict : Verdict) → SameRest core (with_verdict number verdict core)
@@ -138,24 +145,26 @@ rest_kept core number (Accepted parts line) = record { conf = refl; greatest = r
 pub walks_served : (core : CoreMeaning) (conf : ConfSeen) (t : Trace) → Walks core t → core.conf ≡ conf → (listener k : ℕ) (kind : PortKind) (from : Addr) (links : List LinkSeen) (served : Option PortKind)
     → served ≡ Some kind → served ≡ kind_at (setting_of core.conf) listener → IsKept core → core.seen.greatest < k
     → links ≡ core.seen.links ++ new_link_seen k (record { kind = kind; from = from; moment = core.seen.moment }) ∷ []
-    → Walks (record core { seen = record core.seen { links = links; greatest = k } }) (Opened (kind_at (setting_of conf) listener) k from ∷ t)
+    → Walks (record core { seen = record core.seen { links = links; greatest = k } }) (Opened listener (admitted (kind_at (setting_of conf) listener)) k from ∷ t)
 walks_served core conf t walks same listener k kind from links served some at kept above new =
-    let follows = follows_opened (setting_of core.conf) core.seen t walks.follows kind k core.seen.greatest from kept.rising above in
+    let follows = follows_opened (setting_of core.conf) core.seen t walks.follows listener kind k core.seen.greatest from kept.rising above in
     let serves : Some kind ≡ kind_at (setting_of conf) listener = sym some ∙ at ∙ ap (λ c. kind_at (setting_of c) listener) same in
-    subst (λ kinds. Walks (record core { seen = record core.seen { links = links; greatest = k } }) (Opened kinds k from ∷ t)) serves (record {
-      follows = record { moment = follows.moment; links = new ∙ follows.links; accepted = follows.accepted; stations = follows.stations; heard = follows.heard; took = follows.took };
+    subst (λ kinds. Walks (record core { seen = record core.seen { links = links; greatest = k } }) (Opened listener (admitted kinds) k from ∷ t)) serves (record {
+      follows = record { moment = follows.moment; links = new ∙ follows.links; tables = follows.tables; took = follows.took };
       going = walks.going;
+      open' = walks.open';
     })
 
 pub walks_unserved : (core : CoreMeaning) (conf : ConfSeen) (t : Trace) → Walks core t → core.conf ≡ conf → (listener k : ℕ) (from : Addr) (served : Option PortKind)
     → served ≡ None → served ≡ kind_at (setting_of core.conf) listener → IsKept core → core.seen.greatest < k
-    → Walks (record core { seen = record core.seen { greatest = k } }) (Opened (kind_at (setting_of conf) listener) k from ∷ t)
+    → Walks (record core { seen = record core.seen { greatest = k } }) (Opened listener (admitted (kind_at (setting_of conf) listener)) k from ∷ t)
 walks_unserved core conf t walks same listener k from served none at kept above =
-    let follows = follows_unserved (setting_of core.conf) core.seen t walks.follows k core.seen.greatest from kept.rising above in
+    let follows = follows_unserved (setting_of core.conf) core.seen t walks.follows listener k core.seen.greatest from kept.rising above in
     let serves : None ≡ kind_at (setting_of conf) listener = sym none ∙ at ∙ ap (λ c. kind_at (setting_of c) listener) same in
-    subst (λ kinds. Walks (record core { seen = record core.seen { greatest = k } }) (Opened kinds k from ∷ t)) serves (record {
-      follows = record { moment = follows.moment; links = follows.links; accepted = follows.accepted; stations = follows.stations; heard = follows.heard; took = follows.took };
+    subst (λ kinds. Walks (record core { seen = record core.seen { greatest = k } }) (Opened listener (admitted kinds) k from ∷ t)) serves (record {
+      follows = record { moment = follows.moment; links = follows.links; tables = follows.tables; took = follows.took };
       going = walks.going;
+      open' = walks.open';
     })
 
 absent : (s : Setting) (t : Trace) (number : ℕ) (ks : List ℕ) → is_member number ks ≡ false → has_number number (map (link_seen s t) ks) ≡ false
@@ -194,12 +203,11 @@ walks_no_end core t walks number links heard dead new forgotten =
       follows = record {
         moment = follows.moment;
         links = follows.links;
-        accepted = follows.accepted;
-        stations = follows.stations;
-        heard = remembers_no_end core.seen.heard t number dead follows.heard;
+        tables = record { accepted = follows.tables.accepted; stations = follows.tables.stations; heard = remembers_no_end core.seen.heard t number dead follows.tables.heard };
         took = follows.took;
       };
       going = walks.going;
+      open' = walks.open';
     } in
     walks_unmoved (reheard heard core) t links (subst (λ table. Walks (reheard table core) t) (sym forgotten) unheard) (new ∙ all_other number core.seen.links (no_number core t walks number dead))
 
@@ -209,7 +217,7 @@ pub walks_ticked : (core : CoreMeaning) (t : Trace) → Walks core t → (m : �
 walks_ticked core t walks m moment links is new =
     subst (λ ls. Walks (record core { seen = record core.seen { moment = moment; links = ls } }) (Ticked m ∷ t)) (sym new)
     (subst (λ n. Walks (record core { seen = record core.seen { moment = n; links = map (at_moment n) core.seen.links } }) (Ticked m ∷ t)) (sym is)
-    (record { follows = follows_ticked (setting_of core.conf) core.seen t walks.follows m; going = walks.going }))
+    (record { follows = follows_ticked (setting_of core.conf) core.seen t walks.follows m; going = walks.going; open' = walks.open' }))
 
 -- a core stays sound as a link comes
 pub kept_above : (core : CoreMeaning) (k : ℕ) → IsKept core → core.seen.greatest < k → k < 2 ^ 32 → IsKept (record core { seen = record core.seen { greatest = k } })
@@ -234,11 +242,11 @@ pub unmoved_ok : {E : Type 0} (core : CoreMeaning) (t : Trace) (links : List Lin
 unmoved_ok core t links (Ok cuts) walks h = (h.0, walks_unmoved core t links walks h.1)
 unmoved_ok core t links (Err e) walks h = h
 
--- a stop ends all links, and leaves what there is to keep of them, but what they heard
-pub follows_stop : (core : CoreMeaning) (conf : ConfSeen) (t : Trace) (heard : HeardSeen) → Walks core t → core.conf ≡ conf → heard ≡ forgotten_all (numbers core.seen.links) core.seen.heard
-    → Follows (setting_of conf) (record core.seen { heard = heard; stopped = true }) (end_all ByStop (live_links t) t)
-follows_stop core conf t heard walks same forgotten =
+-- a round ends: after a stop all links end, and there is still to keep of them what there was, but what they heard
+pub follows_stop : (core : CoreMeaning) (conf : ConfSeen) (stopped : Bool) (t : Trace) (heard : HeardSeen) → Walks core t → core.conf ≡ conf → stopped ≡ true
+    → heard ≡ forgotten_all (numbers core.seen.links) core.seen.heard → Follows (setting_of conf) (record core.seen { heard = heard }) (end_round stopped t)
+follows_stop core conf stopped t heard walks same stops forgotten =
     let follows = follows_stopped (setting_of core.conf) core.seen t walks.follows walks.going in
-    subst (λ c. Follows (setting_of c) (record core.seen { heard = heard; stopped = true }) (end_all ByStop (live_links t) t)) same
-    (subst (λ table. Follows (setting_of core.conf) (record core.seen { heard = table; stopped = true }) (end_all ByStop (live_links t) t)) (sym forgotten)
-    (record { moment = follows.moment; links = follows.links; accepted = follows.accepted; stations = follows.stations; heard = follows.heard; took = follows.took }))
+    subst (λ b. Follows (setting_of conf) (record core.seen { heard = heard }) (end_round b t)) (sym stops)
+    (subst (λ c. Follows (setting_of c) (record core.seen { heard = heard }) (end_round true t)) same
+    (subst (λ table. Follows (setting_of core.conf) (record core.seen { heard = table }) (end_round true t)) (sym forgotten) follows))

@@ -4,6 +4,7 @@ use Rattle.std.proofs.lemmas.Bool.{true≢false, eqb-true, cases_Bool, leb-true,
 use Rattle.std.proofs.Math.Nat.{le-max_right}
 use Rattle.std.proofs.Math.Seq.{drop-append-add}
 use Rattle.std.proofs.lemmas.List.Concat.{flat_map-append}
+use Rattle.std.proofs.lemmas.List.{map-append}
 use Rattle.aprs_base.specs.PacketSeen.{PacketSeen}
 use Rattle.filter_lang.specs.Terms.{TermSeen}
 use Rattle.filter_eval.specs.Passes.{fresh}
@@ -17,15 +18,16 @@ use Rattle.aprs_base.specs.declared.packets.Parts.{Parts}
 use Rattle.aprs_base.specs.declared.packets.PortKind.{PortKind}
 use Rattle.aprs_history.specs.declared.verdicts.Session.{Session}
 use Rattle.aprs_history.specs.declared.verdicts.Refusal.{Refusal}
+use Rattle.aprs_history.specs.declared.verdicts.Verdict.{Verdict}
 use Rattle.aprs_history.specs.declared.verdicts.Verdict.TheVariants.{PassedOver, Refused, LoggedIn, Filtered, Accepted}
 use Rattle.aprs_history.specs.Setting.{Setting}
-use Rattle.aprs_history.specs.Scenes.{accepted_of, packet_of}
+use Rattle.aprs_history.specs.Scenes.{accepted_by, accepted_of, packet_of}
 use Rattle.heard_routing.specs.Heard.{is_among}
 use Rattle.aprs_history.specs.Messages.{is_asked, is_owed, is_to_heard, is_to_login}
 use Rattle.aprs_history.specs.Sights.{filter_passes, friend_in, friends_of, is_gate_at, login_in, own_place, sighting}
-use Rattle.aprs_history.specs.Trace.{is_member, last_moment, moment_of, Trace, Ticked, Opened, Brought, Said, Roomed, Took, Lost, is_live}
-use Rattle.aprs_history.specs.Links.{brought_by, filter_after, filter_by, filter_of, taken_by, session_of, opening_of}
-use Rattle.aprs_history.specs.Texts.{Queued, queued, lines_of, text_bytes, ended_line, wants, filter_reply, login_filter_reply, login_reply, refusal_reply, reply_lines, port_wants}
+use Rattle.aprs_history.specs.Trace.{is_member, last_moment, moment_of, Trace, Admission, Served, RoundBegan, Ticked, Opened, Brought, Said, Roomed, Took, Lost, is_live}
+use Rattle.aprs_history.specs.Links.{brought_by, filter_after, filter_by, filter_of, taken_by, session_after, session_of, opening_of}
+use Rattle.aprs_history.specs.Texts.{Queued, queued, added_by, lines_of, plain, plain_line, relayed, reply_of, text_bytes, text_to, ended_line, wants, filter_reply, login_filter_reply, login_reply, refusal_reply, reply_lines, port_wants}
 use Rattle.aprs_history.specs.Stands.{LinkSeen, link_seen, TookNoMore}
 use Rattle.server_core.specs.Pending.{with_line, pending_bytes}
 use Rattle.server_core.specs.LinkSteps.{picked_at, at_link, at_moment, with_answer, with_room, when_gone, with_taken, with_bytes, with_text, with_session, with_packet, with_places, new_link_seen}
@@ -118,6 +120,10 @@ text_more lines more n le =
     ap length (flat_map-append ended_line lines more) ∙ length-append (text_bytes lines) (text_bytes more) in
     omega arith
 
+-- a line of any link adds to the texts what its verdict says
+pub lines_said : (s : Setting) (t : Trace) (k : ℕ) (cut : Cut) (verdict : Verdict) (j : ℕ) → lines_of s (Said k cut verdict ∷ t) j ≡ lines_of s t j ++ plain (added_by s t k verdict j)
+lines_said s t k cut verdict j = map-append plain_line (text_to s t j).lines (added_by s t k verdict j)
+
 -- what a line may change of what there is to keep of a link
 abbrev keeping : LinkSeen → List PacketSeen → ℕ → Option Session → List TermSeen → Queued → LinkSeen
 keeping base accepted now session terms queue = record base {
@@ -140,19 +146,19 @@ module _ (base : LinkSeen) (accepted : List PacketSeen) (now : ℕ) (session : O
 
   -- no line
   passed_shape : (own : Bool)
-      → keeping base (accepted ++ []) now (if own then session else session) (if own then terms else terms) (queued (lines ++ []) taken) ≡ kept
+      → keeping base (accepted ++ []) now (if own then session else session) (if own then terms else terms) (queued (lines ++ plain []) taken) ≡ kept
   passed_shape true = ap (λ packets. keeping base packets now session terms (queued (lines ++ []) taken)) (append-nil accepted) ∙ ap (λ ls. keeping base accepted now session terms (queued ls taken)) (append-nil lines)
   passed_shape false = ap (λ packets. keeping base packets now session terms (queued (lines ++ []) taken)) (append-nil accepted) ∙ ap (λ ls. keeping base accepted now session terms (queued ls taken)) (append-nil lines)
 
   quiet_shape : (own : Bool)
-      → keeping base (accepted ++ []) now (if own then session else session) (if own then terms else terms) (queued (lines ++ (if own then [] else [])) taken) ≡ kept
+      → keeping base (accepted ++ []) now (if own then session else session) (if own then terms else terms) (queued (lines ++ plain (if own then [] else [])) taken) ≡ kept
   quiet_shape true = passed_shape true
   quiet_shape false = passed_shape false
 
   module _ (le : taken ≤ length (text_bytes lines)) where
     -- a reply
     reply_shape : (line : List ℕ) (own : Bool)
-        → keeping base (accepted ++ []) now (if own then session else session) (if own then terms else terms) (queued (lines ++ (if own then line ∷ [] else [])) taken)
+        → keeping base (accepted ++ []) now (if own then session else session) (if own then terms else terms) (queued (lines ++ plain (if own then reply_of line ∷ [] else [])) taken)
         ≡ (if own then with_text line kept else kept)
     reply_shape line true =
         ap (λ packets. keeping base packets now session terms (queued (lines ++ line ∷ []) taken)) (append-nil accepted)
@@ -161,7 +167,7 @@ module _ (base : LinkSeen) (accepted : List PacketSeen) (now : ℕ) (session : O
 
     -- an answer to a filter
     answer_shape : (answer : FilterAnswer) (own : Bool)
-        → keeping base (accepted ++ []) now (if own then session else session) (if own then filter_by answer terms else terms) (queued (lines ++ (if own then filter_reply answer ∷ [] else [])) taken)
+        → keeping base (accepted ++ []) now (if own then session else session) (if own then filter_by answer terms else terms) (queued (lines ++ plain (if own then reply_of (filter_reply answer) ∷ [] else [])) taken)
         ≡ (if own then with_answer (friend_in accepted now) answer kept else kept)
     answer_shape (Active others reply) true =
         ap (λ packets. keeping base packets now session others (queued (lines ++ reply ∷ []) taken)) (append-nil accepted)
@@ -173,7 +179,7 @@ module _ (base : LinkSeen) (accepted : List PacketSeen) (now : ℕ) (session : O
     -- a login, perhaps with a filter
     login_shape : (new : Session) (reply : List ℕ) (answer : Option FilterAnswer) (own : Bool)
         → keeping base (accepted ++ []) now (if own then Some new else session) (if own then filter_after (LoggedIn new answer) terms else terms)
-        (queued (lines ++ (if own then reply ∷ login_filter_reply answer else [])) taken)
+        (queued (lines ++ plain (if own then reply_of reply ∷ login_filter_reply answer else [])) taken)
         ≡ (if own then with_login accepted now new reply answer kept else kept)
     login_shape new reply None true =
         ap (λ packets. keeping base packets now (Some new) terms (queued (lines ++ reply ∷ []) taken)) (append-nil accepted)
@@ -194,7 +200,7 @@ module _ (base : LinkSeen) (accepted : List PacketSeen) (now : ℕ) (session : O
     -- a packet, which the link wants or not
     packet_shape : (packet : PacketSeen) (own wanted : Bool) → packet.moment ≡ now
         → keeping base (accepted ++ packet ∷ []) now (if own then session else session) (if own then terms else terms)
-        (queued (lines ++ (if wanted then packet.line ∷ [] else [])) taken)
+        (queued (lines ++ plain (if wanted then relayed packet ∷ [] else [])) taken)
         ≡ with_places packet (if wanted then with_text packet.line kept else kept)
     packet_shape packet true true at =
         ap (λ (q : Queued). keeping base (accepted ++ packet ∷ []) now session terms q) (queued-push lines packet.line taken le)
@@ -244,13 +250,26 @@ module _ (s : Setting) where
       ap (λ friends. record (link_seen s t j) { friends = friends; mine = own_place (Ticked m ∷ t) j }) (sym (friends_later (accepted_of t) (moment_of t) (moment_of (Ticked m ∷ t)) later (filter_of t j)))
       ∙ ap (λ place. record (link_seen s t j) { friends = map (fresh (moment_of (Ticked m ∷ t))) (friends_of t j); mine = place }) (sym (login_later (accepted_of t) (moment_of t) (moment_of (Ticked m ∷ t)) later (session_of t j)))
 
+  -- what a line changes by its verdict
+  said_seen : (t : Trace) (k : ℕ) (cut : Cut) (verdict : Verdict) (j : ℕ)
+      → link_seen s (Said k cut verdict ∷ t) j
+      ≡ keeping (link_seen s t j) (accepted_of t ++ accepted_by k (moment_of t) verdict) (moment_of t)
+      (if j == k then session_after verdict (session_of t j) else session_of t j) (if j == k then filter_after verdict (filter_of t j) else filter_of t j)
+      (queued (lines_of s t j ++ plain (added_by s t k verdict j)) (taken_by t j))
+  unfolding link_seen
+  said_seen t k cut verdict j =
+      ap (λ ls. keeping (link_seen s t j) (accepted_of t ++ accepted_by k (moment_of t) verdict) (moment_of t)
+      (if j == k then session_after verdict (session_of t j) else session_of t j) (if j == k then filter_after verdict (filter_of t j) else filter_of t j) (queued ls (taken_by t j)))
+      (lines_said s t k cut verdict j)
+
   -- a line that is refused without a reply, and one with a reply
   pub refused_seen : (t : Trace) (k : ℕ) (cut : Cut) (why : Refusal) (j : ℕ) → None ≡ refusal_reply why → link_seen s (Said k cut (Refused why) ∷ t) j ≡ link_seen s t j
   unfolding link_seen
   refused_seen t k cut why j none =
       let base = link_seen s t j in
-      ap (λ reply. keeping base (accepted_of t ++ []) (moment_of t) (if j == k then session_of t j else session_of t j) (if j == k then filter_of t j else filter_of t j)
-      (queued (lines_of s t j ++ (if j == k then reply_lines reply else [])) (taken_by t j))) (sym none)
+      said_seen t k cut (Refused why) j
+      ∙ ap (λ reply. keeping base (accepted_of t ++ []) (moment_of t) (if j == k then session_of t j else session_of t j) (if j == k then filter_of t j else filter_of t j)
+      (queued (lines_of s t j ++ plain (if j == k then reply_lines reply else [])) (taken_by t j))) (sym none)
       ∙ quiet_shape base (accepted_of t) (moment_of t) (session_of t j) (filter_of t j) (lines_of s t j) (taken_by t j) (j == k)
 
   pub replied_seen : (t : Trace) → TookNoMore s t → (k : ℕ) (cut : Cut) (why : Refusal) (line : List ℕ) (j : ℕ) → Some line ≡ refusal_reply why
@@ -258,26 +277,29 @@ module _ (s : Setting) where
   unfolding link_seen
   replied_seen t took k cut why line j some =
       let base = link_seen s t j in
-      ap (λ reply. keeping base (accepted_of t ++ []) (moment_of t) (if j == k then session_of t j else session_of t j) (if j == k then filter_of t j else filter_of t j)
-      (queued (lines_of s t j ++ (if j == k then reply_lines reply else [])) (taken_by t j))) (sym some)
+      said_seen t k cut (Refused why) j
+      ∙ ap (λ reply. keeping base (accepted_of t ++ []) (moment_of t) (if j == k then session_of t j else session_of t j) (if j == k then filter_of t j else filter_of t j)
+      (queued (lines_of s t j ++ plain (if j == k then reply_lines reply else [])) (taken_by t j))) (sym some)
       ∙ reply_shape base (accepted_of t) (moment_of t) (session_of t j) (filter_of t j) (lines_of s t j) (taken_by t j) (took j) line (j == k)
 
   pub passed_seen : (t : Trace) (k : ℕ) (cut : Cut) (j : ℕ) → link_seen s (Said k cut PassedOver ∷ t) j ≡ link_seen s t j
   unfolding link_seen
-  passed_seen t k cut j = passed_shape (link_seen s t j) (accepted_of t) (moment_of t) (session_of t j) (filter_of t j) (lines_of s t j) (taken_by t j) (j == k)
+  passed_seen t k cut j = said_seen t k cut PassedOver j ∙ passed_shape (link_seen s t j) (accepted_of t) (moment_of t) (session_of t j) (filter_of t j) (lines_of s t j) (taken_by t j) (j == k)
 
   pub answered_seen : (t : Trace) → TookNoMore s t → (k : ℕ) (cut : Cut) (answer : FilterAnswer) (j : ℕ)
       → link_seen s (Said k cut (Filtered answer) ∷ t) j ≡ at_link k (with_answer (friend_in (accepted_of t) (moment_of t)) answer) (link_seen s t j)
   unfolding link_seen
   answered_seen t took k cut answer j =
-      answer_shape (link_seen s t j) (accepted_of t) (moment_of t) (session_of t j) (filter_of t j) (lines_of s t j) (taken_by t j) (took j) answer (j == k)
+      said_seen t k cut (Filtered answer) j
+      ∙ answer_shape (link_seen s t j) (accepted_of t) (moment_of t) (session_of t j) (filter_of t j) (lines_of s t j) (taken_by t j) (took j) answer (j == k)
 
   pub login_seen : (t : Trace) → TookNoMore s t → (k : ℕ) (cut : Cut) (session : Session) (answer : Option FilterAnswer) (j : ℕ)
       → link_seen s (Said k cut (LoggedIn session answer) ∷ t) j
       ≡ at_link k (with_login (accepted_of t) (moment_of t) session (login_reply s.server session) answer) (link_seen s t j)
   unfolding link_seen
   login_seen t took k cut session answer j =
-      login_shape (link_seen s t j) (accepted_of t) (moment_of t) (session_of t j) (filter_of t j) (lines_of s t j) (taken_by t j) (took j) session (login_reply s.server session) answer (j == k)
+      said_seen t k cut (LoggedIn session answer) j
+      ∙ login_shape (link_seen s t j) (accepted_of t) (moment_of t) (session_of t j) (filter_of t j) (lines_of s t j) (taken_by t j) (took j) session (login_reply s.server session) answer (j == k)
 
   -- an accepted packet, at a link that lives
   pub accepted_seen : (t : Trace) → TookNoMore s t → (k : ℕ) (cut : Cut) (parts : Parts) (line : List ℕ) (hearers owed : List ℕ) (j : ℕ) → is_live t j ≡ true
@@ -295,18 +317,24 @@ module _ (s : Setting) where
       ap (λ b. not (k == j) && b && is_some (session_of t j) && port_wants (opening_of t j) (filter_passes t packet j || is_asked t packet j)) live
       ∙ and_true (not (k == j)) (is_some (session_of t j)) (port_wants (opening_of t j) (filter_passes t packet j || is_asked t packet j))
       ∙ ap (λ b. asked b (is_owed t packet j)) (sym heard) ∙ ap (asked (is_among j hearers)) (sym due) in
-      ap (λ b. keeping base (accepted_of t ++ packet ∷ []) (moment_of t) (if j == k then session_of t j else session_of t j) (if j == k then filter_of t j else filter_of t j)
-      (queued (lines_of s t j ++ (if b then line ∷ [] else [])) (taken_by t j))) same
+      said_seen t k cut (Accepted parts line) j
+      ∙ ap (λ b. keeping base (accepted_of t ++ packet ∷ []) (moment_of t) (if j == k then session_of t j else session_of t j) (if j == k then filter_of t j else filter_of t j)
+      (queued (lines_of s t j ++ plain (if b then relayed packet ∷ [] else [])) (taken_by t j))) same
       ∙ packet_shape base (accepted_of t) (moment_of t) (session_of t j) (filter_of t j) (lines_of s t j) (taken_by t j) (took j) packet (j == k) (asked (is_among j hearers) (is_among j owed)) refl
 
-  pub opened_seen : (t : Trace) (serves : Option PortKind) (k : ℕ) (from : Addr) (j : ℕ) → (j == k) ≡ false → link_seen s (Opened serves k from ∷ t) j ≡ link_seen s t j
+  -- a round begins
+  pub round_seen : (t : Trace) (j : ℕ) → link_seen s (RoundBegan ∷ t) j ≡ link_seen s t j
   unfolding link_seen
-  opened_seen t serves k from j other = rw other refl
+  round_seen t j = refl
 
-  pub new_seen : (t : Trace) (kind : PortKind) (k : ℕ) (from : Addr)
-      → link_seen s (Opened (Some kind) k from ∷ t) k ≡ new_link_seen k (record { kind = kind; from = from; moment = moment_of t })
+  pub opened_seen : (t : Trace) (listener : ℕ) (admission : Admission) (k : ℕ) (from : Addr) (j : ℕ) → (j == k) ≡ false → link_seen s (Opened listener admission k from ∷ t) j ≡ link_seen s t j
   unfolding link_seen
-  new_seen t kind k from = let same : (k == k) ≡ true = eq-eqb k k refl in rw same refl
+  opened_seen t listener admission k from j other = rw other refl
+
+  pub new_seen : (t : Trace) (listener : ℕ) (kind : PortKind) (k : ℕ) (from : Addr)
+      → link_seen s (Opened listener (Served kind) k from ∷ t) k ≡ new_link_seen k (record { kind = kind; from = from; moment = moment_of t })
+  unfolding link_seen
+  new_seen t listener kind k from = let same : (k == k) ≡ true = eq-eqb k k refl in rw same refl
 
 -- what is picked of a link that lives is what there is to keep of it
 pub picked_seen : {X : Type 0} (pick : LinkSeen → X) (none : X) (s : Setting) (t : Trace) (number : ℕ) (ks : List ℕ) → is_member number ks ≡ true

@@ -14,7 +14,7 @@ use Rattle.heard_routing.specs.Heard.{HeardSeen, courtesies, heard_age, heard_at
 use Rattle.heard_routing.proofs.EntryLemmas.{links_listed, once_filtered, once_set}
 use Rattle.heard_routing.proofs.LookLemmas.{heard_noted, heard_without_link, promised_promised, promised_without_link, promised_without_promises}
 use Rattle.aprs_history.specs.declared.verdicts.Verdict.TheVariants.{Accepted}
-use Rattle.aprs_history.specs.Trace.{EndReason, Ended, Opened, Said, Trace, is_live, is_member, is_other, live_links, moment_of}
+use Rattle.aprs_history.specs.Trace.{EndReason, Ended, NoPort, Opened, Said, Served, Trace, is_live, is_member, is_other, live_links, moment_of}
 use Rattle.aprs_history.specs.Links.{opening_of}
 use Rattle.aprs_history.specs.Scenes.{has_filters, packet_of}
 use Rattle.aprs_history.specs.Messages.{has_heard, heard_of, is_message, is_owed, is_position, is_to_heard, promise_after, promise_of, promises}
@@ -97,8 +97,8 @@ gone_shape : (gone member : Bool) (told : Option ℕ) → cond (not gone) (if me
 gone_shape true member told = refl
 gone_shape false member told = refl
 
-pub remembers_opened : (table : HeardSeen) (t : Trace) (kind : PortKind) (k : ℕ) (from : Addr) → is_live t k ≡ false → Remembers table t → Remembers table (Opened (Some kind) k from ∷ t)
-remembers_opened table t kind k from dead remembers = record {
+pub remembers_opened : (table : HeardSeen) (t : Trace) (listener : ℕ) (kind : PortKind) (k : ℕ) (from : Addr) → is_live t k ≡ false → Remembers table t → Remembers table (Opened listener (Served kind) k from ∷ t)
+remembers_opened table t listener kind k from dead remembers = record {
   once_heard = remembers.once_heard;
   once_promised = remembers.once_promised;
   heard = λ l call. remembers.heard l call ∙ came (heard_of t l call) l;
@@ -110,8 +110,8 @@ remembers_opened table t kind k from dead remembers = record {
         came_shape (is_live t l) (l == k) told (λ same. ap (is_live t) (eqb-true l k same) ∙ dead)
         ∙ ap (λ b. if b then (if l == k then None else told) else None) (ap (λ b. is_live t l || b) (eqb_turned l k) ∙ sym (member_push l k (live_links t)))
 
-pub remembers_unserved : (table : HeardSeen) (t : Trace) (k : ℕ) (from : Addr) → is_live t k ≡ false → Remembers table t → Remembers table (Opened None k from ∷ t)
-remembers_unserved table t k from dead remembers = record {
+pub remembers_unserved : (table : HeardSeen) (t : Trace) (listener k : ℕ) (from : Addr) → is_live t k ≡ false → Remembers table t → Remembers table (Opened listener NoPort k from ∷ t)
+remembers_unserved table t listener k from dead remembers = record {
   once_heard = remembers.once_heard;
   once_promised = remembers.once_promised;
   heard = λ l call. remembers.heard l call ∙ missed (heard_of t l call) l;

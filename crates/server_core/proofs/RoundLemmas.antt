@@ -1,5 +1,5 @@
 -- Whole rounds: the history with a round's events, its trace, and the acts that are due after it.
-use Rattle.std.proofs.Common.{◌≡◌, ℕ, ◌+◌, ◌==◌, Bool, true, false, not, ◌&&◌, ◌||◌, List, [], ◌∷◌, ◌++◌, map, filter, refl, sym, ap, ◌∙◌, arith, append-nil, if◌then◌else◌}
+use Rattle.std.proofs.Common.{◌≡◌, ℕ, ◌+◌, ◌==◌, Bool, true, false, not, ◌&&◌, ◌||◌, List, [], ◌∷◌, ◌++◌, map, filter, refl, sym, ap, ◌∙◌, subst, arith, append-nil, if◌then◌else◌}
 use Rattle.std.proofs.lemmas.Bool.{eqb-true, false_from_ne_true, true≢false, false≢true}
 use Rattle.std.proofs.lemmas.Bool.{and_parts}
 use Rattle.aprs_base.specs.Cuts.{cuts_by}
@@ -11,16 +11,16 @@ use Rattle.aprs_base.specs.declared.events.Happening.TheVariants as did
 use Rattle.aprs_history.specs.Setting.{Setting}
 use Rattle.aprs_history.specs.Scenes.{scene_of}
 use Rattle.aprs_history.specs.Verdicts.{verdict_of}
-use Rattle.aprs_history.specs.Trace.{Trace, Said, Brought, Roomed, Ended, ByPeer, live_links, stopped_links, served_links, is_live, ByStop}
+use Rattle.aprs_history.specs.Trace.{Trace, RoundBegan, Said, Brought, Roomed, Ended, ByPeer, closed_links, live_links, stopped_links, served_links, is_live, ByStop}
 use Rattle.aprs_history.specs.Links.{brought_by, gone_links, is_blocked, taken_by}
 use Rattle.aprs_history.specs.Texts.{lines_of}
-use Rattle.aprs_history.specs.History.{History, open_events, ends_round, is_stop, is_stopped, greatest_link, trace_of, with_event, begun, begin_round, bring, say_all}
+use Rattle.aprs_history.specs.History.{History, open_events, ends_round, is_stop, is_stopped, greatest_link, trace_of, with_event, begun, begin_round, bring, end_round, ended, say_all}
 use Rattle.aprs_history.specs.Rounds.{is_whole, with_events, events_trace, greatest_after, stopped_after}
 use Rattle.aprs_history.specs.Acts.{acts_after, due, is_offered, offered_links}
 use Rattle.aprs_history.specs.Stands.{CoreSeen, link_seen, Follows}
-use Rattle.server_core.specs.LinkSteps.{is_ready, number_of, numbers}
+use Rattle.server_core.specs.LinkSteps.{Rises, is_ready, number_of, numbers}
 use Rattle.server_core.proofs.FollowLemmas.{queued-left}
-use Rattle.server_core.proofs.WalkLemmas.{going_after, left_none, live_after, filter_seen, numbers_seen}
+use Rattle.server_core.proofs.WalkLemmas.{closed_by_stop, going_after, left_none, live_after, filter_seen, numbers_seen, stopped_by_stop}
 
 pub ends_not : (n : ℕ) (e next : Event) (events : List Event) → is_whole n (e ∷ next ∷ events) ≡ true → (ends_round n e ≡ false) × (is_whole (n + 1) (next ∷ events) ≡ true)
 ends_not n e next events whole =
@@ -50,15 +50,40 @@ not_begun n t =
     let later : (n + 1 == 0) ≡ false = false_from_ne_true _ (λ is. let zero_is : n + 1 ≡ 0 = eqb-true (n + 1) 0 is in absurd (omega arith)) in
     ap (λ b. if b then begin_round t else t) later
 
+-- an event that doesn't end a round is no stop
+pub no_stop : (n : ℕ) (e : Event) → ends_round n e ≡ false → is_stop e ≡ false
+no_stop n (event.Tick moment) goes = refl
+no_stop n (event.Opened listener link from) goes = refl
+no_stop n (event.Bytes link bytes) goes = refl
+no_stop n (event.Ended link) goes = refl
+no_stop n (event.Room link) goes = refl
+no_stop n event.Stop goes = absurd (true≢false goes)
+no_stop n (event.Joined uplink link at) goes = refl
+no_stop n (event.Unjoined uplink) goes = refl
+no_stop n (event.Datagram listener from bytes) goes = refl
+
+or_none : (b : Bool) → (b || false) ≡ b
+or_none true = refl
+or_none false = refl
+
+-- the trace of a whole round: its beginning, its events, and its end
 pub trace_whole : (s : Setting) (n : ℕ) (events : List Event) (h : History) → is_whole n events ≡ true → open_events h ≡ n
-    → trace_of s (with_events events h) ≡ events_trace s events (begun n (trace_of s h))
+    → trace_of s (with_events events h) ≡ end_round (stopped_after events false) (events_trace s events (begun n (trace_of s h)))
 unfolding trace_of
 trace_whole s n [] h whole open_is = absurd (false≢true whole)
-trace_whole s n (e ∷ []) h whole open_is = ap (λ m. with_event s e (begun m (trace_of s h))) open_is
+trace_whole s n (e ∷ []) h whole open_is =
+    ap (λ m. ended (ends_round m e) e (with_event s e (begun m (trace_of s h)))) open_is
+    ∙ ap (λ b. ended b e (with_event s e (begun n (trace_of s h)))) whole
+    ∙ ap (λ b. end_round b (with_event s e (begun n (trace_of s h)))) (sym (or_none (is_stop e)))
 trace_whole s n (e ∷ next ∷ events) h whole open_is =
     let parts = ends_not n e next events whole in
+    let after : trace_of s (did.Event e ∷ h) ≡ with_event s e (begun n (trace_of s h)) =
+    ap (λ m. ended (ends_round m e) e (with_event s e (begun m (trace_of s h)))) open_is ∙ ap (λ b. ended b e (with_event s e (begun n (trace_of s h)))) parts.0 in
+    let going : stopped_after (next ∷ events) false ≡ stopped_after (next ∷ events) (is_stop e || false) =
+    ap (λ b. stopped_after (next ∷ events) (b || false)) (sym (no_stop n e parts.0)) in
     trace_whole s (n + 1) (next ∷ events) (did.Event e ∷ h) parts.1 (more_events n e h parts.0 open_is)
-    ∙ ap (events_trace s (next ∷ events)) (not_begun n (with_event s e (begun (open_events h) (trace_of s h))) ∙ ap (λ m. with_event s e (begun m (trace_of s h))) open_is)
+    ∙ ap (λ t. end_round (stopped_after (next ∷ events) false) (events_trace s (next ∷ events) t)) (not_begun n (trace_of s (did.Event e ∷ h)) ∙ after)
+    ∙ ap (λ b. end_round b (events_trace s (next ∷ events) (with_event s e (begun n (trace_of s h))))) going
 
 pub greatest_whole : (events : List Event) (h : History) → greatest_link (with_events events h) ≡ greatest_after events (greatest_link h)
 greatest_whole [] h = refl
@@ -87,32 +112,24 @@ if_going : (b : Bool) (t u : Trace) → stopped_links t ≡ stopped_links u → 
 if_going true t u same = same
 if_going false t u same = refl
 
--- no event but a stop stops links
-pub event_going : (s : Setting) (e : Event) (t : Trace) → is_stop e ≡ false → stopped_links (with_event s e t) ≡ stopped_links t
-event_going s (event.Tick moment) t no_stop = refl
-event_going s (event.Opened listener link from) t no_stop = refl
-event_going s (event.Bytes link bytes) t no_stop = if_going (is_live t link) (bring s link bytes t) t (said_going s link (cuts_by (brought_by t link) bytes) (Brought link bytes ∷ t))
-event_going s (event.Ended link) t no_stop = if_going (is_live t link) (Ended link ByPeer ∷ t) t (append-nil (stopped_links t))
-event_going s (event.Room link) t no_stop = if_going (is_live t link) (Roomed link ∷ t) t refl
-event_going s event.Stop t no_stop = absurd (true≢false no_stop)
-event_going s (event.Joined uplink link at) t no_stop = refl
-event_going s (event.Unjoined uplink) t no_stop = refl
-event_going s (event.Datagram listener from bytes) t no_stop = refl
+-- no event stops links: a stop does so as it ends its round
+pub event_going : (s : Setting) (e : Event) (t : Trace) → stopped_links (with_event s e t) ≡ stopped_links t
+event_going s (event.Tick moment) t = refl
+event_going s (event.Opened listener link from) t = refl
+event_going s (event.Bytes link bytes) t = if_going (is_live t link) (bring s link bytes t) t (said_going s link (cuts_by (brought_by t link) bytes) (Brought link bytes ∷ t))
+event_going s (event.Ended link) t = if_going (is_live t link) (Ended link ByPeer ∷ t) t (append-nil (stopped_links t))
+event_going s (event.Room link) t = if_going (is_live t link) (Roomed link ∷ t) t refl
+event_going s event.Stop t = refl
+event_going s (event.Joined uplink link at) t = refl
+event_going s (event.Unjoined uplink) t = refl
+event_going s (event.Datagram listener from bytes) t = refl
 
--- after a stop no link lives
-pub event_stopped : (s : Setting) (e : Event) (t : Trace) → is_stop e ≡ true → live_links (with_event s e t) ≡ []
-event_stopped s (event.Tick moment) t stop = absurd (false≢true stop)
-event_stopped s (event.Opened listener link from) t stop = absurd (false≢true stop)
-event_stopped s (event.Bytes link bytes) t stop = absurd (false≢true stop)
-event_stopped s (event.Ended link) t stop = absurd (false≢true stop)
-event_stopped s (event.Room link) t stop = absurd (false≢true stop)
-event_stopped s event.Stop t stop = live_after ByStop (live_links t) t ∙ left_none (live_links t)
-event_stopped s (event.Joined uplink link at) t stop = absurd (false≢true stop)
-event_stopped s (event.Unjoined uplink) t stop = absurd (false≢true stop)
-event_stopped s (event.Datagram listener from bytes) t stop = absurd (false≢true stop)
+ended_going : (ends : Bool) (e : Event) (t : Trace) → is_stop e ≡ false → stopped_links (ended ends e t) ≡ stopped_links t
+ended_going true e t no_stop = ap (λ b. stopped_links (end_round b t)) no_stop
+ended_going false e t no_stop = refl
 
 pub begun_going : (n : ℕ) (t : Trace) → stopped_links (begun n t) ≡ stopped_links t
-begun_going n t = if_going (n == 0) (begin_round t) t (going_after (gone_links t) t)
+begun_going n t = if_going (n == 0) (begin_round t) t (going_after (gone_links (RoundBegan ∷ t)) (RoundBegan ∷ t))
 
 or_false : (a b : Bool) → (a || b) ≡ false → (a ≡ false) × (b ≡ false)
 or_false true b h = absurd (true≢false h)
@@ -124,7 +141,8 @@ unfolding trace_of
 history_going s [] no_stop = refl
 history_going s (did.Event e ∷ h) no_stop =
     let parts = or_false (is_stop e) (is_stopped h) no_stop in
-    event_going s e (begun (open_events h) (trace_of s h)) parts.0 ∙ begun_going (open_events h) (trace_of s h) ∙ history_going s h parts.1
+    ended_going (ends_round (open_events h) e) e (with_event s e (begun (open_events h) (trace_of s h))) parts.0
+    ∙ event_going s e (begun (open_events h) (trace_of s h)) ∙ begun_going (open_events h) (trace_of s h) ∙ history_going s h parts.1
 history_going s (did.Sent link bytes (sent.Took n) ∷ h) no_stop = history_going s h no_stop
 history_going s (did.Sent link bytes sent.Gone ∷ h) no_stop = history_going s h no_stop
 history_going s (did.Listen n ∷ h) no_stop = history_going s h no_stop
@@ -145,7 +163,12 @@ module _ (s : Setting) (core : CoreSeen) (t : Trace) (follows : Follows s core t
       ∙ ap (map number_of) (filter_seen s core t follows is_ready (is_offered s t) (served_links t) ready_seen)
       ∙ numbers_seen s t (offered_links s t)
 
-  pub closes_are : (stopped : Bool) → (stopped ≡ false → stopped_links t ≡ []) → (stopped ≡ true → live_links t ≡ []) → (if stopped then numbers core.links else []) ≡ stopped_links t
-  closes_are true going ended =
-      ap numbers follows.links ∙ numbers_seen s t (served_links t) ∙ ap (λ live. stopped_links t ++ live) (ended refl) ∙ append-nil (stopped_links t)
-  closes_are false going ended = sym (going refl)
+-- the links to be closed are those that the stop ended
+pub closes_are : (s : Setting) (core : CoreSeen) (t : Trace) (stopped : Bool) → Follows s core (end_round stopped t) → stopped_links t ≡ [] → closed_links t ≡ [] → Rises 0 (numbers core.links) core.greatest
+    → (if stopped then numbers core.links else []) ≡ closed_links (end_round stopped t)
+closes_are s core t true follows going none rises =
+    let numbers_are : numbers core.links ≡ live_links t =
+    ap numbers follows.links ∙ numbers_seen s (end_round true t) (served_links (end_round true t)) ∙ ap (λ ks. ks ++ live_links (end_round true t)) (stopped_by_stop t going)
+    ∙ ap (λ ks. live_links t ++ ks) (live_after ByStop (live_links t) t ∙ left_none (live_links t)) ∙ append-nil (live_links t) in
+    numbers_are ∙ sym (closed_by_stop core.greatest t none (subst (λ ns. Rises 0 ns core.greatest) numbers_are rises))
+closes_are s core t false follows going none rises = sym none

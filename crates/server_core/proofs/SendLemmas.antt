@@ -61,9 +61,7 @@ stands_took core links k offered n bytes h size stands part pending new =
       follows = record {
         moment = follows.moment;
         links = new ∙ ap (λ m. map (at_link k (with_taken m n)) core.seen.links) (sym size) ∙ follows.links;
-        accepted = follows.accepted;
-        stations = follows.stations;
-        heard = follows.heard;
+        tables = follows.tables;
         took = follows.took;
       };
       greatest = stands.greatest;
@@ -78,7 +76,7 @@ stands_gone core links k bytes h stands new =
     let follows = follows_lost s core.seen (trace_of s h) stands.follows k in
     record {
       finished = stands.finished;
-      follows = record { moment = follows.moment; links = new ∙ follows.links; accepted = follows.accepted; stations = follows.stations; heard = follows.heard; took = follows.took };
+      follows = record { moment = follows.moment; links = new ∙ follows.links; tables = follows.tables; took = follows.took };
       greatest = stands.greatest;
       stopped = stands.stopped;
     }
@@ -99,7 +97,17 @@ pub stands_new : (s : Setting) (core : CoreSeen) → core.moment ≡ 0 → core.
 unfolding trace_of
 stands_new s core moment links accepted stations heard greatest stopped = record {
   finished = refl;
-  follows = record { moment = moment; links = links; accepted = accepted; stations = subst (λ table. Agrees table []) (sym stations) new_agrees; heard = subst (λ table. Remembers table []) (sym heard) (record { once_heard = once_none [] refl; once_promised = once_none [] refl; heard = λ l call. refl; promised = λ l sender. refl }); took = λ k. omega arith };
+  follows = record {
+    moment = moment;
+    links = links;
+    tables = record {
+      accepted = accepted;
+      stations = subst (λ table. Agrees table []) (sym stations) new_agrees;
+      heard = subst (λ table. Remembers table []) (sym heard)
+          (record { once_heard = once_none [] refl; once_promised = once_none [] refl; heard = λ l call. refl; promised = λ l sender. refl });
+    };
+    took = λ k. omega arith;
+  };
   greatest = greatest;
   stopped = stopped;
 }

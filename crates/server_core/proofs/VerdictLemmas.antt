@@ -120,7 +120,7 @@ packet_fit : (now : ℕ) (accepted : List PacketSeen) (routed : Result Parts Ref
 packet_fit now accepted (Err why) = tt
 packet_fit now accepted (Ok parts) = by_copy (is_duplicate now accepted parts)
   where
-    by_copy : (again : Bool) → IsFit (if again then Refused refusal.Duplicate else Accepted parts (text_of parts))
+    by_copy : (again : Bool) → IsFit (if again then Refused (refusal.Duplicate parts (text_of parts)) else Accepted parts (text_of parts))
     by_copy true = tt
     by_copy false = tt
 

@@ -1,6 +1,6 @@
 -- The walk over a round: what the core keeps follows the trace, entry by entry.
-use Rattle.std.proofs.Common.{◌≡◌, ℕ, ◌+◌, ◌≤◌, ◌<◌, ◌==◌, Bool, true, false, not, ◌||◌, List, [], ◌∷◌, ◌++◌, length, map, filter, refl, sym, ap, ◌∙◌, subst, arith, Option, Some, None, ⊎_elim, append-nil, append_assoc, max, min, eq-eqb, cond, if◌then◌else◌}
-use Rattle.std.proofs.lemmas.Bool.{eqb-true, cases_Bool, false_from_ne_true, true≢false}
+use Rattle.std.proofs.Common.{◌≡◌, ℕ, ◌+◌, ◌≤◌, ◌<◌, ◌==◌, Bool, true, false, not, ◌||◌, List, [], ◌∷◌, ◌++◌, length, map, filter, refl, sym, ap, ◌∙◌, subst, arith, Option, Some, None, ⊎_elim, append-nil, append_assoc, max, min, nat_lt, eq-eqb, cond, if◌then◌else◌}
+use Rattle.std.proofs.lemmas.Bool.{eqb-true, ltb-true, cases_Bool, false_from_ne_true, true≢false}
 use Rattle.aprs_base.specs.Held.{held_after}
 use Rattle.aprs_base.specs.declared.texts.Addr.{Addr}
 use Rattle.aprs_base.specs.declared.cutting.Cut.{Cut}
@@ -15,20 +15,20 @@ use Rattle.aprs_history.specs.declared.verdicts.Refusal.{Refusal}
 use Rattle.aprs_history.specs.declared.verdicts.Verdict.{Verdict}
 use Rattle.aprs_history.specs.declared.verdicts.Verdict.TheVariants.{PassedOver, Refused, LoggedIn, Filtered, Accepted}
 use Rattle.aprs_history.specs.Setting.{Setting}
-use Rattle.aprs_history.specs.Trace.{Trace, Ticked, Opened, Brought, Said, Roomed, Took, Lost, Ended, EndReason, FoundGone, ByPeer, ByStop, live_links, stopped_links, served_links, is_live, is_member, is_other, moment_of, last_moment}
+use Rattle.aprs_history.specs.Trace.{Trace, Admission, NoPort, Served, RoundBegan, Ticked, Opened, Brought, Said, Roomed, Took, Lost, Ended, EndReason, FoundGone, ByPeer, ByStop, closed_links, live_links, placed, stopped_links, served_links, is_live, is_member, is_other, moment_of, last_moment}
 use Rattle.aprs_history.specs.Links.{brought_by, opening_of, taken_by, is_gone, gone_links}
 use Rattle.aprs_history.specs.Scenes.{accepted_of, has_filters, packet_of}
 use Rattle.aprs_history.specs.Messages.{heard_of, promise_of}
 use Rattle.aprs_history.specs.Sights.{friend_in, is_gate_at, sighting}
-use Rattle.aprs_history.specs.Texts.{lines_of, text_bytes, added_by, login_reply, refusal_reply}
-use Rattle.aprs_history.specs.Stands.{LinkSeen, CoreSeen, link_seen, TookNoMore, Follows, Remembers}
-use Rattle.aprs_history.specs.History.{end_all, begin_round}
+use Rattle.aprs_history.specs.Texts.{lines_of, plain, text_bytes, added_by, login_reply, refusal_reply}
+use Rattle.aprs_history.specs.Stands.{LinkSeen, CoreSeen, link_seen, TookNoMore, Follows, Keeps, Remembers}
+use Rattle.aprs_history.specs.History.{end_all, end_gone}
 use Rattle.server_core.specs.LinkSteps.{filters_at, filters_kept, forgotten_all, hearers_of, is_lost, owed_in, receiver_of, after_answer, after_login, after_login_answer, after_packet, after_verdict, found_in, has_that, with_answer, with_reply, at_link, at_moment, with_room, when_gone, with_taken, with_bytes, with_text, with_session, with_packet, new_link_seen, numbers, is_there, is_another, Rises}
 use Rattle.server_core.specs.declared.link.SourcePlace.{SourcePlace}
 use Rattle.server_core.proofs.SightLemmas.{answer_same, friends_found, map_same, sighting_found, source_known}
 use Rattle.server_core.proofs.MemberLemmas.{eqb_turned, member_filtered, member_later}
 use Rattle.server_core.proofs.HeardLemmas.{hearers_are, owed_are, remembers_accepted, remembers_all_ended, remembers_ended, remembers_opened, remembers_unserved}
-use Rattle.server_core.proofs.FollowLemmas.{picked_missing, picked_seen, answered_seen, map_through, text_more, ticked_seen, with_login, roomed_seen, lost_seen, took_seen, brought_seen, refused_seen, replied_seen, passed_seen, login_seen, accepted_seen, opened_seen, new_seen}
+use Rattle.server_core.proofs.FollowLemmas.{picked_missing, picked_seen, answered_seen, map_through, lines_said, round_seen, text_more, ticked_seen, with_login, roomed_seen, lost_seen, took_seen, brought_seen, refused_seen, replied_seen, passed_seen, login_seen, accepted_seen, opened_seen, new_seen}
 
 -- ---- lists of numbers
 
@@ -87,10 +87,11 @@ remembers_as table t u live heard promised remembers = record {
 
 module _ (s : Setting) where
   took_said : (t : Trace) → TookNoMore s t → (k : ℕ) (cut : Cut) (verdict : Verdict) → TookNoMore s (Said k cut verdict ∷ t)
-  took_said t took k cut verdict j = text_more (lines_of s t j) (added_by s t k verdict j) (taken_by t j) (took j)
+  took_said t took k cut verdict j =
+      subst (λ lines. taken_by t j ≤ length (text_bytes lines)) (sym (lines_said s t k cut verdict j)) (text_more (lines_of s t j) (plain (added_by s t k verdict j)) (taken_by t j) (took j))
 
-  took_opened : (t : Trace) → TookNoMore s t → (serves : Option PortKind) (k : ℕ) (from : Addr) → TookNoMore s (Opened serves k from ∷ t)
-  took_opened t took serves k from j = ⊎_elim (λ here. rw here (omega arith)) (λ other. rw other (took j)) (cases_Bool (j == k))
+  took_opened : (t : Trace) → TookNoMore s t → (listener : ℕ) (admission : Admission) (k : ℕ) (from : Addr) → TookNoMore s (Opened listener admission k from ∷ t)
+  took_opened t took listener admission k from j = ⊎_elim (λ here. rw here (omega arith)) (λ other. rw other (took j)) (cases_Bool (j == k))
 
   took_took : (t : Trace) → TookNoMore s t → (k offered n : ℕ) → taken_by t k + n ≤ length (text_bytes (lines_of s t k)) → TookNoMore s (Took k offered n ∷ t)
   took_took t took k offered n le j =
@@ -126,15 +127,30 @@ abbrev pub with_moment : ℕ → CoreSeen → CoreSeen
 with_moment moment core = record core { moment = moment; links = map (at_moment moment) core.links }
 
 module _ (s : Setting) (core : CoreSeen) (t : Trace) (follows : Follows s core t) where
+  -- entries that accept nothing, and leave live links with what they heard and were promised, leave what the tables have
+  same_tables : (u : Trace) → accepted_of u ≡ accepted_of t → ((l : ℕ) → is_live u l ≡ is_live t l) → ((l : ℕ) (call : List ℕ) → heard_of u l call ≡ heard_of t l call)
+      → ((l : ℕ) (sender : List ℕ) → promise_of u l sender ≡ promise_of t l sender) → Keeps core.accepted core.stations core.heard u
+  same_tables u accepted live heard promised = record {
+    accepted = follows.tables.accepted ∙ sym accepted;
+    stations = subst (Agrees core.stations) (sym accepted) follows.tables.stations;
+    heard = remembers_as core.heard t u live heard promised follows.tables.heard;
+  }
+
+  pub follows_began : Follows s core (RoundBegan ∷ t)
+  follows_began = record {
+    moment = follows.moment;
+    links = follows.links ∙ sym (map_on (link_seen s (RoundBegan ∷ t)) (link_seen s t) (served_links t) (λ j member. round_seen s t j));
+    tables = same_tables (RoundBegan ∷ t) refl (λ l. refl) (λ l call. refl) (λ l sender. refl);
+    took = follows.took;
+  }
+
   pub follows_ticked : (m : ℕ) → Follows s (with_moment (max (min m last_moment) core.moment) core) (Ticked m ∷ t)
   follows_ticked m = record {
     moment = ap (max (min m last_moment)) follows.moment;
     links = ap (λ now. map (at_moment (max (min m last_moment) now)) core.links) follows.moment
         ∙ ap (map (at_moment (moment_of (Ticked m ∷ t)))) follows.links
         ∙ sym (map_through (link_seen s (Ticked m ∷ t)) (at_moment (moment_of (Ticked m ∷ t))) (link_seen s t) (ticked_seen s t m) (served_links t));
-    accepted = follows.accepted;
-    stations = follows.stations;
-    heard = remembers_as core.heard t (Ticked m ∷ t) (λ l. refl) (λ l call. refl) (λ l sender. refl) follows.heard;
+    tables = same_tables (Ticked m ∷ t) refl (λ l. refl) (λ l call. refl) (λ l sender. refl);
     took = follows.took;
   }
 
@@ -142,9 +158,7 @@ module _ (s : Setting) (core : CoreSeen) (t : Trace) (follows : Follows s core t
   follows_roomed k = record {
     moment = follows.moment;
     links = ap (map (at_link k with_room)) follows.links ∙ sym (map_through (link_seen s (Roomed k ∷ t)) (at_link k with_room) (link_seen s t) (roomed_seen s t k) (served_links t));
-    accepted = follows.accepted;
-    stations = follows.stations;
-    heard = remembers_as core.heard t (Roomed k ∷ t) (λ l. refl) (λ l call. refl) (λ l sender. refl) follows.heard;
+    tables = same_tables (Roomed k ∷ t) refl (λ l. refl) (λ l call. refl) (λ l sender. refl);
     took = follows.took;
   }
 
@@ -152,9 +166,7 @@ module _ (s : Setting) (core : CoreSeen) (t : Trace) (follows : Follows s core t
   follows_lost k = record {
     moment = follows.moment;
     links = ap (map (at_link k when_gone)) follows.links ∙ sym (map_through (link_seen s (Lost k ∷ t)) (at_link k when_gone) (link_seen s t) (lost_seen s t k) (served_links t));
-    accepted = follows.accepted;
-    stations = follows.stations;
-    heard = remembers_as core.heard t (Lost k ∷ t) (λ l. refl) (λ l call. refl) (λ l sender. refl) follows.heard;
+    tables = same_tables (Lost k ∷ t) refl (λ l. refl) (λ l call. refl) (λ l sender. refl);
     took = follows.took;
   }
 
@@ -164,9 +176,7 @@ module _ (s : Setting) (core : CoreSeen) (t : Trace) (follows : Follows s core t
     moment = follows.moment;
     links = ap (map (at_link k (with_taken offered n))) follows.links
         ∙ sym (map_through (link_seen s (Took k offered n ∷ t)) (at_link k (with_taken offered n)) (link_seen s t) (took_seen s t k offered n) (served_links t));
-    accepted = follows.accepted;
-    stations = follows.stations;
-    heard = remembers_as core.heard t (Took k offered n ∷ t) (λ l. refl) (λ l call. refl) (λ l sender. refl) follows.heard;
+    tables = same_tables (Took k offered n ∷ t) refl (λ l. refl) (λ l call. refl) (λ l sender. refl);
     took = took_took s t follows.took k offered n le;
   }
 
@@ -178,23 +188,15 @@ module _ (s : Setting) (core : CoreSeen) (t : Trace) (follows : Follows s core t
         ∙ ap (map (at_link k (with_bytes (moment_of t) (held_after (brought_by t k ++ bytes))))) follows.links
         ∙ sym (map_through (link_seen s (Brought k bytes ∷ t)) (at_link k (with_bytes (moment_of t) (held_after (brought_by t k ++ bytes)))) (link_seen s t)
         (brought_seen s t k bytes) (served_links t));
-    accepted = follows.accepted;
-    stations = follows.stations;
-    heard = remembers_as core.heard t (Brought k bytes ∷ t) (λ l. refl) (λ l call. refl) (λ l sender. refl) follows.heard;
+    tables = same_tables (Brought k bytes ∷ t) refl (λ l. refl) (λ l call. refl) (λ l sender. refl);
     took = follows.took;
   }
-
-  -- the table agrees where nothing more was accepted
-  agrees_still : Agrees core.stations (accepted_of t ++ [])
-  agrees_still = subst (Agrees core.stations) (sym (append-nil (accepted_of t))) follows.stations
 
   follows_passed : (k : ℕ) (cut : Cut) → Follows s core (Said k cut PassedOver ∷ t)
   follows_passed k cut = record {
     moment = follows.moment;
     links = follows.links ∙ sym (map_on (link_seen s (Said k cut PassedOver ∷ t)) (link_seen s t) (served_links t) (λ j member. passed_seen s t k cut j));
-    accepted = follows.accepted ∙ sym (append-nil (accepted_of t));
-    stations = agrees_still;
-    heard = remembers_as core.heard t (Said k cut PassedOver ∷ t) (λ l. refl) (λ l call. refl) (λ l sender. refl) follows.heard;
+    tables = same_tables (Said k cut PassedOver ∷ t) (append-nil (accepted_of t)) (λ l. refl) (λ l call. refl) (λ l sender. refl);
     took = took_said s t follows.took k cut PassedOver;
   }
 
@@ -203,9 +205,7 @@ module _ (s : Setting) (core : CoreSeen) (t : Trace) (follows : Follows s core t
   follows_told k cut why None none = record {
     moment = follows.moment;
     links = follows.links ∙ sym (map_on (link_seen s (Said k cut (Refused why) ∷ t)) (link_seen s t) (served_links t) (λ j member. refused_seen s t k cut why j none));
-    accepted = follows.accepted ∙ sym (append-nil (accepted_of t));
-    stations = agrees_still;
-    heard = remembers_as core.heard t (Said k cut (Refused why) ∷ t) (λ l. refl) (λ l call. refl) (λ l sender. refl) follows.heard;
+    tables = same_tables (Said k cut (Refused why) ∷ t) (append-nil (accepted_of t)) (λ l. refl) (λ l call. refl) (λ l sender. refl);
     took = took_said s t follows.took k cut (Refused why);
   }
   follows_told k cut why (Some line) some = record {
@@ -213,9 +213,7 @@ module _ (s : Setting) (core : CoreSeen) (t : Trace) (follows : Follows s core t
     links = ap (map (at_link k (with_text line))) follows.links
         ∙ sym (map_through (link_seen s (Said k cut (Refused why) ∷ t)) (at_link k (with_text line)) (link_seen s t)
         (λ j. replied_seen s t follows.took k cut why line j some) (served_links t));
-    accepted = follows.accepted ∙ sym (append-nil (accepted_of t));
-    stations = agrees_still;
-    heard = remembers_as core.heard t (Said k cut (Refused why) ∷ t) (λ l. refl) (λ l call. refl) (λ l sender. refl) follows.heard;
+    tables = same_tables (Said k cut (Refused why) ∷ t) (append-nil (accepted_of t)) (λ l. refl) (λ l call. refl) (λ l sender. refl);
     took = took_said s t follows.took k cut (Refused why);
   }
 
@@ -228,7 +226,7 @@ module _ (s : Setting) (core : CoreSeen) (t : Trace) (follows : Follows s core t
   answers_agree k answer links =
       map_same (at_link k (with_answer (found_in core.moment core.stations) answer)) (at_link k (with_answer (friend_in (accepted_of t) (moment_of t)) answer))
       (λ link. ap (λ answered. if has_that k link then answered else link)
-      (answer_same (found_in core.moment core.stations) (friend_in (accepted_of t) (moment_of t)) (friends_found core (accepted_of t) (moment_of t) follows.moment follows.stations) answer link)) links
+      (answer_same (found_in core.moment core.stations) (friend_in (accepted_of t) (moment_of t)) (friends_found core (accepted_of t) (moment_of t) follows.moment follows.tables.stations) answer link)) links
 
   follows_answer : (k : ℕ) (cut : Cut) (answer : FilterAnswer) → Follows s (after_answer k answer core) (Said k cut (Filtered answer) ∷ t)
   follows_answer k cut answer = record {
@@ -237,9 +235,7 @@ module _ (s : Setting) (core : CoreSeen) (t : Trace) (follows : Follows s core t
         ∙ ap (map (at_link k (with_answer (friend_in (accepted_of t) (moment_of t)) answer))) follows.links
         ∙ sym (map_through (link_seen s (Said k cut (Filtered answer) ∷ t)) (at_link k (with_answer (friend_in (accepted_of t) (moment_of t)) answer)) (link_seen s t)
         (answered_seen s t follows.took k cut answer) (served_links t));
-    accepted = follows.accepted ∙ sym (append-nil (accepted_of t));
-    stations = agrees_still;
-    heard = remembers_as core.heard t (Said k cut (Filtered answer) ∷ t) (λ l. refl) (λ l call. refl) (λ l sender. refl) follows.heard;
+    tables = same_tables (Said k cut (Filtered answer) ∷ t) (append-nil (accepted_of t)) (λ l. refl) (λ l call. refl) (λ l sender. refl);
     took = took_said s t follows.took k cut (Filtered answer);
   }
 
@@ -248,13 +244,13 @@ module _ (s : Setting) (core : CoreSeen) (t : Trace) (follows : Follows s core t
       ≡ map (at_link k (with_login (accepted_of t) (moment_of t) session (login_reply s.server session) answer)) core.links
   logged_links k session None =
       ap (λ place. map (at_link k (with_session session place (login_reply s.server session))) core.links)
-      (sighting_found core (accepted_of t) (moment_of t) follows.moment follows.stations session.call)
+      (sighting_found core (accepted_of t) (moment_of t) follows.moment follows.tables.stations session.call)
   logged_links k session (Some answer) =
       let reply = login_reply s.server session in
       let logged = with_session session (sighting (accepted_of t) (moment_of t) session.call) reply in
       let answered = with_answer (friend_in (accepted_of t) (moment_of t)) answer in
       ap (λ place. map (at_link k (with_answer (found_in core.moment core.stations) answer)) (map (at_link k (with_session session place reply)) core.links))
-      (sighting_found core (accepted_of t) (moment_of t) follows.moment follows.stations session.call)
+      (sighting_found core (accepted_of t) (moment_of t) follows.moment follows.tables.stations session.call)
       ∙ answers_agree k answer (map (at_link k logged) core.links)
       ∙ map_twice (at_link k answered) (at_link k logged) core.links
       ∙ map_same (λ link. at_link k answered (at_link k logged link)) (at_link k (λ link. answered (logged link))) (at_twice k answered logged (λ link. refl)) core.links
@@ -273,17 +269,13 @@ module _ (s : Setting) (core : CoreSeen) (t : Trace) (follows : Follows s core t
       logged_in None links = record {
         moment = follows.moment;
         links = links;
-        accepted = follows.accepted ∙ sym (append-nil (accepted_of t));
-        stations = agrees_still;
-        heard = remembers_as core.heard t (Said k cut (LoggedIn session None) ∷ t) (λ l. refl) (λ l call. refl) (λ l sender. refl) follows.heard;
+        tables = same_tables (Said k cut (LoggedIn session None) ∷ t) (append-nil (accepted_of t)) (λ l. refl) (λ l call. refl) (λ l sender. refl);
         took = took_said s t follows.took k cut (LoggedIn session None);
       }
       logged_in (Some given) links = record {
         moment = follows.moment;
         links = links;
-        accepted = follows.accepted ∙ sym (append-nil (accepted_of t));
-        stations = agrees_still;
-        heard = remembers_as core.heard t (Said k cut (LoggedIn session (Some given)) ∷ t) (λ l. refl) (λ l call. refl) (λ l sender. refl) follows.heard;
+        tables = same_tables (Said k cut (LoggedIn session (Some given)) ∷ t) (append-nil (accepted_of t)) (λ l. refl) (λ l call. refl) (λ l sender. refl);
         took = took_said s t follows.took k cut (LoggedIn session (Some given));
       }
 
@@ -307,15 +299,17 @@ module _ (s : Setting) (core : CoreSeen) (t : Trace) (follows : Follows s core t
       let owed = owed_in (record core { moment = moment_of t }) packet in
       record {
         moment = refl;
-        links = ap (λ place. map (with_packet k packet place hearers owed) core.links) (source_known (record core { moment = moment_of t }) (accepted_of t) (moment_of t) refl follows.stations parts.source)
+        links = ap (λ place. map (with_packet k packet place hearers owed) core.links) (source_known (record core { moment = moment_of t }) (accepted_of t) (moment_of t) refl follows.tables.stations parts.source)
             ∙ ap (map (with_packet k packet source hearers owed)) follows.links
             ∙ map_twice (with_packet k packet source hearers owed) (link_seen s t) (served_links t)
             ∙ sym (map_on (link_seen s (Said k cut (Accepted parts line) ∷ t)) (λ j. with_packet k packet source hearers owed (link_seen s t j)) (served_links t)
             (λ j member. let here = subst (λ stopped. is_member j (stopped ++ live_links t) ≡ true) going member in
-            accepted_seen s t follows.took k cut parts line hearers owed j here (hearers_are core.heard t follows.heard packet j here) (owed_are core.heard t follows.heard packet j here)));
-        accepted = ap (λ packets. packets ++ packet ∷ []) follows.accepted;
-        stations = note_agrees core.stations (accepted_of t) packet follows.stations;
-        heard = remembers_accepted core.heard t follows.heard core.links k cut parts line live (filters_live going) (filters_nowhere going);
+            accepted_seen s t follows.took k cut parts line hearers owed j here (hearers_are core.heard t follows.tables.heard packet j here) (owed_are core.heard t follows.tables.heard packet j here)));
+        tables = record {
+          accepted = ap (λ packets. packets ++ packet ∷ []) follows.tables.accepted;
+          stations = note_agrees core.stations (accepted_of t) packet follows.tables.stations;
+          heard = remembers_accepted core.heard t follows.tables.heard core.links k cut parts line live (filters_live going) (filters_nowhere going);
+        };
         took = took_said s t follows.took k cut (Accepted parts line);
       }
 
@@ -332,11 +326,11 @@ module _ (s : Setting) (core : CoreSeen) (t : Trace) (follows : Follows s core t
   numbers_are : numbers core.links ≡ served_links t
   numbers_are = ap numbers follows.links ∙ numbers_seen s t (served_links t)
 
-  opened_kept : (serves : Option PortKind) (k high : ℕ) (from : Addr) → Rises 0 (numbers core.links) high → high < k
-      → map (link_seen s t) (served_links t) ≡ map (link_seen s (Opened serves k from ∷ t)) (served_links t)
-  opened_kept serves k high from rises above =
-      sym (map_on (link_seen s (Opened serves k from ∷ t)) (link_seen s t) (served_links t) (λ j member.
-      opened_seen s t serves k from j (below_other j k high (served_links t) (subst (λ ns. Rises 0 ns high) numbers_are rises) above member)))
+  opened_kept : (listener : ℕ) (admission : Admission) (k high : ℕ) (from : Addr) → Rises 0 (numbers core.links) high → high < k
+      → map (link_seen s t) (served_links t) ≡ map (link_seen s (Opened listener admission k from ∷ t)) (served_links t)
+  opened_kept listener admission k high from rises above =
+      sym (map_on (link_seen s (Opened listener admission k from ∷ t)) (link_seen s t) (served_links t) (λ j member.
+      opened_seen s t listener admission k from j (below_other j k high (served_links t) (subst (λ ns. Rises 0 ns high) numbers_are rises) above member)))
 
   -- a link whose number is above all others doesn't live yet
   not_yet : (k high : ℕ) → Rises 0 (numbers core.links) high → high < k → is_live t k ≡ false
@@ -346,33 +340,37 @@ module _ (s : Setting) (core : CoreSeen) (t : Trace) (follows : Follows s core t
       absurd (omega arith))
 
   -- a link that a client opens
-  pub follows_opened : (kind : PortKind) (k high : ℕ) (from : Addr) → Rises 0 (numbers core.links) high → high < k
-      → Follows s (with_links (core.links ++ new_link_seen k (record { kind = kind; from = from; moment = core.moment }) ∷ []) core) (Opened (Some kind) k from ∷ t)
-  follows_opened kind k high from rises above =
-      let seen = link_seen s (Opened (Some kind) k from ∷ t) in
+  pub follows_opened : (listener : ℕ) (kind : PortKind) (k high : ℕ) (from : Addr) → Rises 0 (numbers core.links) high → high < k
+      → Follows s (with_links (core.links ++ new_link_seen k (record { kind = kind; from = from; moment = core.moment }) ∷ []) core) (Opened listener (Served kind) k from ∷ t)
+  follows_opened listener kind k high from rises above =
+      let seen = link_seen s (Opened listener (Served kind) k from ∷ t) in
       record {
         moment = follows.moment;
         links =
-            ap (λ links. links ++ new_link_seen k (record { kind = kind; from = from; moment = core.moment }) ∷ []) (follows.links ∙ opened_kept (Some kind) k high from rises above)
+            ap (λ links. links ++ new_link_seen k (record { kind = kind; from = from; moment = core.moment }) ∷ []) (follows.links ∙ opened_kept listener (Served kind) k high from rises above)
             ∙ ap (λ m. map seen (served_links t) ++ new_link_seen k (record { kind = kind; from = from; moment = m }) ∷ []) follows.moment
-            ∙ ap (λ l. map seen (served_links t) ++ l ∷ []) (sym (new_seen s t kind k from))
+            ∙ ap (λ l. map seen (served_links t) ++ l ∷ []) (sym (new_seen s t listener kind k from))
             ∙ sym (map_push seen (served_links t) k)
             ∙ ap (map seen) (append_assoc (stopped_links t) (live_links t) (k ∷ []));
-        accepted = follows.accepted;
-        stations = follows.stations;
-        heard = remembers_opened core.heard t kind k from (not_yet k high rises above) follows.heard;
-        took = took_opened s t follows.took (Some kind) k from;
+        tables = record {
+          accepted = follows.tables.accepted;
+          stations = follows.tables.stations;
+          heard = remembers_opened core.heard t listener kind k from (not_yet k high rises above) follows.tables.heard;
+        };
+        took = took_opened s t follows.took listener (Served kind) k from;
       }
 
   -- a link that comes where none is served
-  pub follows_unserved : (k high : ℕ) (from : Addr) → Rises 0 (numbers core.links) high → high < k → Follows s core (Opened None k from ∷ t)
-  follows_unserved k high from rises above = record {
+  pub follows_unserved : (listener k high : ℕ) (from : Addr) → Rises 0 (numbers core.links) high → high < k → Follows s core (Opened listener NoPort k from ∷ t)
+  follows_unserved listener k high from rises above = record {
     moment = follows.moment;
-    links = follows.links ∙ opened_kept None k high from rises above ∙ ap (λ ks. map (link_seen s (Opened None k from ∷ t)) (stopped_links t ++ ks)) (sym (append-nil (live_links t)));
-    accepted = follows.accepted;
-    stations = follows.stations;
-    heard = remembers_unserved core.heard t k from (not_yet k high rises above) follows.heard;
-    took = took_opened s t follows.took None k from;
+    links = follows.links ∙ opened_kept listener NoPort k high from rises above ∙ ap (λ ks. map (link_seen s (Opened listener NoPort k from ∷ t)) (stopped_links t ++ ks)) (sym (append-nil (live_links t)));
+    tables = record {
+      accepted = follows.tables.accepted;
+      stations = follows.tables.stations;
+      heard = remembers_unserved core.heard t listener k from (not_yet k high rises above) follows.tables.heard;
+    };
+    took = took_opened s t follows.took listener NoPort k from;
   }
 
   pub filter_seen : (p : LinkSeen → Bool) (q : ℕ → Bool) (ks : List ℕ) → ((j : ℕ) → p (link_seen s t j) ≡ q j) → filter p (map (link_seen s t) ks) ≡ map (link_seen s t) (filter q ks)
@@ -403,9 +401,7 @@ module _ (s : Setting) (core : CoreSeen) (t : Trace) (follows : Follows s core t
         ∙ filter_seen (is_another k) (is_other k) (live_links t) (another_seen k)
         ∙ sym (ended_seen k ByPeer (filter (is_other k) (live_links t)))
         ∙ ap (λ stopped. map (link_seen s (Ended k ByPeer ∷ t)) (stopped ++ filter (is_other k) (live_links t))) (sym (append-nil (stopped_links t) ∙ going));
-    accepted = follows.accepted;
-    stations = follows.stations;
-    heard = remembers_ended core.heard t k ByPeer follows.heard;
+    tables = record { accepted = follows.tables.accepted; stations = follows.tables.stations; heard = remembers_ended core.heard t k ByPeer follows.tables.heard };
     took = follows.took;
   }
 
@@ -446,9 +442,17 @@ pub going_after : (ks : List ℕ) (t : Trace) → stopped_links (end_all FoundGo
 going_after [] t = refl
 going_after (k ∷ ks) t = going_after ks (Ended k FoundGone ∷ t) ∙ append-nil (stopped_links t)
 
+-- links that were found gone aren't closed
+pub open_after : (ks : List ℕ) (t : Trace) → closed_links (end_all FoundGone ks t) ≡ closed_links t
+open_after [] t = refl
+open_after (k ∷ ks) t = open_after ks (Ended k FoundGone ∷ t)
+
 stopped_after : (ks : List ℕ) (t : Trace) → stopped_links (end_all ByStop ks t) ≡ stopped_links t ++ ks
 stopped_after [] t = sym (append-nil (stopped_links t))
 stopped_after (k ∷ ks) t = stopped_after ks (Ended k ByStop ∷ t) ∙ append_assoc (stopped_links t) (k ∷ []) ks
+
+pub stopped_by_stop : (t : Trace) → stopped_links t ≡ [] → stopped_links (end_all ByStop (live_links t) t) ≡ live_links t
+stopped_by_stop t going = stopped_after (live_links t) t ∙ ap (λ ks. ks ++ live_links t) going
 
 filter_all : (xs : List ℕ) → filter (λ x. not false) xs ≡ xs
 filter_all [] = refl
@@ -514,18 +518,20 @@ module _ (s : Setting) (core : CoreSeen) (t : Trace) (follows : Follows s core t
       ∙ numbers_seen s t (gone_links t)
 
   -- the links that were found gone end as a round begins
-  pub follows_begun : Follows s (with_heard (forgotten_all (numbers (filter is_lost core.links)) core.heard) (with_links (filter is_there core.links) core)) (begin_round t)
+  pub follows_begun : Follows s (with_heard (forgotten_all (numbers (filter is_lost core.links)) core.heard) (with_links (filter is_there core.links) core)) (end_gone t)
   follows_begun = record {
     moment = follows.moment ∙ sym (moment_after FoundGone (gone_links t) t);
     links =
         ap (filter is_there) (follows.links ∙ ap (λ stopped. map (link_seen s t) (stopped ++ live_links t)) going)
         ∙ filter_seen s core t follows is_there (λ j. not (is_gone t j)) (live_links t) there_seen
-        ∙ sym (map_on (link_seen s (begin_round t)) (link_seen s t) (filter (λ j. not (is_gone t j)) (live_links t)) (λ j member. seen_after s FoundGone (gone_links t) t j))
-        ∙ ap (map (link_seen s (begin_round t))) (sym (live_after FoundGone (gone_links t) t ∙ left_failing (is_gone t) (live_links t)))
-        ∙ ap (λ stopped. map (link_seen s (begin_round t)) (stopped ++ live_links (begin_round t))) (sym (going_after (gone_links t) t ∙ going));
-    accepted = follows.accepted ∙ sym (accepted_after FoundGone (gone_links t) t);
-    stations = subst (Agrees core.stations) (sym (accepted_after FoundGone (gone_links t) t)) follows.stations;
-    heard = subst (λ ks. Remembers (forgotten_all ks core.heard) (begin_round t)) (sym lost_numbers) (remembers_all_ended FoundGone (gone_links t) core.heard t follows.heard);
+        ∙ sym (map_on (link_seen s (end_gone t)) (link_seen s t) (filter (λ j. not (is_gone t j)) (live_links t)) (λ j member. seen_after s FoundGone (gone_links t) t j))
+        ∙ ap (map (link_seen s (end_gone t))) (sym (live_after FoundGone (gone_links t) t ∙ left_failing (is_gone t) (live_links t)))
+        ∙ ap (λ stopped. map (link_seen s (end_gone t)) (stopped ++ live_links (end_gone t))) (sym (going_after (gone_links t) t ∙ going));
+    tables = record {
+      accepted = follows.tables.accepted ∙ sym (accepted_after FoundGone (gone_links t) t);
+      stations = subst (Agrees core.stations) (sym (accepted_after FoundGone (gone_links t) t)) follows.tables.stations;
+      heard = subst (λ ks. Remembers (forgotten_all ks core.heard) (end_gone t)) (sym lost_numbers) (remembers_all_ended FoundGone (gone_links t) core.heard t follows.tables.heard);
+    };
     took = took_after s FoundGone (gone_links t) t follows.took;
   }
 
@@ -540,8 +546,34 @@ module _ (s : Setting) (core : CoreSeen) (t : Trace) (follows : Follows s core t
         ap (λ stopped. stopped ++ live_links (end_all ByStop (live_links t) t)) (stopped_after (live_links t) t)
         ∙ ap (λ live. (stopped_links t ++ live_links t) ++ live) (live_after ByStop (live_links t) t ∙ left_none (live_links t))
         ∙ append-nil (stopped_links t ++ live_links t)));
-    accepted = follows.accepted ∙ sym (accepted_after ByStop (live_links t) t);
-    stations = subst (Agrees core.stations) (sym (accepted_after ByStop (live_links t) t)) follows.stations;
-    heard = subst (λ ks. Remembers (forgotten_all ks core.heard) (end_all ByStop (live_links t) t)) (sym live_numbers) (remembers_all_ended ByStop (live_links t) core.heard t follows.heard);
+    tables = record {
+      accepted = follows.tables.accepted ∙ sym (accepted_after ByStop (live_links t) t);
+      stations = subst (Agrees core.stations) (sym (accepted_after ByStop (live_links t) t)) follows.tables.stations;
+      heard = subst (λ ks. Remembers (forgotten_all ks core.heard) (end_all ByStop (live_links t) t)) (sym live_numbers) (remembers_all_ended ByStop (live_links t) core.heard t follows.tables.heard);
+    };
     took = took_after s ByStop (live_links t) t follows.took;
   }
+
+-- ---- the links to be closed after a stop
+
+-- a number above all others comes last
+placed_last : (low high k : ℕ) (before after : List ℕ) → Rises low (before ++ k ∷ after) high → placed k before ≡ before ++ k ∷ []
+placed_last low high k [] after rises = refl
+placed_last low high k (n ∷ before) after rises =
+    let above = member_below n high (before ++ k ∷ after) k rises.1 (member_here before after k) in
+    let lt = above.0 in
+    let later : nat_lt k n ≡ false = false_from_ne_true _ (λ is. let under : k < n = ltb-true k n is in absurd (omega arith)) in
+    ap (λ b. cond b (k ∷ n ∷ before) (n ∷ placed k before)) later ∙ ap (λ ns. n ∷ ns) (placed_last n high k before after rises.1)
+
+-- rising links that a stop ends are those to be closed
+closed_rising : (high : ℕ) (ks : List ℕ) (t : Trace) → Rises 0 (closed_links t ++ ks) high → closed_links (end_all ByStop ks t) ≡ closed_links t ++ ks
+closed_rising high [] t rises = sym (append-nil (closed_links t))
+closed_rising high (k ∷ ks) t rises =
+    let last = placed_last 0 high k (closed_links t) ks rises in
+    let split : (closed_links t ++ k ∷ []) ++ ks ≡ closed_links t ++ k ∷ ks = append_assoc (closed_links t) (k ∷ []) ks in
+    closed_rising high ks (Ended k ByStop ∷ t) (subst (λ ns. Rises 0 ns high) (sym (ap (λ ns. ns ++ ks) last ∙ split)) rises)
+    ∙ ap (λ ns. ns ++ ks) last ∙ split
+
+pub closed_by_stop : (high : ℕ) (t : Trace) → closed_links t ≡ [] → Rises 0 (live_links t) high → closed_links (end_all ByStop (live_links t) t) ≡ live_links t
+closed_by_stop high t none rises =
+    closed_rising high (live_links t) t (subst (λ ns. Rises 0 (ns ++ live_links t) high) (sym none) rises) ∙ ap (λ ns. ns ++ live_links t) none

@@ -3,32 +3,20 @@ use Rattle.std.proofs.Common.{◌≡◌, ℕ, suc, ◌+◌, ◌<◌, Bool, true,
 use Rattle.std.proofs.lemmas.Bool.{true≢false, false≢true}
 use Rattle.aprs_base.specs.declared.events.Event.{Event}
 use Rattle.aprs_base.specs.declared.events.Event.TheVariants as event
-use Rattle.aprs_history.specs.Trace.{Trace, live_links, stopped_links}
-use Rattle.aprs_history.specs.History.{History, ends_round, is_stop, trace_of, with_event, begin_round}
+use Rattle.aprs_history.specs.Trace.{Trace, closed_links}
+use Rattle.aprs_history.specs.History.{History, ends_round, is_stop, trace_of, with_event, begin_round, end_round}
 use Rattle.aprs_history.specs.Rounds.{AreFresh, is_whole, with_events, events_trace, greatest_after, stopped_after}
 use Rattle.aprs_history.specs.Acts.{Closes, offer_to, offered_links}
 use Rattle.aprs_history.specs.Stands.{Follows, StandsFor}
 use Rattle.server_core.specs.ActsSeen.{ActsSeen}
-use Rattle.server_core.specs.LinkSteps.{is_ready, number_of, numbers}
+use Rattle.server_core.specs.LinkSteps.{Rises, is_ready, number_of, numbers}
 use Rattle.server_core.specs.Meaning.{CoreMeaning, setting_of, Stands, AreActs}
-use Rattle.server_core.specs.Steps.{Walks, SameRest, AfterEvent}
+use Rattle.server_core.specs.Steps.{Rests, Walks, SameRest, AfterEvent}
 use Rattle.server_core.specs.RoundWalk.{GoesOn, Walking, Traced}
-use Rattle.server_core.proofs.RoundLemmas.{ends_not, open_whole, trace_whole, greatest_whole, stopped_whole, due_whole, event_going, event_stopped, history_going, offers_are, closes_are}
+use Rattle.server_core.proofs.RoundLemmas.{ends_not, no_stop, open_whole, trace_whole, greatest_whole, stopped_whole, due_whole, history_going, offers_are, closes_are}
 
 pub next_item : {X : Type 0} (xs : List X) (i : ℕ) (x : X) → i < length xs → x ≡ get_or xs i x → drop i xs ≡ x ∷ drop (i + 1) xs
 next_item xs i x lt is = rw add-one (drop-cons xs i x lt ∙ ap (λ y. y ∷ drop (suc i) xs) (sym is))
-
--- an event that doesn't end a round is no stop
-pub no_stop : (n : ℕ) (e : Event) → ends_round n e ≡ false → is_stop e ≡ false
-no_stop n (event.Tick moment) goes = refl
-no_stop n (event.Opened listener link from) goes = refl
-no_stop n (event.Bytes link bytes) goes = refl
-no_stop n (event.Ended link) goes = refl
-no_stop n (event.Room link) goes = refl
-no_stop n event.Stop goes = absurd (true≢false goes)
-no_stop n (event.Joined uplink link at) goes = refl
-no_stop n (event.Unjoined uplink) goes = refl
-no_stop n (event.Datagram listener from bytes) goes = refl
 
 goes_next : (core new : CoreMeaning) (e : Event) (rest : List Event) → GoesOn (e ∷ rest) core → new.seen.stopped ≡ (is_stop e || core.seen.stopped) → GoesOn rest new
 goes_next core new e [] goes stopped = tt
@@ -45,31 +33,17 @@ walking_next start events core new e rest walking after = record {
   goes = goes_next core new e rest walking.goes after.stopped;
 }
 
-or_true : (a : Bool) (b : Bool) → b ≡ false → (a || b) ≡ true → a ≡ true
-or_true true b none h = refl
-or_true false b none h = absurd (false≢true (sym none ∙ h))
-
-or_false_first : (a b : Bool) → (a || b) ≡ false → a ≡ false
-or_false_first true b h = absurd (true≢false h)
-or_false_first false b h = refl
-
 traced_next : (start : CoreMeaning) (first : Trace) (events : List Event) (core new : CoreMeaning) (e : Event) (rest : List Event) (now : Trace)
-    → Walking start events core (e ∷ rest) → Traced start first events core (e ∷ rest) now
-    → ((t : Trace) → Walks core t → Follows (setting_of core.conf) new.seen (with_event (setting_of core.conf) e t)) → AfterEvent core new e
+    → Walking start events core (e ∷ rest) → Traced start first events core (e ∷ rest) now → ((t : Trace) → Walks core t → Walks new (with_event (setting_of core.conf) e t))
     → Traced start first events new rest (with_event (setting_of start.conf) e now)
-traced_next start first events core new e rest now walking traced steps after =
-    let going = walking.goes.2 in
-    let walks : Walks core now = record { follows = subst (λ conf. Follows (setting_of conf) core.seen now) (sym walking.conf) traced.follows; going = traced.going going } in
-    record {
-      whole = traced.whole;
-      follows = subst (λ conf. Follows (setting_of conf) new.seen (with_event (setting_of conf) e now)) walking.conf (steps now walks);
-      going = λ none. event_going (setting_of start.conf) e now (or_false_first (is_stop e) core.seen.stopped (sym after.stopped ∙ none)) ∙ traced.going going;
-      ended = λ stop. event_stopped (setting_of start.conf) e now (or_true (is_stop e) core.seen.stopped going (sym after.stopped ∙ stop));
-    }
+traced_next start first events core new e rest now walking traced steps = record {
+  whole = traced.whole;
+  walks = subst (λ conf. Walks new (with_event (setting_of conf) e now)) walking.conf (steps now traced.walks);
+}
 
 pub round_next : (start : CoreMeaning) (events : List Event) (core new : CoreMeaning) (left : List Event) (e : Event) (rest : List Event) → left ≡ e ∷ rest
     → Walking start events core left × ((first : Trace) → Walks start first → (now : Trace) × Traced start first events core left now)
-    → ((t : Trace) → Walks core t → Follows (setting_of core.conf) new.seen (with_event (setting_of core.conf) e t)) → AfterEvent core new e
+    → ((t : Trace) → Walks core t → Walks new (with_event (setting_of core.conf) e t)) → AfterEvent core new e
     → Walking start events new rest × ((first : Trace) → Walks start first → (now : Trace) × Traced start first events new rest now)
 round_next start events core new left e rest is so_far steps after =
     let walking = subst (Walking start events core) is so_far.0 in (
@@ -77,46 +51,67 @@ round_next start events core new left e rest is so_far steps after =
       λ first walks.
           let now = so_far.1 first walks in
           let traced = subst (λ ls. Traced start first events core ls now.0) is now.1 in
-          (with_event (setting_of start.conf) e now.0, traced_next start first events core new e rest now.0 walking traced steps after),
+          (with_event (setting_of start.conf) e now.0, traced_next start first events core new e rest now.0 walking traced steps),
     )
 
--- the walk as a whole: what stands before and after a round
-pub record WholeRound (old mid new : CoreMeaning) (events : List Event) : Type 0 where
+-- the walk as a whole: what stands before, within and after a round
+pub record WholeRound (old mid walked new : CoreMeaning) (events : List Event) : Type 0 where
   pub whole : is_whole 0 events ≡ true
   pub going : old.seen.stopped ≡ false
-  pub begun : (t : Trace) → Walks old t → Walks mid (begin_round t)
+  pub begun : (t : Trace) → Rests old t → Walks mid (begin_round t)
   pub rest : SameRest old mid
-  pub walking : Walking mid events new []
-  pub traced : (t : Trace) → Walks mid t → Traced mid t events new [] (events_trace (setting_of mid.conf) events t)
+  pub walking : Walking mid events walked []
+  pub traced : (t : Trace) → Walks mid t → Traced mid t events walked [] (events_trace (setting_of mid.conf) events t)
+  pub finished : (t : Trace) → Walks walked t → Follows (setting_of walked.conf) new.seen (end_round walked.seen.stopped t)
+  pub kept : SameRest walked new
+  pub rises : Rises 0 (numbers new.seen.links) new.seen.greatest
 
-module _ (old mid new : CoreMeaning) (events : List Event) (round : WholeRound old mid new events) (h : History) (stands : Stands old h) where
+module _ (old mid walked new : CoreMeaning) (events : List Event) (round : WholeRound old mid walked new events) (h : History) (stands : Stands old h) where
+  walked_conf : walked.conf ≡ old.conf
+  walked_conf = round.walking.conf ∙ round.rest.conf
+
   same_conf : new.conf ≡ old.conf
-  same_conf = round.walking.conf ∙ round.rest.conf
+  same_conf = round.kept.conf ∙ walked_conf
 
-  walks_old : Walks old (trace_of (setting_of old.conf) h)
-  walks_old = record { follows = stands.follows; going = history_going (setting_of old.conf) h (sym stands.stopped ∙ round.going) }
+  rests_old : Rests old (trace_of (setting_of old.conf) h)
+  rests_old = record { follows = stands.follows; going = history_going (setting_of old.conf) h (sym stands.stopped ∙ round.going) }
 
-  traced_now : Traced mid (begin_round (trace_of (setting_of old.conf) h)) events new [] (events_trace (setting_of mid.conf) events (begin_round (trace_of (setting_of old.conf) h)))
-  traced_now = round.traced (begin_round (trace_of (setting_of old.conf) h)) (round.begun (trace_of (setting_of old.conf) h) walks_old)
+  -- the trace before the round's end
+  abbrev before_end : Trace
+  before_end = events_trace (setting_of mid.conf) events (begin_round (trace_of (setting_of old.conf) h))
 
-  trace_is : events_trace (setting_of mid.conf) events (begin_round (trace_of (setting_of old.conf) h)) ≡ trace_of (setting_of old.conf) (with_events events h)
+  walks_now : Walks walked before_end
+  walks_now = (round.traced (begin_round (trace_of (setting_of old.conf) h)) (round.begun (trace_of (setting_of old.conf) h) rests_old)).walks
+
+  stopped_is : walked.seen.stopped ≡ stopped_after events false
+  stopped_is = round.walking.stopped ∙ ap (stopped_after events) (round.rest.stopped ∙ round.going)
+
+  trace_is : end_round walked.seen.stopped before_end ≡ trace_of (setting_of old.conf) (with_events events h)
   trace_is =
-      ap (λ conf. events_trace (setting_of conf) events (begin_round (trace_of (setting_of old.conf) h))) round.rest.conf
+      ap (λ b. end_round b before_end) stopped_is
+      ∙ ap (λ conf. end_round (stopped_after events false) (events_trace (setting_of conf) events (begin_round (trace_of (setting_of old.conf) h)))) round.rest.conf
       ∙ sym (trace_whole (setting_of old.conf) 0 events h round.whole stands.finished)
 
+  follows_end : Follows (setting_of old.conf) new.seen (end_round walked.seen.stopped before_end)
+  follows_end = subst (λ conf. Follows (setting_of conf) new.seen (end_round walked.seen.stopped before_end)) walked_conf (round.finished before_end walks_now)
+
   follows_old : Follows (setting_of old.conf) new.seen (trace_of (setting_of old.conf) (with_events events h))
-  follows_old =
-      subst (λ t. Follows (setting_of old.conf) new.seen t) trace_is
-      (subst (λ conf. Follows (setting_of conf) new.seen (events_trace (setting_of mid.conf) events (begin_round (trace_of (setting_of old.conf) h)))) round.rest.conf traced_now.follows)
+  follows_old = subst (λ t. Follows (setting_of old.conf) new.seen t) trace_is follows_end
 
   pub round_stands : Stands new (with_events events h)
   round_stands =
       subst (λ conf. StandsFor (setting_of conf) new.seen (with_events events h)) (sym same_conf) (record {
         finished = open_whole 0 events h round.whole stands.finished;
         follows = follows_old;
-        greatest = round.walking.greatest ∙ ap (greatest_after events) (round.rest.greatest ∙ stands.greatest) ∙ sym (greatest_whole events h);
-        stopped = round.walking.stopped ∙ ap (stopped_after events) (round.rest.stopped ∙ stands.stopped) ∙ sym (stopped_whole events h);
+        greatest = round.kept.greatest ∙ round.walking.greatest ∙ ap (greatest_after events) (round.rest.greatest ∙ stands.greatest) ∙ sym (greatest_whole events h);
+        stopped = round.kept.stopped ∙ round.walking.stopped ∙ ap (stopped_after events) (round.rest.stopped ∙ stands.stopped) ∙ sym (stopped_whole events h);
       })
+
+  closed_now : (if new.seen.stopped then numbers new.seen.links else []) ≡ closed_links (trace_of (setting_of old.conf) (with_events events h))
+  closed_now =
+      ap (λ b. if b then numbers new.seen.links else []) round.kept.stopped
+      ∙ closes_are (setting_of old.conf) new.seen before_end walked.seen.stopped follows_end walks_now.going walks_now.open' round.rises
+      ∙ ap closed_links trace_is
 
   acts_old : (acts : ActsSeen) → acts.offers ≡ map number_of (filter is_ready new.seen.links) → acts.closes ≡ (if new.seen.stopped then numbers new.seen.links else []) → acts.dial ≡ None → acts.casts ≡ []
       → AreActs (setting_of old.conf) (with_events events h) acts
@@ -124,12 +119,9 @@ module _ (old mid new : CoreMeaning) (events : List Event) (round : WholeRound o
       let s = setting_of old.conf in
       let t = trace_of s (with_events events h) in
       let offered : acts.offers ≡ offered_links s t = offers ∙ offers_are s new.seen t follows_old in
-      let closed : acts.closes ≡ stopped_links t =
-      closes ∙ closes_are s new.seen t follows_old new.seen.stopped
-      (λ none. ap stopped_links (sym trace_is) ∙ traced_now.going none)
-      (λ stop. ap live_links (sym trace_is) ∙ traced_now.ended stop) in
+      let closed : acts.closes ≡ closed_links t = closes ∙ closed_now in
       record {
-        due = due_whole s 0 events h round.whole stands.finished ∙ ap (λ ks. map (offer_to s t) ks ++ map Closes (stopped_links t)) (sym offered)
+        due = due_whole s 0 events h round.whole stands.finished ∙ ap (λ ks. map (offer_to s t) ks ++ map Closes (closed_links t)) (sym offered)
             ∙ ap (λ ks. map (offer_to s t) acts.offers ++ map Closes ks) (sym closed);
         dial = dial;
         casts = casts;

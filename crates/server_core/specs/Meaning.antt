@@ -3,7 +3,8 @@ use Rattle.std.specs.Prelude.{◌≡◌, List, [], ◌∷◌, ◌++◌, map, Non
 use Rattle.aprs_base.specs.declared.packets.ListenSpec.{ListenSpec}
 use Rattle.aprs_conf.specs.Seen.{ConfSeen}
 use Rattle.aprs_conf.specs.declared.types.Listen.{Listen}
-use Rattle.aprs_history.specs.Setting.{Setting}
+use Rattle.aprs_conf.specs.declared.types.PeerSpec.{PeerSpec}
+use Rattle.aprs_history.specs.Setting.{Peer, Setting}
 use Rattle.aprs_history.specs.Stands.{CoreSeen, StandsFor}
 use Rattle.aprs_history.specs.History.{History, trace_of}
 use Rattle.aprs_history.specs.Acts.{Closes, due, offer_to}
@@ -14,8 +15,20 @@ abbrev pub numbered : List Listen → List ListenSpec
 numbered [] = []
 numbered (listen ∷ listens) = if listen.idle then numbered listens else listen.spec ∷ numbered listens
 
+abbrev pub peer_of : PeerSpec → Peer
+peer_of peer = record { call = peer.call; at = peer.at }
+
 abbrev pub setting_of : ConfSeen → Setting
-setting_of conf = record { server = conf.server; listens = numbered conf.listens }
+setting_of conf = record {
+  server = conf.server;
+  code = conf.code;
+  listens = numbered conf.listens;
+  uplinks = conf.uplinks;
+  peers = map peer_of conf.peers;
+  up_timeout = conf.up_timeout;
+  client_timeout = conf.client_timeout;
+  max_clients = conf.max_clients;
+}
 
 pub record CoreMeaning : Type 0 where
   pub conf : ConfSeen

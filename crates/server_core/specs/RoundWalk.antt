@@ -1,10 +1,10 @@
 -- How far the walk over a round's events has come.
 use Rattle.std.specs.Prelude.{◌≡◌, ℕ, true, false, List, [], ◌∷◌, ⊤}
 use Rattle.aprs_base.specs.declared.events.Event.{Event}
-use Rattle.aprs_history.specs.Trace.{Trace, live_links, stopped_links}
+use Rattle.aprs_history.specs.Trace.{Trace}
 use Rattle.aprs_history.specs.Rounds.{AreFresh, events_trace, greatest_after, is_whole, stopped_after}
-use Rattle.aprs_history.specs.Stands.{Follows}
 use Rattle.server_core.specs.Meaning.{CoreMeaning, setting_of}
+use Rattle.server_core.specs.Steps.{Walks}
 
 -- where events are left no stop has come, and they end the round
 abbrev pub GoesOn : List Event → CoreMeaning → Type 0
@@ -19,9 +19,7 @@ pub record Walking (start : CoreMeaning) (events : List Event) (core : CoreMeani
   pub stopped : stopped_after left core.seen.stopped ≡ stopped_after events start.seen.stopped
   pub goes : GoesOn left core
 
--- what holds of the trace: the events that are left make it whole, and a stop has left no link alive
+-- what holds of the trace: the events that are left make it whole
 pub record Traced (start : CoreMeaning) (first : Trace) (events : List Event) (core : CoreMeaning) (left : List Event) (now : Trace) : Type 0 where
   pub whole : events_trace (setting_of start.conf) events first ≡ events_trace (setting_of start.conf) left now
-  pub follows : Follows (setting_of start.conf) core.seen now
-  pub going : core.seen.stopped ≡ false → stopped_links now ≡ []
-  pub ended : core.seen.stopped ≡ true → live_links now ≡ []
+  pub walks : Walks core now

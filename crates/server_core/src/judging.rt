@@ -233,10 +233,13 @@ pub(crate) fn judge_packet(
 {
     match route(server, origin, others, line) {
         Err(refusal) => Verdict::Refused(refusal),
-        Ok(parts) if is_duplicate(moment, accepted, &parts) => Verdict::Refused(Refusal::Duplicate),
         Ok(parts) => {
             let line = line_of(&parts);
-            Verdict::Accepted(parts, line)
+            if is_duplicate(moment, accepted, &parts) {
+                Verdict::Refused(Refusal::Duplicate(parts, line))
+            } else {
+                Verdict::Accepted(parts, line)
+            }
         }
     }
 }

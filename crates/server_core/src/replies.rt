@@ -33,7 +33,7 @@ pub(crate) fn refusal_line(refusal: &Refusal) -> Option<Line>
     match refusal {
         Refusal::Login(fault) => Some(refused_line(word_of(*fault))),
         Refusal::OwnName => Some(refused_line(b"own name")),
-        Refusal::Long | Refusal::Packet(_) | Refusal::Path(_) | Refusal::Duplicate => None,
+        Refusal::Long | Refusal::Packet(_) | Refusal::Path(_) | Refusal::Duplicate(..) => None,
     }
 }
 

@@ -3,7 +3,7 @@ ghost use Rattle.std.specs.Prelude.{◌≡◌, ◌∷◌, [], ◌≤◌, ◌<◌
 ghost use Rattle.std.specs.Arc.{arc_value};
 ghost use Rattle.aprs_base.specs.Bytes.{is_station};
 ghost use Rattle.aprs_base.specs.Outside.{new_link};
-ghost use Rattle.aprs_history.specs.Trace.{Trace, Brought, ByPeer, ByStop, Ended, Opened, Roomed, Ticked, is_live, live_links};
+ghost use Rattle.aprs_history.specs.Trace.{Trace, Brought, ByPeer, Ended, Opened, Roomed, Ticked, is_live};
 ghost use Rattle.aprs_history.specs.Links.{brought_by};
 ghost use Rattle.aprs_base.specs.Cuts.{cuts_by};
 ghost use Rattle.aprs_history.specs.Setting.{kind_at};
@@ -12,7 +12,7 @@ ghost use Rattle.aprs_history.specs.Verdicts.{command_verdict, filter_command, l
 ghost use Rattle.aprs_history.specs.declared.verdicts.FilterAnswer.{FilterAnswer};
 ghost use Rattle.aprs_history.specs.declared.verdicts.Verdict.{Verdict};
 ghost use Rattle.aprs_history.specs.Stands.{Follows};
-ghost use Rattle.aprs_history.specs.History.{History, begin_round, end_all, say_all, trace_of, with_bytes_of, with_event};
+ghost use Rattle.aprs_history.specs.History.{History, admitted, begin_round, end_round, say_all, trace_of, with_bytes_of, with_event};
 ghost use Rattle.aprs_history.specs.Rounds.{AreFresh, events_trace, greatest_after, is_whole, only_listens, stopped_after, with_events};
 ghost use Rattle.aprs_history.specs.Texts.{untaken};
 ghost use Rattle.server_core.specs.LinkSteps.{AreServed, Rises, after_login, after_packet, all_few, filters_at, has_few, has_number, is_ready, number_of, numbers, owed_in, pending_at, promised_all, session_at, source_found, spent};
@@ -20,7 +20,7 @@ ghost use Rattle.aprs_base.specs.declared.events.Happening.{Happening};
 ghost use Rattle.aprs_base.specs.declared.events.Sent.{Sent};
 ghost use Rattle.server_core.specs.Meaning.{AreActs, Stands, numbered, setting_of};
 ghost use Rattle.server_core.specs.RoundWalk.{Traced, Walking};
-ghost use Rattle.server_core.specs.Steps.{AfterEvent, SameRest, Walks, saying, scene_at, with_verdict};
+ghost use Rattle.server_core.specs.Steps.{AfterEvent, Rests, SameRest, Walks, saying, scene_at, with_verdict};
 
 #[cfg(test)]
 mod tests;
@@ -101,7 +101,7 @@ impl Model for Core {
 impl Core {
     /// A round begins: the links that a send found gone end.
     fn begin(&mut self)
-        ensures walks { (t : Trace) → Walks self.old t → Walks self.new (begin_round t) }
+        ensures walks { (t : Trace) → Rests self.old t → Walks self.new (begin_round t) }
         ensures rest { SameRest self.old self.new }
     {
         forget_lost(&mut self.heard, self.links.as_slice());
@@ -341,7 +341,7 @@ impl Core {
     /// A link was opened on a listener.
     fn open(&mut self, alloc: Global, listener: u16, number: u32, from: Addr) -> Result<(), Memory>
         requires { self.old.seen.greatest < number }
-        ensures walks { (t : Trace) → Walks self.old t → OnOk result (Walks self.new (Opened (kind_at (setting_of self.old.conf) listener) number from ∷ t)) }
+        ensures walks { (t : Trace) → Walks self.old t → OnOk result (Walks self.new (Opened listener (admitted (kind_at (setting_of self.old.conf) listener)) number from ∷ t)) }
         ensures conf { OnOk result (self.new.conf ≡ self.old.conf) }
         ensures greatest { OnOk result (self.new.seen.greatest ≡ number) }
         ensures stopped { OnOk result (self.new.seen.stopped ≡ self.old.seen.stopped) }
@@ -409,21 +409,20 @@ impl Core {
         self.greatest = number;
     }
 
-    /// The server stops: all links end, and keep what they have still to take.
+    /// The server is to stop.
     fn stop(&mut self)
-        ensures follows { (t : Trace) → Walks self.old t → Follows (setting_of self.old.conf) self.new.seen (end_all ByStop (live_links t) t) }
+        ensures walks { (t : Trace) → Walks self.old t → Walks self.new t }
         ensures conf { self.new.conf ≡ self.old.conf }
         ensures greatest { self.new.seen.greatest ≡ self.old.seen.greatest }
         ensures stopped { self.new.seen.stopped ≡ true }
     {
-        forget_all(&mut self.heard, self.links.as_slice());
         self.stopped = true;
     }
 
     /// One event of a round.
     fn take_event(&mut self, alloc: Global, event: &Event) -> Result<(), Memory>
         requires { IfSome (new_link event.now) (λ link. self.old.seen.greatest < link) }
-        ensures follows { (t : Trace) → Walks self.old t → OnOk result (Follows (setting_of self.old.conf) self.new.seen (with_event (setting_of self.old.conf) event.now t)) }
+        ensures walks { (t : Trace) → Walks self.old t → OnOk result (Walks self.new (with_event (setting_of self.old.conf) event.now t)) }
         ensures rest { OnOk result (AfterEvent self.old self.new event.now) }
     {
         match event {
@@ -455,6 +454,17 @@ impl Core {
             self.take_event(alloc, event)?;
         }
         Ok(())
+    }
+
+    /// A round ends: after a stop all links end, and keep what they have still to take.
+    fn finish(&mut self)
+        ensures follows { (t : Trace) → Walks self.old t → Follows (setting_of self.old.conf) self.new.seen (end_round self.old.seen.stopped t) }
+        ensures rest { SameRest self.old self.new }
+        ensures rises { Rises 0 (numbers self.new.seen.links) self.new.seen.greatest }
+    {
+        if self.stopped {
+            forget_all(&mut self.heard, self.links.as_slice());
+        }
     }
 
     /// What is to be done now: offers, and after a stop the close of each link.
@@ -504,6 +514,7 @@ impl Core {
     {
         self.begin();
         self.walk(alloc, events)?;
+        self.finish();
         self.acts(alloc)
     }
 
