@@ -15,7 +15,7 @@ use Rattle.aprs_history.specs.Acts.{Act, MayCome, due, acts_after}
 use Rattle.aprs_history.specs.Runs.{AppendsRun}
 use Rattle.server_core.specs.Meaning.{CoreMeaning, setting_of}
 use Rattle.server_core.proofs.RoundLemmas.{more_events}
-use Rattle.server_core.proofs.WholeRoundLemmas.{no_stop}
+use Rattle.server_core.proofs.RoundLemmas.{no_stop}
 use Rattle.aprsc_daemon.specs.Phases.{is_partial, Counted, Gathering, Idle}
 use Rattle.aprsc_daemon.proofs.RunLemmas.{run_goes_on}
 
