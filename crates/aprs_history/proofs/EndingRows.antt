@@ -15,7 +15,7 @@ use Rattle.aprs_history.specs.Trace.{Trace, Entry, Ended, EndReason, NoLogin, Si
 use Rattle.aprs_history.specs.History.{History, trace_of}
 use Rattle.aprs_history.specs.Acts.{Closes, Offers, due}
 use Rattle.aprs_history.specs.Texts.{banner, lines_of, text_bytes}
-use Rattle.aprs_history.proofs.Rows.{client, crlf, listen, server_on}
+use Rattle.aprs_history.proofs.Rows.{client, crlf, listen, server_on, told_in}
 
 setting : Setting
 setting = server_on (listen kind.Full 10152 ∷ [])
@@ -142,3 +142,41 @@ told_once = refl
 late_not_told : lines_of setting (trace_of setting (at_moment 1040 ∷ one_link)) 1 ≡ banner ∷ []
 unfolding trace_of setting one_link listening client
 late_not_told = refl
+
+-- ---- overfull links
+
+abbrev many : ℕ → List ℕ → List ℕ
+many zero line = []
+many (suc n) line = line ++ many n line
+
+-- a link that takes nothing, and asks for so many replies
+asking : ℕ → History
+asking n = at_moment 1000 ∷ did.Event (event.Bytes 1 (many n (codes "#filter" ++ crlf))) ∷ says 1 (codes "user N0CALL pass 13023 vers t 1") ∷ one_link
+
+-- the banner, the reply to the login and 998 more are as many as may wait
+as_many_as_may : ends setting (asking 998) ≡ []
+unfolding trace_of setting asking one_link listening client crlf login_of passcode_of
+as_many_as_may = refl
+
+one_too_many : ends setting (asking 999) ≡ (1, Overfull) ∷ []
+unfolding trace_of setting asking one_link listening client crlf login_of passcode_of
+one_too_many = refl
+
+-- it lives to the round's end: what it says still counts, but it is told nothing more
+said_after : History
+said_after = at_moment 1000 ∷ says 1 (codes "N0CALL>APRS:>hi") ∷ did.Event (event.Bytes 1 (many 999 (codes "#filter" ++ crlf)))
+    ∷ says 2 (codes "user K1ABC pass 14993 vers t 1") ∷ opens 2 ∷ says 1 (codes "user N0CALL pass 13023 vers t 1") ∷ one_link
+
+lives_to_the_end : told_in setting said_after 2 ≡ banner ∷ codes "# logresp K1ABC verified, server T2TEST" ∷ codes "N0CALL>APRS,TCPIP*,qAC,T2TEST:>hi" ∷ []
+unfolding trace_of setting said_after one_link listening client crlf login_of passcode_of parts_of text_of via_of head_of process_of given_drops built_drops built_row rows body_of
+lives_to_the_end = refl
+
+-- its peer's end comes first, and a stop later
+ended_first : ends setting (at_moment 1000 ∷ did.Event (event.Ended 1) ∷ did.Event (event.Bytes 1 (many 999 (codes "#filter" ++ crlf))) ∷ spoke) ≡ (1, ByPeer) ∷ []
+unfolding trace_of setting spoke one_link listening client crlf login_of passcode_of
+ended_first = refl
+
+stopped_later : due setting (did.Event event.Stop ∷ did.Event (event.Bytes 1 (many 999 (codes "#filter" ++ crlf))) ∷ opens 2 ∷ spoke)
+    ≡ Offers 2 (codes "# aprsc 1.0" ++ crlf) ∷ Closes 1 ∷ Closes 2 ∷ []
+unfolding due trace_of setting spoke one_link listening client crlf login_of passcode_of
+stopped_later = refl
