@@ -12,7 +12,9 @@ use Rattle.aprs_base.specs.declared.events.Happening.TheVariants as did
 use Rattle.aprs_base.specs.declared.packets.PortKind.{PortKind}
 use Rattle.aprs_history.specs.Setting.{Setting, kind_at}
 use Rattle.aprs_history.specs.Verdicts.{verdict_of}
-use Rattle.aprs_history.specs.Trace.{Trace, Entry, Admission, NoPort, TurnedAway, Served, EndReason, ByPeer, FoundGone, Overfull, Full, ByStop, RoundBegan, Dated, Ticked, Opened, Brought, Said, Roomed, Took, Lost, Ended, live_links, is_live, is_member, moment_of, placed_all, turned_links}
+use Rattle.aprs_history.specs.declared.verdicts.Admission.{Admission}
+use Rattle.aprs_history.specs.declared.verdicts.Admission.TheVariants.{NoPort, TurnedAway, Served}
+use Rattle.aprs_history.specs.Trace.{Trace, Entry, EndReason, ByPeer, FoundGone, Overfull, Full, ByStop, RoundBegan, Dated, Ticked, Opened, Brought, Said, Roomed, Took, Lost, Ended, live_links, is_live, is_member, moment_of, placed_all, turned_links}
 use Rattle.aprs_history.specs.Links.{brought_by, gone_links, late_links, late_reason}
 use Rattle.aprs_history.specs.Scenes.{scene_of}
 use Rattle.aprs_history.specs.Texts.{over_links}

@@ -8,7 +8,9 @@ use Rattle.aprs_history.specs.declared.verdicts.FilterAnswer.TheVariants.{Active
 use Rattle.aprs_history.specs.declared.verdicts.Session.{Session}
 use Rattle.aprs_history.specs.declared.verdicts.Verdict.{Verdict}
 use Rattle.aprs_history.specs.declared.verdicts.Verdict.TheVariants.{PassedOver, Refused, LoggedIn, Filtered, Accepted}
-use Rattle.aprs_history.specs.Trace.{Trace, Admission, NoPort, TurnedAway, Served, Opened, Brought, Said, Roomed, Took, Lost, EndReason, NoLogin, Silent, moment_of, live_links}
+use Rattle.aprs_history.specs.declared.verdicts.Admission.{Admission}
+use Rattle.aprs_history.specs.declared.verdicts.Admission.TheVariants.{NoPort, TurnedAway, Served}
+use Rattle.aprs_history.specs.Trace.{Trace, Opened, Brought, Said, Roomed, Took, Lost, EndReason, NoLogin, Silent, moment_of, live_links}
 
 -- a link's opening: what it serves, where it came from, and when
 pub record Opening : Type 0 where

@@ -18,7 +18,9 @@ use Rattle.aprs_history.specs.declared.verdicts.Refusal.{Refusal}
 use Rattle.aprs_history.specs.declared.verdicts.Refusal.TheVariants as refusal
 use Rattle.aprs_history.specs.declared.verdicts.Verdict.{Verdict}
 use Rattle.aprs_history.specs.declared.verdicts.Verdict.TheVariants.{PassedOver, Refused, LoggedIn, Filtered, Accepted}
-use Rattle.aprs_history.specs.Trace.{Trace, Admission, NoPort, TurnedAway, Served, Opened, Said, Dated, is_live, live_links, moment_of}
+use Rattle.aprs_history.specs.declared.verdicts.Admission.{Admission}
+use Rattle.aprs_history.specs.declared.verdicts.Admission.TheVariants.{NoPort, TurnedAway, Served}
+use Rattle.aprs_history.specs.Trace.{Trace, Opened, Said, Dated, is_live, live_links, moment_of}
 use Rattle.aprs_history.specs.Links.{Opening, opening_of, session_of, taken_by}
 use Rattle.aprs_history.specs.Scenes.{packet_of}
 use Rattle.aprs_history.specs.Messages.{is_asked}

@@ -1,9 +1,10 @@
 -- The trace of a history: what happened to each link, with the verdict on each line, the newest first.
 use Rattle.std.specs.Prelude.{ℕ, ◌==◌, Bool, true, false, not, nat_lt, List, [], ◌∷◌, ◌++◌, filter, max, min, if◌then◌else◌}
 use Rattle.std.specs.List.{list_any}
-use Rattle.aprs_base.specs.declared.packets.PortKind.{PortKind}
 use Rattle.aprs_base.specs.declared.texts.Addr.{Addr}
 use Rattle.aprs_base.specs.declared.cutting.Cut.{Cut}
+use Rattle.aprs_history.specs.declared.verdicts.Admission.{Admission}
+use Rattle.aprs_history.specs.declared.verdicts.Admission.TheVariants.{NoPort, Served, TurnedAway}
 use Rattle.aprs_history.specs.declared.verdicts.Verdict.{Verdict}
 
 -- why a link ended
@@ -18,14 +19,6 @@ pub data EndReason : Type 0 where
   -- it was turned away
   Full : EndReason
   ByStop : EndReason
-
--- what becomes of a connection
-pub data Admission : Type 0 where
-  -- the listener isn't one for clients
-  NoPort : Admission
-  -- as many clients as may are there
-  TurnedAway : Admission
-  Served : (kind : PortKind) → Admission
 
 pub data Entry : Type 0 where
   -- the entries of a round stand after this one

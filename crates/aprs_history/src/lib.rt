@@ -3,4 +3,4 @@
 
 mod verdicts;
 
-pub use verdicts::{FilterAnswer, FilterFault, Refusal, Session, Verdict, copy_session};
+pub use verdicts::{Admission, FilterAnswer, FilterFault, Refusal, Session, Verdict, copy_session};

@@ -1,7 +1,7 @@
-//! What becomes of a line.
+//! What becomes of a line, and of a connection.
 ghost use Rattle.std.specs.Prelude.{◌≡◌};
 
-use aprs_base::{Call, Line, Parts};
+use aprs_base::{Call, Line, Parts, PortKind};
 use filter_lang::FilterSet;
 use login_pass::LoginFault;
 use q_construct::QDrop;
@@ -12,6 +12,16 @@ use tnc2_line::LineFault;
 pub struct Session {
     pub call: Call,
     pub verified: bool,
+}
+
+/// What becomes of a connection.
+#[derive(Clone, Copy, PartialEq, Eq, Debug)]
+pub enum Admission {
+    /// The listener isn't one for clients.
+    NoPort,
+    /// As many clients as may are there.
+    TurnedAway,
+    Served(PortKind),
 }
 
 /// Why a line is refused.

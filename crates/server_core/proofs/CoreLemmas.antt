@@ -1,7 +1,8 @@
 -- The steps of the core, and the trace that it follows.
-use Rattle.std.proofs.Common.{◌≡◌, ℕ, ◌<◌, ◌==◌, ◌∷◌, ◌++◌, [], List, map, filter, refl, sym, ap, ◌∙◌, subst, Bool, true, false, Option, Some, None, max, min, append-nil, arith, ⊎_elim, ◌||◌, not, cond, ◌^◌, IfOk, Result, Ok, Err, Vec, Global}
+use Rattle.std.proofs.Common.{◌≡◌, ℕ, ◌<◌, ◌==◌, ◌/◌, nat_lt, length, if◌then◌else◌, ◌∷◌, ◌++◌, [], List, map, filter, refl, sym, ap, ◌∙◌, subst, Bool, true, false, Option, Some, None, max, min, append-nil, arith, ⊎_elim, ◌||◌, not, cond, ◌^◌, IfOk, Result, Ok, Err, Vec, Global}
 use Rattle.std.specs.List.{flat_map}
 use Rattle.std.proofs.lemmas.Bool.{true≢false, cases_Bool}
+use Rattle.std.proofs.lemmas.List.{length-map}
 use Rattle.aprs_base.specs.Held.{held_after}
 use Rattle.aprs_base.specs.declared.texts.Addr.{Addr}
 use Rattle.aprs_base.specs.declared.cutting.Cut.{Cut}
@@ -11,20 +12,23 @@ use Rattle.aprs_history.specs.declared.verdicts.Verdict.TheVariants.{PassedOver,
 use Rattle.aprs_history.specs.Setting.{Setting, kind_at}
 use Rattle.aprs_history.specs.Scenes.{has_filters, is_only, others_of, scene_of, verified_login}
 use Rattle.aprs_history.specs.Verdicts.{verdict_of}
-use Rattle.aprs_history.specs.Trace.{Trace, RoundBegan, Ticked, Opened, Brought, Said, Roomed, Ended, ByPeer, is_live, is_member, is_other, live_links, stopped_links, last_moment}
-use Rattle.aprs_history.specs.Links.{session_of, opening_of, brought_by, gone_links}
-use Rattle.aprs_history.specs.History.{admitted, begin_round, end_round}
-use Rattle.aprs_history.specs.Stands.{LinkSeen, link_seen, Follows}
-use Rattle.server_core.specs.LinkSteps.{at_link, has_that, has_number, is_there, is_another, with_room, with_bytes, new_link_seen, numbers, Rises, session_at, held_at, session_kept, held_kept, filters_at, filters_kept, only_at, only_kept, others_at, at_moment, forgotten_all, is_lost}
+use Rattle.aprs_history.specs.declared.verdicts.Admission.{Admission}
+use Rattle.aprs_history.specs.declared.verdicts.Admission.TheVariants.{NoPort, Served, TurnedAway}
+use Rattle.aprs_history.specs.Trace.{Trace, Dated, FoundGone, RoundBegan, Ticked, Opened, Brought, Said, Roomed, Ended, ByPeer, is_live, is_member, is_other, live_links, moment_of, placed_all, stopped_links, last_moment}
+use Rattle.aprs_history.specs.Links.{session_of, opening_of, brought_by, gone_links, late_links, late_reason}
+use Rattle.aprs_history.specs.Dates.{comment_text}
+use Rattle.aprs_history.specs.History.{admission, admitted, begin_round, comment_seconds, dated, end_each, end_stopped, refused_links, refused_reason}
+use Rattle.aprs_history.specs.Stands.{LinkSeen, CoreSeen, link_seen, Follows}
+use Rattle.server_core.specs.LinkSteps.{at_link, has_that, has_number, is_in_time, is_late_link, is_none_of, is_overfull, is_there, is_another, number_of, with_room, with_text, with_bytes, new_link_seen, numbers, Rises, session_at, held_at, session_kept, held_kept, filters_at, filters_kept, only_at, only_kept, others_at, at_moment, forgotten_all, is_lost}
 use Rattle.heard_routing.specs.Heard.{HeardSeen, without_link}
 use Rattle.aprs_conf.specs.Seen.{ConfSeen}
 use Rattle.server_core.specs.Meaning.{CoreMeaning, setting_of}
 use Rattle.server_core.specs.Kept.{IsKept}
-use Rattle.server_core.specs.Steps.{Rests, SameRest, Walks, saying, scene_at, with_verdict}
+use Rattle.server_core.specs.Steps.{SameRest, Walks, saying, scene_at, with_verdict}
 use Rattle.server_core.proofs.LinkLemmas.{changed_none, rises_to, rises_push}
 use Rattle.server_core.proofs.FollowLemmas.{picked_missing, picked_seen}
 use Rattle.server_core.proofs.HeardLemmas.{remembers_no_end}
-use Rattle.server_core.proofs.WalkLemmas.{with_heard, with_links, follows_began, follows_begun, going_after, open_after, follows_said, follows_roomed, follows_ticked, follows_brought, follows_opened, follows_unserved, follows_ended, follows_stopped}
+use Rattle.server_core.proofs.WalkLemmas.{with_heard, with_links, follows_began, follows_dated, follows_gone, follows_late, follows_refused_client, follows_refused_links, going_after, late_goes, live_numbers, refused_goes, follows_said, follows_roomed, follows_ticked, follows_brought, follows_opened, follows_unserved, follows_ended, follows_stopped}
 
 -- the core with other links
 abbrev pub relinked : List LinkSeen → CoreMeaning → CoreMeaning
@@ -34,17 +38,21 @@ relinked links core = record core { seen = record core.seen { links = links } }
 abbrev pub reheard : HeardSeen → CoreMeaning → CoreMeaning
 reheard heard core = record core { seen = record core.seen { heard = heard } }
 
-pub walks_begun : (core : CoreMeaning) (t : Trace) (links : List LinkSeen) (heard : HeardSeen) → Rests core t → links ≡ filter is_there core.seen.links
-    → heard ≡ forgotten_all (numbers (filter is_lost core.seen.links)) core.seen.heard → Walks (reheard heard (relinked links core)) (begin_round t)
-walks_begun core t links heard rests is forgotten =
+-- a round begins
+pub walks_begun : (core : CoreMeaning) (t : Trace) (links : List LinkSeen) (heard : HeardSeen) (turned closing : List ℕ) → Walks core t → links ≡ filter is_there core.seen.links
+    → heard ≡ forgotten_all (numbers (filter is_lost core.seen.links)) core.seen.heard → turned ≡ [] → closing ≡ []
+    → Walks (record core { seen = record core.seen { links = links; heard = heard; turned = turned; closing = closing } }) (begin_round t)
+walks_begun core t links heard turned closing walks is forgotten no_turned no_closing =
     let s = setting_of core.conf in
-    let began = follows_began s core.seen t rests.follows in
+    let began = follows_began s core.seen t walks.follows in
+    let with_all : List LinkSeen → HeardSeen → List ℕ → List ℕ → CoreSeen = λ ls table ts cs. record core.seen { links = ls; heard = table; turned = ts; closing = cs } in
     record {
-      follows = subst (λ ls. Follows s (with_heard heard (with_links ls core.seen)) (begin_round t)) (sym is)
-          (subst (λ table. Follows s (with_heard table (with_links (filter is_there core.seen.links) core.seen)) (begin_round t)) (sym forgotten)
-          (follows_begun s core.seen (RoundBegan ∷ t) began rests.going));
-      going = going_after (gone_links (RoundBegan ∷ t)) (RoundBegan ∷ t) ∙ rests.going;
-      open' = open_after (gone_links (RoundBegan ∷ t)) (RoundBegan ∷ t);
+      follows = subst (λ ls. Follows s (with_all ls heard turned closing) (begin_round t)) (sym is)
+          (subst (λ table. Follows s (with_all (filter is_there core.seen.links) table turned closing) (begin_round t)) (sym forgotten)
+          (subst (λ ts. Follows s (with_all (filter is_there core.seen.links) (forgotten_all (numbers (filter is_lost core.seen.links)) core.seen.heard) ts closing) (begin_round t)) (sym no_turned)
+          (subst (λ cs. Follows s (with_all (filter is_there core.seen.links) (forgotten_all (numbers (filter is_lost core.seen.links)) core.seen.heard) [] cs) (begin_round t)) (sym no_closing)
+          (follows_gone s (record core.seen { turned = []; closing = [] }) (RoundBegan ∷ t) began walks.going))));
+      going = going_after (λ k. FoundGone) (λ k. refl) (gone_links (RoundBegan ∷ t)) (RoundBegan ∷ t) ∙ walks.going;
     }
 
 -- the logins of others, as they are kept and as the trace has them
@@ -100,7 +108,6 @@ module _ (core : CoreMeaning) (t : Trace) (walks : Walks core t) where
     follows = subst (λ ls. Follows (setting_of core.conf) (with_links ls core.seen) (Roomed number ∷ t)) (sym new)
         (follows_roomed (setting_of core.conf) core.seen t walks.follows number);
     going = walks.going;
-    open' = walks.open';
   }
 
   pub walks_brought : (number : ℕ) (bytes : List ℕ) (links : List LinkSeen)
@@ -110,7 +117,6 @@ module _ (core : CoreMeaning) (t : Trace) (walks : Walks core t) where
     follows = subst (λ ls. Follows (setting_of core.conf) (with_links ls core.seen) (Brought number bytes ∷ t)) (sym new)
         (follows_brought (setting_of core.conf) core.seen t walks.follows number bytes);
     going = walks.going;
-    open' = walks.open';
   }
 
   pub walks_ended : (number : ℕ) (links : List LinkSeen) (heard : HeardSeen) → links ≡ filter (is_another number) core.seen.links → heard ≡ without_link number core.seen.heard
@@ -120,7 +126,6 @@ module _ (core : CoreMeaning) (t : Trace) (walks : Walks core t) where
         (subst (λ table. Follows (setting_of core.conf) (with_heard table (with_links (filter (is_another number) core.seen.links) core.seen)) (Ended number ByPeer ∷ t)) (sym forgotten)
         (follows_ended (setting_of core.conf) core.seen t walks.follows walks.going number));
     going = append-nil (stopped_links t) ∙ walks.going;
-    open' = walks.open';
   }
 
 -- a line that a link said
@@ -130,7 +135,7 @@ walks_heard core t walks number cut live =
     let verdict = verdict_of (scene_at core number) cut in
     let same : verdict ≡ verdict_of (scene_of (setting_of core.conf) t number) cut = ap (λ scene. verdict_of scene cut) (scene_now core t walks number live) in
     subst (λ judged. Walks (with_verdict number verdict core) (Said number cut judged ∷ t)) same
-    (record { follows = follows_said (setting_of core.conf) core.seen t walks.follows walks.going number cut verdict live; going = walks.going; open' = walks.open' })
+    (record { follows = follows_said (setting_of core.conf) core.seen t walks.follows walks.going number cut verdict live; going = walks.going })
 
 -- what a verdict leaves as it is
 pub rest_kept : (core : CoreMeaning) (number : ℕ) (verdict : Verdict) → SameRest core (with_verdict number verdict core)
@@ -141,31 +146,41 @@ rest_kept core number (LoggedIn session (Some answer)) = record { conf = refl; g
 rest_kept core number (Filtered answer) = record { conf = refl; greatest = refl; stopped = refl }
 rest_kept core number (Accepted parts line) = record { conf = refl; greatest = refl; stopped = refl }
 
--- a link that a listener for clients opens, and one that comes elsewhere
-pub walks_served : (core : CoreMeaning) (conf : ConfSeen) (t : Trace) → Walks core t → core.conf ≡ conf → (listener k : ℕ) (kind : PortKind) (from : Addr) (links : List LinkSeen) (served : Option PortKind)
-    → served ≡ Some kind → served ≡ kind_at (setting_of core.conf) listener → IsKept core → core.seen.greatest < k
-    → links ≡ core.seen.links ++ new_link_seen k (record { kind = kind; from = from; moment = core.seen.moment }) ∷ []
-    → Walks (record core { seen = record core.seen { links = links; greatest = k } }) (Opened listener (admitted (kind_at (setting_of conf) listener)) k from ∷ t)
-walks_served core conf t walks same listener k kind from links served some at kept above new =
-    let follows = follows_opened (setting_of core.conf) core.seen t walks.follows listener kind k core.seen.greatest from kept.rising above in
-    let serves : Some kind ≡ kind_at (setting_of conf) listener = sym some ∙ at ∙ ap (λ c. kind_at (setting_of c) listener) same in
-    subst (λ kinds. Walks (record core { seen = record core.seen { links = links; greatest = k } }) (Opened listener (admitted kinds) k from ∷ t)) serves (record {
-      follows = record { moment = follows.moment; links = new ∙ follows.links; tables = follows.tables; took = follows.took };
-      going = walks.going;
-      open' = walks.open';
-    })
+-- what becomes of a connection is what the trace says
+module _ (core : CoreMeaning) (conf : ConfSeen) (t : Trace) (walks : Walks core t) (same : core.conf ≡ conf) (listener k : ℕ) (from : Addr) (outcome : Admission)
+    (is : outcome ≡ admitted core.conf.max_clients (length core.seen.links) (kind_at (setting_of core.conf) listener)) (kept : IsKept core) (above : core.seen.greatest < k) where
+  admitted_so : outcome ≡ admission (setting_of conf) t listener
+  admitted_so =
+      is
+      ∙ ap (λ n. admitted core.conf.max_clients n (kind_at (setting_of core.conf) listener))
+      (sym (length-map core.seen.links number_of) ∙ ap length (live_numbers (setting_of core.conf) core.seen t walks.follows walks.going))
+      ∙ ap (λ c. admission (setting_of c) t listener) same
 
-pub walks_unserved : (core : CoreMeaning) (conf : ConfSeen) (t : Trace) → Walks core t → core.conf ≡ conf → (listener k : ℕ) (from : Addr) (served : Option PortKind)
-    → served ≡ None → served ≡ kind_at (setting_of core.conf) listener → IsKept core → core.seen.greatest < k
-    → Walks (record core { seen = record core.seen { greatest = k } }) (Opened listener (admitted (kind_at (setting_of conf) listener)) k from ∷ t)
-walks_unserved core conf t walks same listener k from served none at kept above =
-    let follows = follows_unserved (setting_of core.conf) core.seen t walks.follows listener k core.seen.greatest from kept.rising above in
-    let serves : None ≡ kind_at (setting_of conf) listener = sym none ∙ at ∙ ap (λ c. kind_at (setting_of c) listener) same in
-    subst (λ kinds. Walks (record core { seen = record core.seen { greatest = k } }) (Opened listener (admitted kinds) k from ∷ t)) serves (record {
-      follows = record { moment = follows.moment; links = follows.links; tables = follows.tables; took = follows.took };
-      going = walks.going;
-      open' = walks.open';
-    })
+  pub walks_served : (kind : PortKind) (links : List LinkSeen) → outcome ≡ Served kind → links ≡ core.seen.links ++ new_link_seen k (record { kind = kind; from = from; moment = core.seen.moment }) ∷ []
+      → Walks (record core { seen = record core.seen { links = links; greatest = k } }) (Opened listener (admission (setting_of conf) t listener) k from ∷ t)
+  walks_served kind links some new =
+      let follows = follows_opened (setting_of core.conf) core.seen t walks.follows listener kind k core.seen.greatest from kept.rising above in
+      subst (λ became. Walks (record core { seen = record core.seen { links = links; greatest = k } }) (Opened listener became k from ∷ t)) (sym some ∙ admitted_so) (record {
+        follows = record { moment = follows.moment; turned = follows.turned; closing = follows.closing; links = new ∙ follows.links; tables = follows.tables; took = follows.took };
+        going = walks.going;
+      })
+
+  pub walks_turned : (turned : List ℕ) → outcome ≡ TurnedAway → turned ≡ core.seen.turned ++ k ∷ []
+      → Walks (record core { seen = record core.seen { turned = turned; greatest = k } }) (Opened listener (admission (setting_of conf) t listener) k from ∷ t)
+  walks_turned turned away new =
+      let follows = follows_refused_client (setting_of core.conf) core.seen t walks.follows listener k core.seen.greatest from kept.rising above in
+      subst (λ became. Walks (record core { seen = record core.seen { turned = turned; greatest = k } }) (Opened listener became k from ∷ t)) (sym away ∙ admitted_so) (record {
+        follows = record { moment = follows.moment; turned = new ∙ follows.turned; closing = follows.closing; links = follows.links; tables = follows.tables; took = follows.took };
+        going = walks.going;
+      })
+
+  pub walks_unserved : outcome ≡ NoPort → Walks (record core { seen = record core.seen { greatest = k } }) (Opened listener (admission (setting_of conf) t listener) k from ∷ t)
+  walks_unserved none =
+      let follows = follows_unserved (setting_of core.conf) core.seen t walks.follows listener k core.seen.greatest from kept.rising above in
+      subst (λ became. Walks (record core { seen = record core.seen { greatest = k } }) (Opened listener became k from ∷ t)) (sym none ∙ admitted_so) (record {
+        follows = record { moment = follows.moment; turned = follows.turned; closing = follows.closing; links = follows.links; tables = follows.tables; took = follows.took };
+        going = walks.going;
+      })
 
 absent : (s : Setting) (t : Trace) (number : ℕ) (ks : List ℕ) → is_member number ks ≡ false → has_number number (map (link_seen s t) ks) ≡ false
 unfolding link_seen
@@ -202,12 +217,13 @@ walks_no_end core t walks number links heard dead new forgotten =
     let unheard : Walks (reheard (without_link number core.seen.heard) core) t = record {
       follows = record {
         moment = follows.moment;
+        turned = follows.turned;
+        closing = follows.closing;
         links = follows.links;
         tables = record { accepted = follows.tables.accepted; stations = follows.tables.stations; heard = remembers_no_end core.seen.heard t number dead follows.tables.heard };
         took = follows.took;
       };
       going = walks.going;
-      open' = walks.open';
     } in
     walks_unmoved (reheard heard core) t links (subst (λ table. Walks (reheard table core) t) (sym forgotten) unheard) (new ∙ all_other number core.seen.links (no_number core t walks number dead))
 
@@ -217,7 +233,7 @@ pub walks_ticked : (core : CoreMeaning) (t : Trace) → Walks core t → (m : �
 walks_ticked core t walks m moment links is new =
     subst (λ ls. Walks (record core { seen = record core.seen { moment = moment; links = ls } }) (Ticked m ∷ t)) (sym new)
     (subst (λ n. Walks (record core { seen = record core.seen { moment = n; links = map (at_moment n) core.seen.links } }) (Ticked m ∷ t)) (sym is)
-    (record { follows = follows_ticked (setting_of core.conf) core.seen t walks.follows m; going = walks.going; open' = walks.open' }))
+    (record { follows = follows_ticked (setting_of core.conf) core.seen t walks.follows m; going = walks.going }))
 
 -- a core stays sound as a link comes
 pub kept_above : (core : CoreMeaning) (k : ℕ) → IsKept core → core.seen.greatest < k → k < 2 ^ 32 → IsKept (record core { seen = record core.seen { greatest = k } })
@@ -242,11 +258,69 @@ pub unmoved_ok : {E : Type 0} (core : CoreMeaning) (t : Trace) (links : List Lin
 unmoved_ok core t links (Ok cuts) walks h = (h.0, walks_unmoved core t links walks h.1)
 unmoved_ok core t links (Err e) walks h = h
 
--- a round ends: after a stop all links end, and there is still to keep of them what there was, but what they heard
-pub follows_stop : (core : CoreMeaning) (conf : ConfSeen) (stopped : Bool) (t : Trace) (heard : HeardSeen) → Walks core t → core.conf ≡ conf → stopped ≡ true
-    → heard ≡ forgotten_all (numbers core.seen.links) core.seen.heard → Follows (setting_of conf) (record core.seen { heard = heard }) (end_round stopped t)
-follows_stop core conf stopped t heard walks same stops forgotten =
-    let follows = follows_stopped (setting_of core.conf) core.seen t walks.follows walks.going in
-    subst (λ b. Follows (setting_of conf) (record core.seen { heard = heard }) (end_round b t)) (sym stops)
-    (subst (λ c. Follows (setting_of c) (record core.seen { heard = heard }) (end_round true t)) same
-    (subst (λ table. Follows (setting_of core.conf) (record core.seen { heard = table }) (end_round true t)) (sym forgotten) follows))
+-- ---- links end
+
+-- the links that are late
+pub walks_late : (core : CoreMeaning) (t : Trace) (ends closing : List ℕ) (links : List LinkSeen) (heard : HeardSeen) → Walks core t
+    → ends ≡ numbers (filter (is_late_link core.conf.client_timeout core.seen.moment) core.seen.links) → links ≡ filter (is_in_time core.conf.client_timeout core.seen.moment) core.seen.links
+    → heard ≡ forgotten_all ends core.seen.heard → closing ≡ placed_all ends core.seen.closing
+    → Walks (record core { seen = record core.seen { links = links; heard = heard; closing = closing } }) (end_each (late_reason t) (late_links core.conf.client_timeout t) t)
+walks_late core t ends closing links heard walks are left forgotten closed =
+    let s = setting_of core.conf in
+    let timeout = core.conf.client_timeout in
+    let now = end_each (late_reason t) (late_links timeout t) t in
+    let left_now : links ≡ filter (is_in_time timeout (moment_of t)) core.seen.links = left ∙ ap (λ m. filter (is_in_time timeout m) core.seen.links) walks.follows.moment in
+    let follows = follows_late s core.seen t walks.follows walks.going timeout ends (are ∙ ap (λ m. numbers (filter (is_late_link timeout m) core.seen.links)) walks.follows.moment) in
+    record {
+      follows = subst (λ ls. Follows s (record core.seen { links = ls; heard = heard; closing = closing }) now) (sym left_now)
+          (subst (λ table. Follows s (record core.seen { links = filter (is_in_time timeout (moment_of t)) core.seen.links; heard = table; closing = closing }) now) (sym forgotten)
+          (subst (λ cs. Follows s (record core.seen { links = filter (is_in_time timeout (moment_of t)) core.seen.links; heard = forgotten_all ends core.seen.heard; closing = cs }) now) (sym closed) follows));
+      going = going_after (late_reason t) (late_goes t) (late_links timeout t) t ∙ walks.going;
+    }
+
+-- the links that are overfull, and those that were turned away
+pub walks_refused : (core : CoreMeaning) (t : Trace) (ends closing : List ℕ) (links : List LinkSeen) (heard : HeardSeen) → Walks core t
+    → ends ≡ placed_all core.seen.turned (numbers (filter is_overfull core.seen.links)) → links ≡ filter (is_none_of ends) core.seen.links
+    → heard ≡ forgotten_all ends core.seen.heard → closing ≡ placed_all ends core.seen.closing
+    → Walks (record core { seen = record core.seen { links = links; heard = heard; closing = closing } }) (end_each (refused_reason t) (refused_links (setting_of core.conf) t) t)
+walks_refused core t ends closing links heard walks are left forgotten closed =
+    let s = setting_of core.conf in
+    let now = end_each (refused_reason t) (refused_links s t) t in
+    let follows = follows_refused_links s core.seen t walks.follows walks.going ends are in
+    record {
+      follows = subst (λ ls. Follows s (record core.seen { links = ls; heard = heard; closing = closing }) now) (sym left)
+          (subst (λ table. Follows s (record core.seen { links = filter (is_none_of ends) core.seen.links; heard = table; closing = closing }) now) (sym forgotten)
+          (subst (λ cs. Follows s (record core.seen { links = filter (is_none_of ends) core.seen.links; heard = forgotten_all ends core.seen.heard; closing = cs }) now) (sym closed) follows));
+      going = going_after (refused_reason t) (refused_goes t) (refused_links s t) t ∙ walks.going;
+    }
+
+-- after a stop all links, and there is still to keep of them what there was, but what they heard
+pub follows_stop : (core : CoreMeaning) (conf : ConfSeen) (stopped : Bool) (t : Trace) (ends closing : List ℕ) (heard : HeardSeen) → Walks core t → core.conf ≡ conf → stopped ≡ true
+    → ends ≡ numbers core.seen.links → heard ≡ forgotten_all ends core.seen.heard → closing ≡ placed_all ends core.seen.closing
+    → Follows (setting_of conf) (record core.seen { heard = heard; closing = closing }) (end_stopped stopped t)
+follows_stop core conf stopped t ends closing heard walks same stops are forgotten closed =
+    let follows = follows_stopped (setting_of core.conf) core.seen t walks.follows walks.going ends are in
+    subst (λ b. Follows (setting_of conf) (record core.seen { heard = heard; closing = closing }) (end_stopped b t)) (sym stops)
+    (subst (λ c. Follows (setting_of c) (record core.seen { heard = heard; closing = closing }) (end_stopped true t)) same
+    (subst (λ table. Follows (setting_of core.conf) (record core.seen { heard = table; closing = closing }) (end_stopped true t)) (sym forgotten)
+    (subst (λ cs. Follows (setting_of core.conf) (record core.seen { heard = forgotten_all ends core.seen.heard; closing = cs }) (end_stopped true t)) (sym closed) follows)))
+
+-- ---- comment lines
+
+pub walks_dated : (core : CoreMeaning) (conf : ConfSeen) (t : Trace) (before : ℕ) (links : List LinkSeen) (line : List ℕ) → Walks core t → nat_lt (before / comment_seconds) (core.seen.moment / comment_seconds) ≡ true
+    → line ≡ comment_text core.conf.server core.seen.moment → links ≡ map (with_text line) core.seen.links → Walks (relinked links core) (dated before t)
+walks_dated core conf t before links line walks passed is new =
+    let s = setting_of core.conf in
+    let m = moment_of t in
+    let told : links ≡ map (with_text (comment_text core.conf.server m)) core.seen.links =
+    new ∙ ap (λ text. map (with_text text) core.seen.links) (is ∙ ap (comment_text core.conf.server) walks.follows.moment) in
+    let border : nat_lt (before / comment_seconds) (m / comment_seconds) ≡ true = ap (λ n. nat_lt (before / comment_seconds) (n / comment_seconds)) (sym walks.follows.moment) ∙ passed in
+    subst (λ b. Walks (relinked links core) (if b then Dated m ∷ t else t)) (sym border) (record {
+      follows = subst (λ ls. Follows s (with_links ls core.seen) (Dated m ∷ t)) (sym told) (follows_dated s core.seen t walks.follows walks.going m);
+      going = walks.going;
+    })
+
+pub walks_undated : (core : CoreMeaning) (t : Trace) (before : ℕ) → Walks core t → nat_lt (before / comment_seconds) (core.seen.moment / comment_seconds) ≡ false → Walks core (dated before t)
+walks_undated core t before walks not_passed =
+    let border : nat_lt (before / comment_seconds) (moment_of t / comment_seconds) ≡ false = ap (λ n. nat_lt (before / comment_seconds) (n / comment_seconds)) (sym walks.follows.moment) ∙ not_passed in
+    subst (λ b. Walks core (if b then Dated (moment_of t) ∷ t else t)) (sym border) walks

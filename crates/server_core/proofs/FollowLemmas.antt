@@ -1,5 +1,5 @@
 -- Each entry of a trace, and what it changes of what there is to keep of the links.
-use Rattle.std.proofs.Common.{◌≡◌, ℕ, ◌+◌, ◌-◌, ◌≤◌, ◌<◌, ◌==◌, Bool, true, false, not, ◌&&◌, ◌||◌, List, [], ◌∷◌, ◌++◌, length, map, refl, sym, ap, ◌∙◌, arith, Option, Some, None, ⊎_elim, append-nil, length-append, nat_lt, nat_le, is_some, drop, eq-eqb, append_assoc, min, if◌then◌else◌}
+use Rattle.std.proofs.Common.{◌≡◌, ℕ, ◌+◌, ◌-◌, ◌≤◌, ◌<◌, ◌==◌, Bool, true, false, not, ◌&&◌, ◌||◌, List, [], ◌∷◌, ◌++◌, length, map, refl, sym, ap, ◌∙◌, subst, arith, Option, Some, None, ⊎_elim, append-nil, length-append, nat_lt, nat_le, is_some, drop, eq-eqb, append_assoc, min, if◌then◌else◌}
 use Rattle.std.proofs.lemmas.Bool.{true≢false, eqb-true, cases_Bool, leb-true, leb-false, le-leb, lt-leb, ltb-true, ltb-false, false_from_ne_true, true_from_ne_false}
 use Rattle.std.proofs.Math.Nat.{le-max_right}
 use Rattle.std.proofs.Math.Seq.{drop-append-add}
@@ -8,6 +8,7 @@ use Rattle.std.proofs.lemmas.List.{map-append}
 use Rattle.aprs_base.specs.PacketSeen.{PacketSeen}
 use Rattle.filter_lang.specs.Terms.{TermSeen}
 use Rattle.filter_eval.specs.Passes.{fresh}
+use Rattle.filter_eval.specs.declared.seen.Seen.{Seen}
 use Rattle.station_table.specs.Stations.{seen_in}
 use Rattle.aprs_history.specs.declared.verdicts.FilterAnswer.{FilterAnswer}
 use Rattle.aprs_history.specs.declared.verdicts.FilterAnswer.TheVariants.{Active, Denied}
@@ -18,16 +19,18 @@ use Rattle.aprs_base.specs.declared.packets.Parts.{Parts}
 use Rattle.aprs_base.specs.declared.packets.PortKind.{PortKind}
 use Rattle.aprs_history.specs.declared.verdicts.Session.{Session}
 use Rattle.aprs_history.specs.declared.verdicts.Refusal.{Refusal}
-use Rattle.aprs_history.specs.declared.verdicts.Verdict.{Verdict}
 use Rattle.aprs_history.specs.declared.verdicts.Verdict.TheVariants.{PassedOver, Refused, LoggedIn, Filtered, Accepted}
+use Rattle.aprs_history.specs.Dates.{comment_text}
 use Rattle.aprs_history.specs.Setting.{Setting}
-use Rattle.aprs_history.specs.Scenes.{accepted_by, accepted_of, packet_of}
+use Rattle.aprs_history.specs.Scenes.{accepted_of, packet_of}
 use Rattle.heard_routing.specs.Heard.{is_among}
 use Rattle.aprs_history.specs.Messages.{is_asked, is_owed, is_to_heard, is_to_login}
 use Rattle.aprs_history.specs.Sights.{filter_passes, friend_in, friends_of, is_gate_at, login_in, own_place, sighting}
-use Rattle.aprs_history.specs.Trace.{is_member, last_moment, moment_of, Trace, Admission, Served, RoundBegan, Ticked, Opened, Brought, Said, Roomed, Took, Lost, is_live}
-use Rattle.aprs_history.specs.Links.{brought_by, filter_after, filter_by, filter_of, taken_by, session_after, session_of, opening_of}
-use Rattle.aprs_history.specs.Texts.{Queued, queued, added_by, lines_of, plain, plain_line, relayed, reply_of, text_bytes, text_to, ended_line, wants, filter_reply, login_filter_reply, login_reply, refusal_reply, reply_lines, port_wants}
+use Rattle.aprs_history.specs.declared.verdicts.Admission.{Admission}
+use Rattle.aprs_history.specs.declared.verdicts.Admission.TheVariants.{Served}
+use Rattle.aprs_history.specs.Trace.{is_member, last_moment, moment_of, Trace, RoundBegan, Dated, Ticked, Opened, Brought, Said, Roomed, Took, Lost, is_live}
+use Rattle.aprs_history.specs.Links.{brought_by, filter_after, filter_by, filter_of, taken_by, session_of, opening_of}
+use Rattle.aprs_history.specs.Texts.{Queued, Text, TextLine, comment_line, most_waiting, queued, lines_of, plain, plain_line, relayed, reply_of, text_bytes, text_to, waiting_lines, with_text_line, with_text_lines, ended_line, wants, filter_reply, login_filter_reply, login_reply, refusal_reply, reply_lines, port_wants}
 use Rattle.aprs_history.specs.Stands.{LinkSeen, link_seen, TookNoMore}
 use Rattle.server_core.specs.Pending.{with_line, pending_bytes}
 use Rattle.server_core.specs.LinkSteps.{picked_at, at_link, at_moment, with_answer, with_room, when_gone, with_taken, with_bytes, with_text, with_session, with_packet, with_places, new_link_seen}
@@ -120,19 +123,48 @@ text_more lines more n le =
     ap length (flat_map-append ended_line lines more) ∙ length-append (text_bytes lines) (text_bytes more) in
     omega arith
 
--- a line of any link adds to the texts what its verdict says
-pub lines_said : (s : Setting) (t : Trace) (k : ℕ) (cut : Cut) (verdict : Verdict) (j : ℕ) → lines_of s (Said k cut verdict ∷ t) j ≡ lines_of s t j ++ plain (added_by s t k verdict j)
-lines_said s t k cut verdict j = map-append plain_line (text_to s t j).lines (added_by s t k verdict j)
+-- a text with a line more is no shorter, whether the line fits or not
+text_grows : (taken : ℕ) (line : TextLine) (text : Text) (n : ℕ) → n ≤ length (text_bytes (plain text.lines)) → n ≤ length (text_bytes (plain (with_text_line taken line text).lines))
+text_grows taken line text n le =
+    ⊎_elim
+    (λ (over : text.over ≡ true). rw over le)
+    (λ (open' : text.over ≡ false).
+    ⊎_elim
+    (λ (full : (waiting_lines text taken == most_waiting) ≡ true). rw (open', full) le)
+    (λ (room : (waiting_lines text taken == most_waiting) ≡ false). rw (open', room) (subst (λ lines. n ≤ length (text_bytes lines)) (sym (map-append plain_line text.lines (line ∷ []))) (text_more (plain text.lines) (line.line ∷ []) n le)))
+    (cases_Bool (waiting_lines text taken == most_waiting)))
+    (cases_Bool text.over)
 
--- what a line may change of what there is to keep of a link
-abbrev keeping : LinkSeen → List PacketSeen → ℕ → Option Session → List TermSeen → Queued → LinkSeen
-keeping base accepted now session terms queue = record base {
+pub texts_grow : (taken : ℕ) (lines : List TextLine) (text : Text) (n : ℕ) → n ≤ length (text_bytes (plain text.lines)) → n ≤ length (text_bytes (plain (with_text_lines taken lines text).lines))
+texts_grow taken [] text n le = le
+texts_grow taken (line ∷ lines) text n le = texts_grow taken lines (with_text_line taken line text) n (text_grows taken line text n le)
+
+-- what a line may change of what there is to keep of a link, where so many bytes of its text are taken
+abbrev keeping : LinkSeen → List PacketSeen → ℕ → Option Session → List TermSeen → Text → ℕ → LinkSeen
+keeping base accepted now session terms text taken = record base {
   session = session;
   filter = terms;
   friends = map (friend_in accepted now) terms;
   mine = login_in accepted now session;
-  queue = queue;
+  queue = queued (plain text.lines) taken;
+  over = text.over;
 }
+
+-- a line more in a text is a line more in the queue
+queue_grows : (base : LinkSeen) (accepted : List PacketSeen) (now : ℕ) (session : Option Session) (terms : List TermSeen) (text : Text) (taken : ℕ) → taken ≤ length (text_bytes (plain text.lines)) → (line : TextLine)
+    → keeping base accepted now session terms (with_text_line taken line text) taken ≡ with_text line.line (keeping base accepted now session terms text taken)
+unfolding with_text
+queue_grows base accepted now session terms text taken le line =
+    ⊎_elim
+    (λ (over : text.over ≡ true). rw over refl)
+    (λ (open' : text.over ≡ false).
+    ⊎_elim
+    (λ (full : (waiting_lines text taken == most_waiting) ≡ true). rw (open', full) refl)
+    (λ (room : (waiting_lines text taken == most_waiting) ≡ false). rw (open', room)
+    (ap (λ lines. record (keeping base accepted now session terms text taken) { queue = queued lines taken; over = false }) (map-append plain_line text.lines (line ∷ []))
+    ∙ ap (λ (q : Queued). record (keeping base accepted now session terms text taken) { queue = q; over = false }) (queued-push (plain text.lines) line.line taken le)))
+    (cases_Bool (waiting_lines text taken == most_waiting)))
+    (cases_Bool text.over)
 
 -- what a login with an answer changes
 abbrev pub with_login : List PacketSeen → ℕ → Session → List ℕ → Option FilterAnswer → LinkSeen → LinkSeen
@@ -140,38 +172,56 @@ with_login accepted now session reply None link = with_session session (sighting
 with_login accepted now session reply (Some answer) link =
     with_answer (friend_in accepted now) answer (with_session session (sighting accepted now session.call) reply link)
 
-module _ (base : LinkSeen) (accepted : List PacketSeen) (now : ℕ) (session : Option Session) (terms : List TermSeen) (lines : List (List ℕ)) (taken : ℕ) where
+-- a line more leaves a link's number, login and filter
+pub text_number : (line : List ℕ) (link : LinkSeen) → (with_text line link).link ≡ link.link
+unfolding with_text
+text_number line link =
+    ⊎_elim
+    (λ (over : link.over ≡ true). rw over refl)
+    (λ (open' : link.over ≡ false). ⊎_elim (λ (full : (length link.queue.lines == most_waiting) ≡ true). rw (open', full) refl) (λ (room : (length link.queue.lines == most_waiting) ≡ false). rw (open', room) refl) (cases_Bool (length link.queue.lines == most_waiting)))
+    (cases_Bool link.over)
+
+-- another filter and a line more, in either order
+filter_then_text : (terms : List TermSeen) (friends : List (Option Seen)) (line : List ℕ) (link : LinkSeen)
+    → record (with_text line link) { filter = terms; friends = friends } ≡ with_text line (record link { filter = terms; friends = friends })
+unfolding with_text
+filter_then_text terms friends line link =
+    ⊎_elim
+    (λ (over : link.over ≡ true). rw over refl)
+    (λ (open' : link.over ≡ false). ⊎_elim (λ (full : (length link.queue.lines == most_waiting) ≡ true). rw (open', full) refl) (λ (room : (length link.queue.lines == most_waiting) ≡ false). rw (open', room) refl) (cases_Bool (length link.queue.lines == most_waiting)))
+    (cases_Bool link.over)
+
+module _ (base : LinkSeen) (accepted : List PacketSeen) (now : ℕ) (session : Option Session) (terms : List TermSeen) (text : Text) (taken : ℕ) where
   abbrev kept : LinkSeen
-  kept = keeping base accepted now session terms (queued lines taken)
+  kept = keeping base accepted now session terms text taken
 
   -- no line
-  passed_shape : (own : Bool)
-      → keeping base (accepted ++ []) now (if own then session else session) (if own then terms else terms) (queued (lines ++ plain []) taken) ≡ kept
-  passed_shape true = ap (λ packets. keeping base packets now session terms (queued (lines ++ []) taken)) (append-nil accepted) ∙ ap (λ ls. keeping base accepted now session terms (queued ls taken)) (append-nil lines)
-  passed_shape false = ap (λ packets. keeping base packets now session terms (queued (lines ++ []) taken)) (append-nil accepted) ∙ ap (λ ls. keeping base accepted now session terms (queued ls taken)) (append-nil lines)
+  passed_shape : (own : Bool) → keeping base (accepted ++ []) now (if own then session else session) (if own then terms else terms) text taken ≡ kept
+  passed_shape true = ap (λ packets. keeping base packets now session terms text taken) (append-nil accepted)
+  passed_shape false = ap (λ packets. keeping base packets now session terms text taken) (append-nil accepted)
 
   quiet_shape : (own : Bool)
-      → keeping base (accepted ++ []) now (if own then session else session) (if own then terms else terms) (queued (lines ++ plain (if own then [] else [])) taken) ≡ kept
+      → keeping base (accepted ++ []) now (if own then session else session) (if own then terms else terms) (with_text_lines taken (if own then [] else []) text) taken ≡ kept
   quiet_shape true = passed_shape true
   quiet_shape false = passed_shape false
 
-  module _ (le : taken ≤ length (text_bytes lines)) where
+  module _ (le : taken ≤ length (text_bytes (plain text.lines))) where
     -- a reply
     reply_shape : (line : List ℕ) (own : Bool)
-        → keeping base (accepted ++ []) now (if own then session else session) (if own then terms else terms) (queued (lines ++ plain (if own then reply_of line ∷ [] else [])) taken)
+        → keeping base (accepted ++ []) now (if own then session else session) (if own then terms else terms) (with_text_lines taken (if own then reply_of line ∷ [] else []) text) taken
         ≡ (if own then with_text line kept else kept)
     reply_shape line true =
-        ap (λ packets. keeping base packets now session terms (queued (lines ++ line ∷ []) taken)) (append-nil accepted)
-        ∙ ap (λ (q : Queued). keeping base accepted now session terms q) (queued-push lines line taken le)
+        ap (λ packets. keeping base packets now session terms (with_text_line taken (reply_of line) text) taken) (append-nil accepted)
+        ∙ queue_grows base accepted now session terms text taken le (reply_of line)
     reply_shape line false = passed_shape false
 
     -- an answer to a filter
     answer_shape : (answer : FilterAnswer) (own : Bool)
-        → keeping base (accepted ++ []) now (if own then session else session) (if own then filter_by answer terms else terms) (queued (lines ++ plain (if own then reply_of (filter_reply answer) ∷ [] else [])) taken)
+        → keeping base (accepted ++ []) now (if own then session else session) (if own then filter_by answer terms else terms) (with_text_lines taken (if own then reply_of (filter_reply answer) ∷ [] else []) text) taken
         ≡ (if own then with_answer (friend_in accepted now) answer kept else kept)
     answer_shape (Active others reply) true =
-        ap (λ packets. keeping base packets now session others (queued (lines ++ reply ∷ []) taken)) (append-nil accepted)
-        ∙ ap (λ (q : Queued). keeping base accepted now session others q) (queued-push lines reply taken le)
+        ap (λ packets. keeping base packets now session others (with_text_line taken (reply_of reply) text) taken) (append-nil accepted)
+        ∙ queue_grows base accepted now session others text taken le (reply_of reply)
     answer_shape (Active others reply) false = passed_shape false
     answer_shape (Denied why) true = reply_shape (filter_reply (Denied why)) true
     answer_shape (Denied why) false = passed_shape false
@@ -179,41 +229,40 @@ module _ (base : LinkSeen) (accepted : List PacketSeen) (now : ℕ) (session : O
     -- a login, perhaps with a filter
     login_shape : (new : Session) (reply : List ℕ) (answer : Option FilterAnswer) (own : Bool)
         → keeping base (accepted ++ []) now (if own then Some new else session) (if own then filter_after (LoggedIn new answer) terms else terms)
-        (queued (lines ++ plain (if own then reply_of reply ∷ login_filter_reply answer else [])) taken)
+        (with_text_lines taken (if own then reply_of reply ∷ login_filter_reply answer else []) text) taken
         ≡ (if own then with_login accepted now new reply answer kept else kept)
     login_shape new reply None true =
-        ap (λ packets. keeping base packets now (Some new) terms (queued (lines ++ reply ∷ []) taken)) (append-nil accepted)
-        ∙ ap (λ (q : Queued). keeping base accepted now (Some new) terms q) (queued-push lines reply taken le)
+        ap (λ packets. keeping base packets now (Some new) terms (with_text_line taken (reply_of reply) text) taken) (append-nil accepted)
+        ∙ queue_grows base accepted now (Some new) terms text taken le (reply_of reply)
     login_shape new reply (Some (Active others line)) true =
-        ap (λ packets. keeping base packets now (Some new) others (queued (lines ++ reply ∷ line ∷ []) taken)) (append-nil accepted)
-        ∙ ap (λ ls. keeping base accepted now (Some new) others (queued ls taken)) (sym (append_assoc lines (reply ∷ []) (line ∷ [])))
-        ∙ ap (λ (q : Queued). keeping base accepted now (Some new) others q) (queued-push (lines ++ reply ∷ []) line taken (text_more lines (reply ∷ []) taken le))
-        ∙ ap (λ (q : Queued). keeping base accepted now (Some new) others (with_line q line)) (queued-push lines reply taken le)
+        let told = with_text_line taken (reply_of reply) text in
+        ap (λ packets. keeping base packets now (Some new) others (with_text_line taken (reply_of line) told) taken) (append-nil accepted)
+        ∙ queue_grows base accepted now (Some new) others told taken (text_grows taken (reply_of reply) text taken le) (reply_of line)
+        ∙ ap (with_text line) (queue_grows base accepted now (Some new) others text taken le (reply_of reply)
+        ∙ sym (filter_then_text others (map (friend_in accepted now) others) reply (keeping base accepted now (Some new) terms text taken)))
     login_shape new reply (Some (Denied why)) true =
         let line = filter_reply (Denied why) in
-        ap (λ packets. keeping base packets now (Some new) terms (queued (lines ++ reply ∷ line ∷ []) taken)) (append-nil accepted)
-        ∙ ap (λ ls. keeping base accepted now (Some new) terms (queued ls taken)) (sym (append_assoc lines (reply ∷ []) (line ∷ [])))
-        ∙ ap (λ (q : Queued). keeping base accepted now (Some new) terms q) (queued-push (lines ++ reply ∷ []) line taken (text_more lines (reply ∷ []) taken le))
-        ∙ ap (λ (q : Queued). keeping base accepted now (Some new) terms (with_line q line)) (queued-push lines reply taken le)
+        let told = with_text_line taken (reply_of reply) text in
+        ap (λ packets. keeping base packets now (Some new) terms (with_text_line taken (reply_of line) told) taken) (append-nil accepted)
+        ∙ queue_grows base accepted now (Some new) terms told taken (text_grows taken (reply_of reply) text taken le) (reply_of line)
+        ∙ ap (with_text line) (queue_grows base accepted now (Some new) terms text taken le (reply_of reply))
     login_shape new reply answer false = passed_shape false
+
+    -- a packet that a link takes
+    wanted_shape : (packet : PacketSeen) → packet.moment ≡ now
+        → keeping base (accepted ++ packet ∷ []) now session terms (with_text_line taken (relayed packet) text) taken ≡ with_places packet (with_text packet.line kept)
+    wanted_shape packet at =
+        places_kept accepted now packet (seen_in packet) refl (λ seen is. told_at packet seen is ∙ at) (keeping base accepted now session terms (with_text_line taken (relayed packet) text) taken) refl refl
+        ∙ ap (with_places packet) (queue_grows base accepted now session terms text taken le (relayed packet))
 
     -- a packet, which the link wants or not
     packet_shape : (packet : PacketSeen) (own wanted : Bool) → packet.moment ≡ now
-        → keeping base (accepted ++ packet ∷ []) now (if own then session else session) (if own then terms else terms)
-        (queued (lines ++ plain (if wanted then relayed packet ∷ [] else [])) taken)
+        → keeping base (accepted ++ packet ∷ []) now (if own then session else session) (if own then terms else terms) (with_text_lines taken (if wanted then relayed packet ∷ [] else []) text) taken
         ≡ with_places packet (if wanted then with_text packet.line kept else kept)
-    packet_shape packet true true at =
-        ap (λ (q : Queued). keeping base (accepted ++ packet ∷ []) now session terms q) (queued-push lines packet.line taken le)
-        ∙ places_kept accepted now packet (seen_in packet) refl (λ seen is. told_at packet seen is ∙ at) (with_text packet.line kept) refl refl
-    packet_shape packet false true at =
-        ap (λ (q : Queued). keeping base (accepted ++ packet ∷ []) now session terms q) (queued-push lines packet.line taken le)
-        ∙ places_kept accepted now packet (seen_in packet) refl (λ seen is. told_at packet seen is ∙ at) (with_text packet.line kept) refl refl
-    packet_shape packet true false at =
-        ap (λ ls. keeping base (accepted ++ packet ∷ []) now session terms (queued ls taken)) (append-nil lines)
-        ∙ places_kept accepted now packet (seen_in packet) refl (λ seen is. told_at packet seen is ∙ at) kept refl refl
-    packet_shape packet false false at =
-        ap (λ ls. keeping base (accepted ++ packet ∷ []) now session terms (queued ls taken)) (append-nil lines)
-        ∙ places_kept accepted now packet (seen_in packet) refl (λ seen is. told_at packet seen is ∙ at) kept refl refl
+    packet_shape packet true true at = wanted_shape packet at
+    packet_shape packet false true at = wanted_shape packet at
+    packet_shape packet true false at = places_kept accepted now packet (seen_in packet) refl (λ seen is. told_at packet seen is ∙ at) kept refl refl
+    packet_shape packet false false at = places_kept accepted now packet (seen_in packet) refl (λ seen is. told_at packet seen is ∙ at) kept refl refl
 
 -- ---- what there is to keep of each link, one entry later
 
@@ -250,56 +299,40 @@ module _ (s : Setting) where
       ap (λ friends. record (link_seen s t j) { friends = friends; mine = own_place (Ticked m ∷ t) j }) (sym (friends_later (accepted_of t) (moment_of t) (moment_of (Ticked m ∷ t)) later (filter_of t j)))
       ∙ ap (λ place. record (link_seen s t j) { friends = map (fresh (moment_of (Ticked m ∷ t))) (friends_of t j); mine = place }) (sym (login_later (accepted_of t) (moment_of t) (moment_of (Ticked m ∷ t)) later (session_of t j)))
 
-  -- what a line changes by its verdict
-  said_seen : (t : Trace) (k : ℕ) (cut : Cut) (verdict : Verdict) (j : ℕ)
-      → link_seen s (Said k cut verdict ∷ t) j
-      ≡ keeping (link_seen s t j) (accepted_of t ++ accepted_by k (moment_of t) verdict) (moment_of t)
-      (if j == k then session_after verdict (session_of t j) else session_of t j) (if j == k then filter_after verdict (filter_of t j) else filter_of t j)
-      (queued (lines_of s t j ++ plain (added_by s t k verdict j)) (taken_by t j))
-  unfolding link_seen
-  said_seen t k cut verdict j =
-      ap (λ ls. keeping (link_seen s t j) (accepted_of t ++ accepted_by k (moment_of t) verdict) (moment_of t)
-      (if j == k then session_after verdict (session_of t j) else session_of t j) (if j == k then filter_after verdict (filter_of t j) else filter_of t j) (queued ls (taken_by t j)))
-      (lines_said s t k cut verdict j)
-
   -- a line that is refused without a reply, and one with a reply
   pub refused_seen : (t : Trace) (k : ℕ) (cut : Cut) (why : Refusal) (j : ℕ) → None ≡ refusal_reply why → link_seen s (Said k cut (Refused why) ∷ t) j ≡ link_seen s t j
   unfolding link_seen
   refused_seen t k cut why j none =
       let base = link_seen s t j in
-      said_seen t k cut (Refused why) j
-      ∙ ap (λ reply. keeping base (accepted_of t ++ []) (moment_of t) (if j == k then session_of t j else session_of t j) (if j == k then filter_of t j else filter_of t j)
-      (queued (lines_of s t j ++ plain (if j == k then reply_lines reply else [])) (taken_by t j))) (sym none)
-      ∙ quiet_shape base (accepted_of t) (moment_of t) (session_of t j) (filter_of t j) (lines_of s t j) (taken_by t j) (j == k)
+      ap (λ reply. keeping base (accepted_of t ++ []) (moment_of t) (if j == k then session_of t j else session_of t j) (if j == k then filter_of t j else filter_of t j)
+      (with_text_lines (taken_by t j) (if j == k then reply_lines reply else []) (text_to s t j)) (taken_by t j)) (sym none)
+      ∙ quiet_shape base (accepted_of t) (moment_of t) (session_of t j) (filter_of t j) (text_to s t j) (taken_by t j) (j == k)
 
   pub replied_seen : (t : Trace) → TookNoMore s t → (k : ℕ) (cut : Cut) (why : Refusal) (line : List ℕ) (j : ℕ) → Some line ≡ refusal_reply why
       → link_seen s (Said k cut (Refused why) ∷ t) j ≡ at_link k (with_text line) (link_seen s t j)
   unfolding link_seen
   replied_seen t took k cut why line j some =
       let base = link_seen s t j in
-      said_seen t k cut (Refused why) j
-      ∙ ap (λ reply. keeping base (accepted_of t ++ []) (moment_of t) (if j == k then session_of t j else session_of t j) (if j == k then filter_of t j else filter_of t j)
-      (queued (lines_of s t j ++ plain (if j == k then reply_lines reply else [])) (taken_by t j))) (sym some)
-      ∙ reply_shape base (accepted_of t) (moment_of t) (session_of t j) (filter_of t j) (lines_of s t j) (taken_by t j) (took j) line (j == k)
+      ap (λ reply. keeping base (accepted_of t ++ []) (moment_of t) (if j == k then session_of t j else session_of t j) (if j == k then filter_of t j else filter_of t j)
+      (with_text_lines (taken_by t j) (if j == k then reply_lines reply else []) (text_to s t j)) (taken_by t j)) (sym some)
+      ∙ reply_shape base (accepted_of t) (moment_of t) (session_of t j) (filter_of t j) (text_to s t j) (taken_by t j) (took j) line (j == k)
 
   pub passed_seen : (t : Trace) (k : ℕ) (cut : Cut) (j : ℕ) → link_seen s (Said k cut PassedOver ∷ t) j ≡ link_seen s t j
   unfolding link_seen
-  passed_seen t k cut j = said_seen t k cut PassedOver j ∙ passed_shape (link_seen s t j) (accepted_of t) (moment_of t) (session_of t j) (filter_of t j) (lines_of s t j) (taken_by t j) (j == k)
+  passed_seen t k cut j = passed_shape (link_seen s t j) (accepted_of t) (moment_of t) (session_of t j) (filter_of t j) (text_to s t j) (taken_by t j) (j == k)
 
   pub answered_seen : (t : Trace) → TookNoMore s t → (k : ℕ) (cut : Cut) (answer : FilterAnswer) (j : ℕ)
       → link_seen s (Said k cut (Filtered answer) ∷ t) j ≡ at_link k (with_answer (friend_in (accepted_of t) (moment_of t)) answer) (link_seen s t j)
   unfolding link_seen
   answered_seen t took k cut answer j =
-      said_seen t k cut (Filtered answer) j
-      ∙ answer_shape (link_seen s t j) (accepted_of t) (moment_of t) (session_of t j) (filter_of t j) (lines_of s t j) (taken_by t j) (took j) answer (j == k)
+      answer_shape (link_seen s t j) (accepted_of t) (moment_of t) (session_of t j) (filter_of t j) (text_to s t j) (taken_by t j) (took j) answer (j == k)
 
   pub login_seen : (t : Trace) → TookNoMore s t → (k : ℕ) (cut : Cut) (session : Session) (answer : Option FilterAnswer) (j : ℕ)
       → link_seen s (Said k cut (LoggedIn session answer) ∷ t) j
       ≡ at_link k (with_login (accepted_of t) (moment_of t) session (login_reply s.server session) answer) (link_seen s t j)
   unfolding link_seen
   login_seen t took k cut session answer j =
-      said_seen t k cut (LoggedIn session answer) j
-      ∙ login_shape (link_seen s t j) (accepted_of t) (moment_of t) (session_of t j) (filter_of t j) (lines_of s t j) (taken_by t j) (took j) session (login_reply s.server session) answer (j == k)
+      login_shape (link_seen s t j) (accepted_of t) (moment_of t) (session_of t j) (filter_of t j) (text_to s t j) (taken_by t j) (took j) session (login_reply s.server session) answer (j == k)
 
   -- an accepted packet, at a link that lives
   pub accepted_seen : (t : Trace) → TookNoMore s t → (k : ℕ) (cut : Cut) (parts : Parts) (line : List ℕ) (hearers owed : List ℕ) (j : ℕ) → is_live t j ≡ true
@@ -317,15 +350,20 @@ module _ (s : Setting) where
       ap (λ b. not (k == j) && b && is_some (session_of t j) && port_wants (opening_of t j) (filter_passes t packet j || is_asked t packet j)) live
       ∙ and_true (not (k == j)) (is_some (session_of t j)) (port_wants (opening_of t j) (filter_passes t packet j || is_asked t packet j))
       ∙ ap (λ b. asked b (is_owed t packet j)) (sym heard) ∙ ap (asked (is_among j hearers)) (sym due) in
-      said_seen t k cut (Accepted parts line) j
-      ∙ ap (λ b. keeping base (accepted_of t ++ packet ∷ []) (moment_of t) (if j == k then session_of t j else session_of t j) (if j == k then filter_of t j else filter_of t j)
-      (queued (lines_of s t j ++ plain (if b then relayed packet ∷ [] else [])) (taken_by t j))) same
-      ∙ packet_shape base (accepted_of t) (moment_of t) (session_of t j) (filter_of t j) (lines_of s t j) (taken_by t j) (took j) packet (j == k) (asked (is_among j hearers) (is_among j owed)) refl
+      ap (λ b. keeping base (accepted_of t ++ packet ∷ []) (moment_of t) (if j == k then session_of t j else session_of t j) (if j == k then filter_of t j else filter_of t j)
+      (with_text_lines (taken_by t j) (if b then relayed packet ∷ [] else []) (text_to s t j)) (taken_by t j)) same
+      ∙ packet_shape base (accepted_of t) (moment_of t) (session_of t j) (filter_of t j) (text_to s t j) (taken_by t j) (took j) packet (j == k) (asked (is_among j hearers) (is_among j owed)) refl
 
   -- a round begins
   pub round_seen : (t : Trace) (j : ℕ) → link_seen s (RoundBegan ∷ t) j ≡ link_seen s t j
   unfolding link_seen
   round_seen t j = refl
+
+  -- a link that lives is told the date
+  pub dated_seen : (t : Trace) → TookNoMore s t → (moment j : ℕ) → is_live t j ≡ true → link_seen s (Dated moment ∷ t) j ≡ with_text (comment_text s.server moment) (link_seen s t j)
+  unfolding link_seen
+  dated_seen t took moment j live =
+      rw live (queue_grows (link_seen s t j) (accepted_of t) (moment_of t) (session_of t j) (filter_of t j) (text_to s t j) (taken_by t j) (took j) (comment_line s.server moment))
 
   pub opened_seen : (t : Trace) (listener : ℕ) (admission : Admission) (k : ℕ) (from : Addr) (j : ℕ) → (j == k) ≡ false → link_seen s (Opened listener admission k from ∷ t) j ≡ link_seen s t j
   unfolding link_seen

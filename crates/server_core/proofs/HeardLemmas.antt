@@ -14,11 +14,13 @@ use Rattle.heard_routing.specs.Heard.{HeardSeen, courtesies, heard_age, heard_at
 use Rattle.heard_routing.proofs.EntryLemmas.{links_listed, once_filtered, once_set}
 use Rattle.heard_routing.proofs.LookLemmas.{heard_noted, heard_without_link, promised_promised, promised_without_link, promised_without_promises}
 use Rattle.aprs_history.specs.declared.verdicts.Verdict.TheVariants.{Accepted}
-use Rattle.aprs_history.specs.Trace.{EndReason, Ended, NoPort, Opened, Said, Served, Trace, is_live, is_member, is_other, live_links, moment_of}
+use Rattle.aprs_history.specs.declared.verdicts.Admission.{Admission}
+use Rattle.aprs_history.specs.declared.verdicts.Admission.TheVariants.{Served}
+use Rattle.aprs_history.specs.Trace.{EndReason, Ended, Opened, Said, opened_link, Trace, is_live, is_member, is_other, live_links, moment_of}
 use Rattle.aprs_history.specs.Links.{opening_of}
 use Rattle.aprs_history.specs.Scenes.{has_filters, packet_of}
 use Rattle.aprs_history.specs.Messages.{has_heard, heard_of, is_message, is_owed, is_position, is_to_heard, promise_after, promise_of, promises}
-use Rattle.aprs_history.specs.History.{end_all}
+use Rattle.aprs_history.specs.History.{end_each}
 use Rattle.aprs_history.specs.Stands.{LinkSeen, Remembers}
 use Rattle.server_core.specs.LinkSteps.{call_in, filters_at, forgotten_all, hearers_of, may_promise, promised_all, promised_one, receiver_of, spent}
 use Rattle.server_core.proofs.MemberLemmas.{eqb_turned, member_filter, member_push}
@@ -110,18 +112,19 @@ remembers_opened table t listener kind k from dead remembers = record {
         came_shape (is_live t l) (l == k) told (λ same. ap (is_live t) (eqb-true l k same) ∙ dead)
         ∙ ap (λ b. if b then (if l == k then None else told) else None) (ap (λ b. is_live t l || b) (eqb_turned l k) ∙ sym (member_push l k (live_links t)))
 
-pub remembers_unserved : (table : HeardSeen) (t : Trace) (listener k : ℕ) (from : Addr) → is_live t k ≡ false → Remembers table t → Remembers table (Opened listener NoPort k from ∷ t)
-remembers_unserved table t listener k from dead remembers = record {
+pub remembers_unserved : (table : HeardSeen) (t : Trace) (listener : ℕ) (admission : Admission) (k : ℕ) (from : Addr) → opened_link admission k ≡ [] → is_live t k ≡ false → Remembers table t
+    → Remembers table (Opened listener admission k from ∷ t)
+remembers_unserved table t listener admission k from none dead remembers = record {
   once_heard = remembers.once_heard;
   once_promised = remembers.once_promised;
   heard = λ l call. remembers.heard l call ∙ missed (heard_of t l call) l;
   promised = λ l sender. remembers.promised l sender ∙ missed (promise_of t l sender) l;
 }
   where
-    missed : (told : Option ℕ) (l : ℕ) → (if is_live t l then told else None) ≡ (if is_member l (live_links t ++ []) then (if l == k then None else told) else None)
+    missed : (told : Option ℕ) (l : ℕ) → (if is_live t l then told else None) ≡ (if is_member l (live_links t ++ opened_link admission k) then (if l == k then None else told) else None)
     missed told l =
         missed_shape (is_live t l) (l == k) told (λ same. ap (is_live t) (eqb-true l k same) ∙ dead)
-        ∙ ap (λ ks. if is_member l ks then (if l == k then None else told) else None) (sym (append-nil (live_links t)))
+        ∙ ap (λ ks. if is_member l ks then (if l == k then None else told) else None) (sym (ap (λ new. live_links t ++ new) none ∙ append-nil (live_links t)))
 
 pub remembers_ended : (table : HeardSeen) (t : Trace) (k : ℕ) (reason : EndReason) → Remembers table t → Remembers (without_link k table) (Ended k reason ∷ t)
 remembers_ended table t k reason remembers = record {
@@ -136,9 +139,10 @@ remembers_ended table t k reason remembers = record {
         gone_shape (k == l) (is_live t l) told
         ∙ ap (λ b. if b then told else None) (ap (λ b. not b && is_live t l) (eqb_turned k l) ∙ sym (member_filter (is_other k) (live_links t) l))
 
-pub remembers_all_ended : (reason : EndReason) (ks : List ℕ) (table : HeardSeen) (t : Trace) → Remembers table t → Remembers (forgotten_all ks table) (end_all reason ks t)
+pub remembers_all_ended : (reason : ℕ → EndReason) (ks : List ℕ) (table : HeardSeen) (t : Trace) → Remembers table t → Remembers (forgotten_all ks table) (end_each reason ks t)
 remembers_all_ended reason [] table t remembers = remembers
-remembers_all_ended reason (k ∷ ks) table t remembers = remembers_all_ended reason ks (without_link k table) (Ended k reason ∷ t) (remembers_ended table t k reason remembers)
+remembers_all_ended reason (k ∷ ks) table t remembers =
+    remembers_all_ended reason ks (without_link k table) (Ended k (reason k) ∷ t) (remembers_ended table t k (reason k) remembers)
 
 -- a link that doesn't live is remembered nowhere, so forgetting it changes no answer
 pub remembers_no_end : (table : HeardSeen) (t : Trace) (k : ℕ) → is_live t k ≡ false → Remembers table t → Remembers (without_link k table) t

@@ -1,5 +1,5 @@
 -- Whole rounds: the history with a round's events, its trace, and the acts that are due after it.
-use Rattle.std.proofs.Common.{◌≡◌, ℕ, ◌+◌, ◌==◌, Bool, true, false, not, ◌&&◌, ◌||◌, List, [], ◌∷◌, ◌++◌, map, filter, refl, sym, ap, ◌∙◌, subst, arith, append-nil, if◌then◌else◌}
+use Rattle.std.proofs.Common.{◌≡◌, ℕ, ◌+◌, ◌/◌, ◌==◌, nat_lt, Bool, true, false, not, ◌&&◌, ◌||◌, List, [], ◌∷◌, ◌++◌, map, filter, refl, sym, ap, ◌∙◌, arith, append-nil, if◌then◌else◌}
 use Rattle.std.proofs.lemmas.Bool.{eqb-true, false_from_ne_true, true≢false, false≢true}
 use Rattle.std.proofs.lemmas.Bool.{and_parts}
 use Rattle.aprs_base.specs.Cuts.{cuts_by}
@@ -11,16 +11,16 @@ use Rattle.aprs_base.specs.declared.events.Happening.TheVariants as did
 use Rattle.aprs_history.specs.Setting.{Setting}
 use Rattle.aprs_history.specs.Scenes.{scene_of}
 use Rattle.aprs_history.specs.Verdicts.{verdict_of}
-use Rattle.aprs_history.specs.Trace.{Trace, RoundBegan, Said, Brought, Roomed, Ended, ByPeer, closed_links, live_links, stopped_links, served_links, is_live, ByStop}
-use Rattle.aprs_history.specs.Links.{brought_by, gone_links, is_blocked, taken_by}
+use Rattle.aprs_history.specs.Trace.{Trace, Dated, FoundGone, RoundBegan, Said, Ticked, Brought, Roomed, Ended, ByPeer, moment_of, stopped_links, served_links, is_live}
+use Rattle.aprs_history.specs.Links.{brought_by, gone_links, is_blocked, late_links, late_reason, taken_by}
 use Rattle.aprs_history.specs.Texts.{lines_of}
-use Rattle.aprs_history.specs.History.{History, open_events, ends_round, is_stop, is_stopped, greatest_link, trace_of, with_event, begun, begin_round, bring, end_round, ended, say_all}
+use Rattle.aprs_history.specs.History.{History, open_events, ends_round, is_stop, is_stopped, greatest_link, trace_of, with_event, begun, begin_round, bring, comment_seconds, dated, end_each, end_round, ended, refused_links, refused_reason, say_all}
 use Rattle.aprs_history.specs.Rounds.{is_whole, with_events, events_trace, greatest_after, stopped_after}
 use Rattle.aprs_history.specs.Acts.{acts_after, due, is_offered, offered_links}
 use Rattle.aprs_history.specs.Stands.{CoreSeen, link_seen, Follows}
-use Rattle.server_core.specs.LinkSteps.{Rises, is_ready, number_of, numbers}
+use Rattle.server_core.specs.LinkSteps.{is_ready, number_of, numbers}
 use Rattle.server_core.proofs.FollowLemmas.{queued-left}
-use Rattle.server_core.proofs.WalkLemmas.{closed_by_stop, going_after, left_none, live_after, filter_seen, numbers_seen, stopped_by_stop}
+use Rattle.server_core.proofs.WalkLemmas.{filter_seen, going_after, late_goes, numbers_seen, refused_goes}
 
 pub ends_not : (n : ℕ) (e next : Event) (events : List Event) → is_whole n (e ∷ next ∷ events) ≡ true → (ends_round n e ≡ false) × (is_whole (n + 1) (next ∷ events) ≡ true)
 ends_not n e next events whole =
@@ -68,22 +68,22 @@ or_none false = refl
 
 -- the trace of a whole round: its beginning, its events, and its end
 pub trace_whole : (s : Setting) (n : ℕ) (events : List Event) (h : History) → is_whole n events ≡ true → open_events h ≡ n
-    → trace_of s (with_events events h) ≡ end_round (stopped_after events false) (events_trace s events (begun n (trace_of s h)))
+    → trace_of s (with_events events h) ≡ end_round s (stopped_after events false) (events_trace s events (begun n (trace_of s h)))
 unfolding trace_of
 trace_whole s n [] h whole open_is = absurd (false≢true whole)
 trace_whole s n (e ∷ []) h whole open_is =
-    ap (λ m. ended (ends_round m e) e (with_event s e (begun m (trace_of s h)))) open_is
-    ∙ ap (λ b. ended b e (with_event s e (begun n (trace_of s h)))) whole
-    ∙ ap (λ b. end_round b (with_event s e (begun n (trace_of s h)))) (sym (or_none (is_stop e)))
+    ap (λ m. ended s (ends_round m e) e (with_event s e (begun m (trace_of s h)))) open_is
+    ∙ ap (λ b. ended s b e (with_event s e (begun n (trace_of s h)))) whole
+    ∙ ap (λ b. end_round s b (with_event s e (begun n (trace_of s h)))) (sym (or_none (is_stop e)))
 trace_whole s n (e ∷ next ∷ events) h whole open_is =
     let parts = ends_not n e next events whole in
     let after : trace_of s (did.Event e ∷ h) ≡ with_event s e (begun n (trace_of s h)) =
-    ap (λ m. ended (ends_round m e) e (with_event s e (begun m (trace_of s h)))) open_is ∙ ap (λ b. ended b e (with_event s e (begun n (trace_of s h)))) parts.0 in
+    ap (λ m. ended s (ends_round m e) e (with_event s e (begun m (trace_of s h)))) open_is ∙ ap (λ b. ended s b e (with_event s e (begun n (trace_of s h)))) parts.0 in
     let going : stopped_after (next ∷ events) false ≡ stopped_after (next ∷ events) (is_stop e || false) =
     ap (λ b. stopped_after (next ∷ events) (b || false)) (sym (no_stop n e parts.0)) in
     trace_whole s (n + 1) (next ∷ events) (did.Event e ∷ h) parts.1 (more_events n e h parts.0 open_is)
-    ∙ ap (λ t. end_round (stopped_after (next ∷ events) false) (events_trace s (next ∷ events) t)) (not_begun n (trace_of s (did.Event e ∷ h)) ∙ after)
-    ∙ ap (λ b. end_round b (events_trace s (next ∷ events) (with_event s e (begun n (trace_of s h))))) going
+    ∙ ap (λ t. end_round s (stopped_after (next ∷ events) false) (events_trace s (next ∷ events) t)) (not_begun n (trace_of s (did.Event e ∷ h)) ∙ after)
+    ∙ ap (λ b. end_round s b (events_trace s (next ∷ events) (with_event s e (begun n (trace_of s h))))) going
 
 pub greatest_whole : (events : List Event) (h : History) → greatest_link (with_events events h) ≡ greatest_after events (greatest_link h)
 greatest_whole [] h = refl
@@ -112,9 +112,14 @@ if_going : (b : Bool) (t u : Trace) → stopped_links t ≡ stopped_links u → 
 if_going true t u same = same
 if_going false t u same = refl
 
+dated_going : (before : ℕ) (t : Trace) → stopped_links (dated before t) ≡ stopped_links t
+dated_going before t = if_going (nat_lt (before / comment_seconds) (moment_of t / comment_seconds)) (Dated (moment_of t) ∷ t) t refl
+
 -- no event stops links: a stop does so as it ends its round
 pub event_going : (s : Setting) (e : Event) (t : Trace) → stopped_links (with_event s e t) ≡ stopped_links t
-event_going s (event.Tick moment) t = refl
+event_going s (event.Tick moment) t =
+    let now = Ticked moment ∷ t in
+    dated_going (moment_of t) (end_each (late_reason now) (late_links s.client_timeout now) now) ∙ going_after (late_reason now) (late_goes now) (late_links s.client_timeout now) now
 event_going s (event.Opened listener link from) t = refl
 event_going s (event.Bytes link bytes) t = if_going (is_live t link) (bring s link bytes t) t (said_going s link (cuts_by (brought_by t link) bytes) (Brought link bytes ∷ t))
 event_going s (event.Ended link) t = if_going (is_live t link) (Ended link ByPeer ∷ t) t (append-nil (stopped_links t))
@@ -124,12 +129,12 @@ event_going s (event.Joined uplink link at) t = refl
 event_going s (event.Unjoined uplink) t = refl
 event_going s (event.Datagram listener from bytes) t = refl
 
-ended_going : (ends : Bool) (e : Event) (t : Trace) → is_stop e ≡ false → stopped_links (ended ends e t) ≡ stopped_links t
-ended_going true e t no_stop = ap (λ b. stopped_links (end_round b t)) no_stop
-ended_going false e t no_stop = refl
+ended_going : (s : Setting) (ends : Bool) (e : Event) (t : Trace) → is_stop e ≡ false → stopped_links (ended s ends e t) ≡ stopped_links t
+ended_going s true e t no_stop = ap (λ b. stopped_links (end_round s b t)) no_stop ∙ going_after (refused_reason t) (refused_goes t) (refused_links s t) t
+ended_going s false e t no_stop = refl
 
 pub begun_going : (n : ℕ) (t : Trace) → stopped_links (begun n t) ≡ stopped_links t
-begun_going n t = if_going (n == 0) (begin_round t) t (going_after (gone_links (RoundBegan ∷ t)) (RoundBegan ∷ t))
+begun_going n t = if_going (n == 0) (begin_round t) t (going_after (λ k. FoundGone) (λ k. refl) (gone_links (RoundBegan ∷ t)) (RoundBegan ∷ t))
 
 or_false : (a b : Bool) → (a || b) ≡ false → (a ≡ false) × (b ≡ false)
 or_false true b h = absurd (true≢false h)
@@ -141,7 +146,7 @@ unfolding trace_of
 history_going s [] no_stop = refl
 history_going s (did.Event e ∷ h) no_stop =
     let parts = or_false (is_stop e) (is_stopped h) no_stop in
-    ended_going (ends_round (open_events h) e) e (with_event s e (begun (open_events h) (trace_of s h))) parts.0
+    ended_going s (ends_round (open_events h) e) e (with_event s e (begun (open_events h) (trace_of s h))) parts.0
     ∙ event_going s e (begun (open_events h) (trace_of s h)) ∙ begun_going (open_events h) (trace_of s h) ∙ history_going s h parts.1
 history_going s (did.Sent link bytes (sent.Took n) ∷ h) no_stop = history_going s h no_stop
 history_going s (did.Sent link bytes sent.Gone ∷ h) no_stop = history_going s h no_stop
@@ -162,13 +167,3 @@ module _ (s : Setting) (core : CoreSeen) (t : Trace) (follows : Follows s core t
       ap (λ links. map number_of (filter is_ready links)) follows.links
       ∙ ap (map number_of) (filter_seen s core t follows is_ready (is_offered s t) (served_links t) ready_seen)
       ∙ numbers_seen s t (offered_links s t)
-
--- the links to be closed are those that the stop ended
-pub closes_are : (s : Setting) (core : CoreSeen) (t : Trace) (stopped : Bool) → Follows s core (end_round stopped t) → stopped_links t ≡ [] → closed_links t ≡ [] → Rises 0 (numbers core.links) core.greatest
-    → (if stopped then numbers core.links else []) ≡ closed_links (end_round stopped t)
-closes_are s core t true follows going none rises =
-    let numbers_are : numbers core.links ≡ live_links t =
-    ap numbers follows.links ∙ numbers_seen s (end_round true t) (served_links (end_round true t)) ∙ ap (λ ks. ks ++ live_links (end_round true t)) (stopped_by_stop t going)
-    ∙ ap (λ ks. live_links t ++ ks) (live_after ByStop (live_links t) t ∙ left_none (live_links t)) ∙ append-nil (live_links t) in
-    numbers_are ∙ sym (closed_by_stop core.greatest t none (subst (λ ns. Rises 0 ns core.greatest) numbers_are rises))
-closes_are s core t false follows going none rises = sym none

@@ -60,6 +60,8 @@ stands_took core links k offered n bytes h size stands part pending new =
       finished = stands.finished;
       follows = record {
         moment = follows.moment;
+        turned = follows.turned;
+        closing = follows.closing;
         links = new ∙ ap (λ m. map (at_link k (with_taken m n)) core.seen.links) (sym size) ∙ follows.links;
         tables = follows.tables;
         took = follows.took;
@@ -76,7 +78,7 @@ stands_gone core links k bytes h stands new =
     let follows = follows_lost s core.seen (trace_of s h) stands.follows k in
     record {
       finished = stands.finished;
-      follows = record { moment = follows.moment; links = new ∙ follows.links; tables = follows.tables; took = follows.took };
+      follows = record { moment = follows.moment; turned = follows.turned; closing = follows.closing; links = new ∙ follows.links; tables = follows.tables; took = follows.took };
       greatest = stands.greatest;
       stopped = stands.stopped;
     }
@@ -93,12 +95,14 @@ stands_listening s core (spec ∷ specs) n h stands = stands_listening s core sp
 })
 
 -- nothing has happened
-pub stands_new : (s : Setting) (core : CoreSeen) → core.moment ≡ 0 → core.links ≡ [] → core.accepted ≡ [] → core.stations ≡ no_stations → core.heard ≡ nothing → core.greatest ≡ 0 → core.stopped ≡ false → StandsFor s core []
+pub stands_new : (s : Setting) (core : CoreSeen) → core.moment ≡ 0 → core.links ≡ [] → core.turned ≡ [] → core.closing ≡ [] → core.accepted ≡ [] → core.stations ≡ no_stations → core.heard ≡ nothing → core.greatest ≡ 0 → core.stopped ≡ false → StandsFor s core []
 unfolding trace_of
-stands_new s core moment links accepted stations heard greatest stopped = record {
+stands_new s core moment links turned closing accepted stations heard greatest stopped = record {
   finished = refl;
   follows = record {
     moment = moment;
+    turned = turned;
+    closing = closing;
     links = links;
     tables = record {
       accepted = accepted;

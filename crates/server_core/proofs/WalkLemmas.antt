@@ -1,6 +1,6 @@
 -- The walk over a round: what the core keeps follows the trace, entry by entry.
-use Rattle.std.proofs.Common.{◌≡◌, ℕ, ◌+◌, ◌≤◌, ◌<◌, ◌==◌, Bool, true, false, not, ◌||◌, List, [], ◌∷◌, ◌++◌, length, map, filter, refl, sym, ap, ◌∙◌, subst, arith, Option, Some, None, ⊎_elim, append-nil, append_assoc, max, min, nat_lt, eq-eqb, cond, if◌then◌else◌}
-use Rattle.std.proofs.lemmas.Bool.{eqb-true, ltb-true, cases_Bool, false_from_ne_true, true≢false}
+use Rattle.std.proofs.Common.{◌≡◌, ℕ, ◌+◌, ◌≤◌, ◌<◌, ◌==◌, Bool, true, false, not, ◌||◌, List, [], ◌∷◌, ◌++◌, length, map, filter, refl, sym, ap, ◌∙◌, subst, arith, Option, Some, None, ⊎_elim, append-nil, append_assoc, max, min, eq-eqb, cond, if◌then◌else◌}
+use Rattle.std.proofs.lemmas.Bool.{eqb-true, cases_Bool, false_from_ne_true, true≢false}
 use Rattle.aprs_base.specs.Held.{held_after}
 use Rattle.aprs_base.specs.declared.texts.Addr.{Addr}
 use Rattle.aprs_base.specs.declared.cutting.Cut.{Cut}
@@ -15,20 +15,23 @@ use Rattle.aprs_history.specs.declared.verdicts.Refusal.{Refusal}
 use Rattle.aprs_history.specs.declared.verdicts.Verdict.{Verdict}
 use Rattle.aprs_history.specs.declared.verdicts.Verdict.TheVariants.{PassedOver, Refused, LoggedIn, Filtered, Accepted}
 use Rattle.aprs_history.specs.Setting.{Setting}
-use Rattle.aprs_history.specs.Trace.{Trace, Admission, NoPort, Served, RoundBegan, Ticked, Opened, Brought, Said, Roomed, Took, Lost, Ended, EndReason, FoundGone, ByPeer, ByStop, closed_links, live_links, placed, stopped_links, served_links, is_live, is_member, is_other, moment_of, last_moment}
-use Rattle.aprs_history.specs.Links.{brought_by, opening_of, taken_by, is_gone, gone_links}
+use Rattle.aprs_history.specs.declared.verdicts.Admission.{Admission}
+use Rattle.aprs_history.specs.declared.verdicts.Admission.TheVariants.{NoPort, TurnedAway, Served}
+use Rattle.aprs_history.specs.Trace.{Trace, RoundBegan, Dated, Ticked, Opened, Brought, Said, Roomed, Took, Lost, Ended, EndReason, FoundGone, ByPeer, ByStop, Full, NoLogin, Overfull, Silent, closed_links, is_closing, live_links, opened_link, placed, placed_all, stopped_link, stopped_links, served_links, turned_links, is_live, is_member, is_other, moment_of, last_moment}
+use Rattle.aprs_history.specs.Links.{brought_by, opening_of, taken_by, is_gone, gone_links, is_late, is_nameless, late_links, late_reason}
 use Rattle.aprs_history.specs.Scenes.{accepted_of, has_filters, packet_of}
 use Rattle.aprs_history.specs.Messages.{heard_of, promise_of}
 use Rattle.aprs_history.specs.Sights.{friend_in, is_gate_at, sighting}
-use Rattle.aprs_history.specs.Texts.{lines_of, plain, text_bytes, added_by, login_reply, refusal_reply}
+use Rattle.aprs_history.specs.Texts.{comment_line, lines_of, over_links, text_bytes, text_to, added_by, login_reply, refusal_reply}
 use Rattle.aprs_history.specs.Stands.{LinkSeen, CoreSeen, link_seen, TookNoMore, Follows, Keeps, Remembers}
-use Rattle.aprs_history.specs.History.{end_all, end_gone}
-use Rattle.server_core.specs.LinkSteps.{filters_at, filters_kept, forgotten_all, hearers_of, is_lost, owed_in, receiver_of, after_answer, after_login, after_login_answer, after_packet, after_verdict, found_in, has_that, with_answer, with_reply, at_link, at_moment, with_room, when_gone, with_taken, with_bytes, with_text, with_session, with_packet, new_link_seen, numbers, is_there, is_another, Rises}
+use Rattle.aprs_history.specs.Dates.{comment_text}
+use Rattle.aprs_history.specs.History.{end_all, end_each, end_gone, refused_links, refused_reason}
+use Rattle.server_core.specs.LinkSteps.{filters_at, filters_kept, forgotten_all, hearers_of, is_lost, owed_in, receiver_of, after_answer, after_login, after_login_answer, after_packet, after_verdict, found_in, has_that, with_answer, with_reply, at_link, at_moment, with_room, when_gone, with_taken, with_bytes, with_text, with_session, with_packet, new_link_seen, numbers, is_there, is_another, is_in_time, is_late_link, is_none_of, is_overfull, Rises}
 use Rattle.server_core.specs.declared.link.SourcePlace.{SourcePlace}
 use Rattle.server_core.proofs.SightLemmas.{answer_same, friends_found, map_same, sighting_found, source_known}
 use Rattle.server_core.proofs.MemberLemmas.{eqb_turned, member_filtered, member_later}
 use Rattle.server_core.proofs.HeardLemmas.{hearers_are, owed_are, remembers_accepted, remembers_all_ended, remembers_ended, remembers_opened, remembers_unserved}
-use Rattle.server_core.proofs.FollowLemmas.{picked_missing, picked_seen, answered_seen, map_through, lines_said, round_seen, text_more, ticked_seen, with_login, roomed_seen, lost_seen, took_seen, brought_seen, refused_seen, replied_seen, passed_seen, login_seen, accepted_seen, opened_seen, new_seen}
+use Rattle.server_core.proofs.FollowLemmas.{picked_missing, picked_seen, answered_seen, map_through, dated_seen, round_seen, text_number, texts_grow, ticked_seen, with_login, roomed_seen, lost_seen, took_seen, brought_seen, refused_seen, replied_seen, passed_seen, login_seen, accepted_seen, opened_seen, new_seen}
 
 -- ---- lists of numbers
 
@@ -87,8 +90,11 @@ remembers_as table t u live heard promised remembers = record {
 
 module _ (s : Setting) where
   took_said : (t : Trace) → TookNoMore s t → (k : ℕ) (cut : Cut) (verdict : Verdict) → TookNoMore s (Said k cut verdict ∷ t)
-  took_said t took k cut verdict j =
-      subst (λ lines. taken_by t j ≤ length (text_bytes lines)) (sym (lines_said s t k cut verdict j)) (text_more (lines_of s t j) (plain (added_by s t k verdict j)) (taken_by t j) (took j))
+  took_said t took k cut verdict j = texts_grow (taken_by t j) (added_by s t k verdict j) (text_to s t j) (taken_by t j) (took j)
+
+  took_dated : (t : Trace) → TookNoMore s t → (moment : ℕ) → TookNoMore s (Dated moment ∷ t)
+  took_dated t took moment j =
+      texts_grow (taken_by t j) (if is_live t j then comment_line s.server moment ∷ [] else []) (text_to s t j) (taken_by t j) (took j)
 
   took_opened : (t : Trace) → TookNoMore s t → (listener : ℕ) (admission : Admission) (k : ℕ) (from : Addr) → TookNoMore s (Opened listener admission k from ∷ t)
   took_opened t took listener admission k from j = ⊎_elim (λ here. rw here (omega arith)) (λ other. rw other (took j)) (cases_Bool (j == k))
@@ -136,9 +142,12 @@ module _ (s : Setting) (core : CoreSeen) (t : Trace) (follows : Follows s core t
     heard = remembers_as core.heard t u live heard promised follows.tables.heard;
   }
 
-  pub follows_began : Follows s core (RoundBegan ∷ t)
+  -- a round begins
+  pub follows_began : Follows s (record core { turned = []; closing = [] }) (RoundBegan ∷ t)
   follows_began = record {
     moment = follows.moment;
+    turned = refl;
+    closing = refl;
     links = follows.links ∙ sym (map_on (link_seen s (RoundBegan ∷ t)) (link_seen s t) (served_links t) (λ j member. round_seen s t j));
     tables = same_tables (RoundBegan ∷ t) refl (λ l. refl) (λ l call. refl) (λ l sender. refl);
     took = follows.took;
@@ -147,6 +156,8 @@ module _ (s : Setting) (core : CoreSeen) (t : Trace) (follows : Follows s core t
   pub follows_ticked : (m : ℕ) → Follows s (with_moment (max (min m last_moment) core.moment) core) (Ticked m ∷ t)
   follows_ticked m = record {
     moment = ap (max (min m last_moment)) follows.moment;
+    turned = follows.turned;
+    closing = follows.closing;
     links = ap (λ now. map (at_moment (max (min m last_moment) now)) core.links) follows.moment
         ∙ ap (map (at_moment (moment_of (Ticked m ∷ t)))) follows.links
         ∙ sym (map_through (link_seen s (Ticked m ∷ t)) (at_moment (moment_of (Ticked m ∷ t))) (link_seen s t) (ticked_seen s t m) (served_links t));
@@ -157,6 +168,8 @@ module _ (s : Setting) (core : CoreSeen) (t : Trace) (follows : Follows s core t
   pub follows_roomed : (k : ℕ) → Follows s (with_links (map (at_link k with_room) core.links) core) (Roomed k ∷ t)
   follows_roomed k = record {
     moment = follows.moment;
+    turned = follows.turned;
+    closing = follows.closing;
     links = ap (map (at_link k with_room)) follows.links ∙ sym (map_through (link_seen s (Roomed k ∷ t)) (at_link k with_room) (link_seen s t) (roomed_seen s t k) (served_links t));
     tables = same_tables (Roomed k ∷ t) refl (λ l. refl) (λ l call. refl) (λ l sender. refl);
     took = follows.took;
@@ -165,6 +178,8 @@ module _ (s : Setting) (core : CoreSeen) (t : Trace) (follows : Follows s core t
   pub follows_lost : (k : ℕ) → Follows s (with_links (map (at_link k when_gone) core.links) core) (Lost k ∷ t)
   follows_lost k = record {
     moment = follows.moment;
+    turned = follows.turned;
+    closing = follows.closing;
     links = ap (map (at_link k when_gone)) follows.links ∙ sym (map_through (link_seen s (Lost k ∷ t)) (at_link k when_gone) (link_seen s t) (lost_seen s t k) (served_links t));
     tables = same_tables (Lost k ∷ t) refl (λ l. refl) (λ l call. refl) (λ l sender. refl);
     took = follows.took;
@@ -174,6 +189,8 @@ module _ (s : Setting) (core : CoreSeen) (t : Trace) (follows : Follows s core t
       → Follows s (with_links (map (at_link k (with_taken offered n)) core.links) core) (Took k offered n ∷ t)
   follows_took k offered n le = record {
     moment = follows.moment;
+    turned = follows.turned;
+    closing = follows.closing;
     links = ap (map (at_link k (with_taken offered n))) follows.links
         ∙ sym (map_through (link_seen s (Took k offered n ∷ t)) (at_link k (with_taken offered n)) (link_seen s t) (took_seen s t k offered n) (served_links t));
     tables = same_tables (Took k offered n ∷ t) refl (λ l. refl) (λ l call. refl) (λ l sender. refl);
@@ -184,6 +201,8 @@ module _ (s : Setting) (core : CoreSeen) (t : Trace) (follows : Follows s core t
       → Follows s (with_links (map (at_link k (with_bytes core.moment (held_after (brought_by t k ++ bytes)))) core.links) core) (Brought k bytes ∷ t)
   follows_brought k bytes = record {
     moment = follows.moment;
+    turned = follows.turned;
+    closing = follows.closing;
     links = ap (λ m. map (at_link k (with_bytes m (held_after (brought_by t k ++ bytes)))) core.links) follows.moment
         ∙ ap (map (at_link k (with_bytes (moment_of t) (held_after (brought_by t k ++ bytes))))) follows.links
         ∙ sym (map_through (link_seen s (Brought k bytes ∷ t)) (at_link k (with_bytes (moment_of t) (held_after (brought_by t k ++ bytes)))) (link_seen s t)
@@ -195,6 +214,8 @@ module _ (s : Setting) (core : CoreSeen) (t : Trace) (follows : Follows s core t
   follows_passed : (k : ℕ) (cut : Cut) → Follows s core (Said k cut PassedOver ∷ t)
   follows_passed k cut = record {
     moment = follows.moment;
+    turned = follows.turned;
+    closing = follows.closing;
     links = follows.links ∙ sym (map_on (link_seen s (Said k cut PassedOver ∷ t)) (link_seen s t) (served_links t) (λ j member. passed_seen s t k cut j));
     tables = same_tables (Said k cut PassedOver ∷ t) (append-nil (accepted_of t)) (λ l. refl) (λ l call. refl) (λ l sender. refl);
     took = took_said s t follows.took k cut PassedOver;
@@ -204,12 +225,16 @@ module _ (s : Setting) (core : CoreSeen) (t : Trace) (follows : Follows s core t
       → Follows s (with_links (with_reply k reply core.links) core) (Said k cut (Refused why) ∷ t)
   follows_told k cut why None none = record {
     moment = follows.moment;
+    turned = follows.turned;
+    closing = follows.closing;
     links = follows.links ∙ sym (map_on (link_seen s (Said k cut (Refused why) ∷ t)) (link_seen s t) (served_links t) (λ j member. refused_seen s t k cut why j none));
     tables = same_tables (Said k cut (Refused why) ∷ t) (append-nil (accepted_of t)) (λ l. refl) (λ l call. refl) (λ l sender. refl);
     took = took_said s t follows.took k cut (Refused why);
   }
   follows_told k cut why (Some line) some = record {
     moment = follows.moment;
+    turned = follows.turned;
+    closing = follows.closing;
     links = ap (map (at_link k (with_text line))) follows.links
         ∙ sym (map_through (link_seen s (Said k cut (Refused why) ∷ t)) (at_link k (with_text line)) (link_seen s t)
         (λ j. replied_seen s t follows.took k cut why line j some) (served_links t));
@@ -231,6 +256,8 @@ module _ (s : Setting) (core : CoreSeen) (t : Trace) (follows : Follows s core t
   follows_answer : (k : ℕ) (cut : Cut) (answer : FilterAnswer) → Follows s (after_answer k answer core) (Said k cut (Filtered answer) ∷ t)
   follows_answer k cut answer = record {
     moment = follows.moment;
+    turned = follows.turned;
+    closing = follows.closing;
     links = answers_agree k answer core.links
         ∙ ap (map (at_link k (with_answer (friend_in (accepted_of t) (moment_of t)) answer))) follows.links
         ∙ sym (map_through (link_seen s (Said k cut (Filtered answer) ∷ t)) (at_link k (with_answer (friend_in (accepted_of t) (moment_of t)) answer)) (link_seen s t)
@@ -253,7 +280,7 @@ module _ (s : Setting) (core : CoreSeen) (t : Trace) (follows : Follows s core t
       (sighting_found core (accepted_of t) (moment_of t) follows.moment follows.tables.stations session.call)
       ∙ answers_agree k answer (map (at_link k logged) core.links)
       ∙ map_twice (at_link k answered) (at_link k logged) core.links
-      ∙ map_same (λ link. at_link k answered (at_link k logged link)) (at_link k (λ link. answered (logged link))) (at_twice k answered logged (λ link. refl)) core.links
+      ∙ map_same (λ link. at_link k answered (at_link k logged link)) (at_link k (λ link. answered (logged link))) (at_twice k answered logged (λ link. text_number reply (record link { session = Some session; mine = sighting (accepted_of t) (moment_of t) session.call }))) core.links
 
   follows_login : (k : ℕ) (cut : Cut) (session : Session) (answer : Option FilterAnswer)
       → Follows s (after_login_answer k answer (after_login s.server k session core)) (Said k cut (LoggedIn session answer) ∷ t)
@@ -268,12 +295,16 @@ module _ (s : Setting) (core : CoreSeen) (t : Trace) (follows : Follows s core t
           → Follows s (after_login_answer k answer (after_login s.server k session core)) (Said k cut (LoggedIn session answer) ∷ t)
       logged_in None links = record {
         moment = follows.moment;
+        turned = follows.turned;
+        closing = follows.closing;
         links = links;
         tables = same_tables (Said k cut (LoggedIn session None) ∷ t) (append-nil (accepted_of t)) (λ l. refl) (λ l call. refl) (λ l sender. refl);
         took = took_said s t follows.took k cut (LoggedIn session None);
       }
       logged_in (Some given) links = record {
         moment = follows.moment;
+        turned = follows.turned;
+        closing = follows.closing;
         links = links;
         tables = same_tables (Said k cut (LoggedIn session (Some given)) ∷ t) (append-nil (accepted_of t)) (λ l. refl) (λ l call. refl) (λ l sender. refl);
         took = took_said s t follows.took k cut (LoggedIn session (Some given));
@@ -299,6 +330,8 @@ module _ (s : Setting) (core : CoreSeen) (t : Trace) (follows : Follows s core t
       let owed = owed_in (record core { moment = moment_of t }) packet in
       record {
         moment = refl;
+        turned = follows.turned;
+        closing = follows.closing;
         links = ap (λ place. map (with_packet k packet place hearers owed) core.links) (source_known (record core { moment = moment_of t }) (accepted_of t) (moment_of t) refl follows.tables.stations parts.source)
             ∙ ap (map (with_packet k packet source hearers owed)) follows.links
             ∙ map_twice (with_packet k packet source hearers owed) (link_seen s t) (served_links t)
@@ -346,6 +379,8 @@ module _ (s : Setting) (core : CoreSeen) (t : Trace) (follows : Follows s core t
       let seen = link_seen s (Opened listener (Served kind) k from ∷ t) in
       record {
         moment = follows.moment;
+        turned = follows.turned ∙ sym (append-nil (turned_links t));
+        closing = follows.closing;
         links =
             ap (λ links. links ++ new_link_seen k (record { kind = kind; from = from; moment = core.moment }) ∷ []) (follows.links ∙ opened_kept listener (Served kind) k high from rises above)
             ∙ ap (λ m. map seen (served_links t) ++ new_link_seen k (record { kind = kind; from = from; moment = m }) ∷ []) follows.moment
@@ -360,18 +395,50 @@ module _ (s : Setting) (core : CoreSeen) (t : Trace) (follows : Follows s core t
         took = took_opened s t follows.took listener (Served kind) k from;
       }
 
-  -- a link that comes where none is served
+  -- a link that comes where none is served, or as many are there as may
+  follows_turned : (listener : ℕ) (admission : Admission) (k high : ℕ) (from : Addr) → opened_link admission k ≡ [] → Rises 0 (numbers core.links) high → high < k
+      → Follows s (record core { turned = turned_links (Opened listener admission k from ∷ t) }) (Opened listener admission k from ∷ t)
+  follows_turned listener admission k high from none rises above =
+      let seen = link_seen s (Opened listener admission k from ∷ t) in
+      record {
+        moment = follows.moment;
+        turned = refl;
+        closing = follows.closing;
+        links = follows.links ∙ opened_kept listener admission k high from rises above
+            ∙ ap (λ ks. map seen (stopped_links t ++ ks)) (sym (ap (λ new. live_links t ++ new) none ∙ append-nil (live_links t)));
+        tables = record {
+          accepted = follows.tables.accepted;
+          stations = follows.tables.stations;
+          heard = remembers_unserved core.heard t listener admission k from none (not_yet k high rises above) follows.tables.heard;
+        };
+        took = took_opened s t follows.took listener admission k from;
+      }
+
   pub follows_unserved : (listener k high : ℕ) (from : Addr) → Rises 0 (numbers core.links) high → high < k → Follows s core (Opened listener NoPort k from ∷ t)
-  follows_unserved listener k high from rises above = record {
-    moment = follows.moment;
-    links = follows.links ∙ opened_kept listener NoPort k high from rises above ∙ ap (λ ks. map (link_seen s (Opened listener NoPort k from ∷ t)) (stopped_links t ++ ks)) (sym (append-nil (live_links t)));
-    tables = record {
-      accepted = follows.tables.accepted;
-      stations = follows.tables.stations;
-      heard = remembers_unserved core.heard t listener k from (not_yet k high rises above) follows.tables.heard;
-    };
-    took = took_opened s t follows.took listener NoPort k from;
-  }
+  follows_unserved listener k high from rises above =
+      subst (λ turned. Follows s (record core { turned = turned }) (Opened listener NoPort k from ∷ t)) (append-nil (turned_links t) ∙ sym follows.turned)
+      (follows_turned listener NoPort k high from refl rises above)
+
+  pub follows_refused_client : (listener k high : ℕ) (from : Addr) → Rises 0 (numbers core.links) high → high < k
+      → Follows s (record core { turned = core.turned ++ k ∷ [] }) (Opened listener TurnedAway k from ∷ t)
+  follows_refused_client listener k high from rises above =
+      subst (λ turned. Follows s (record core { turned = turned ++ k ∷ [] }) (Opened listener TurnedAway k from ∷ t)) (sym follows.turned)
+      (follows_turned listener TurnedAway k high from refl rises above)
+
+  -- the links that live are told the date
+  pub follows_dated : stopped_links t ≡ [] → (moment : ℕ) → Follows s (with_links (map (with_text (comment_text s.server moment)) core.links) core) (Dated moment ∷ t)
+  follows_dated going moment =
+      let told = with_text (comment_text s.server moment) in
+      record {
+        moment = follows.moment;
+        turned = follows.turned;
+        closing = follows.closing;
+        links = ap (map told) follows.links ∙ map_twice told (link_seen s t) (served_links t)
+            ∙ sym (map_on (link_seen s (Dated moment ∷ t)) (λ j. told (link_seen s t j)) (served_links t)
+            (λ j member. dated_seen s t follows.took moment j (subst (λ stopped. is_member j (stopped ++ live_links t) ≡ true) going member)));
+        tables = same_tables (Dated moment ∷ t) refl (λ l. refl) (λ l call. refl) (λ l sender. refl);
+        took = took_dated s t follows.took moment;
+      }
 
   pub filter_seen : (p : LinkSeen → Bool) (q : ℕ → Bool) (ks : List ℕ) → ((j : ℕ) → p (link_seen s t j) ≡ q j) → filter p (map (link_seen s t) ks) ≡ map (link_seen s t) (filter q ks)
   filter_seen p q [] same = refl
@@ -396,6 +463,8 @@ module _ (s : Setting) (core : CoreSeen) (t : Trace) (follows : Follows s core t
   pub follows_ended : stopped_links t ≡ [] → (k : ℕ) → Follows s (with_heard (without_link k core.heard) (with_links (filter (is_another k) core.links) core)) (Ended k ByPeer ∷ t)
   follows_ended going k = record {
     moment = follows.moment;
+    turned = follows.turned;
+    closing = follows.closing;
     links =
         ap (filter (is_another k)) (follows.links ∙ ap (λ stopped. map (link_seen s t) (stopped ++ live_links t)) going)
         ∙ filter_seen (is_another k) (is_other k) (live_links t) (another_seen k)
@@ -412,47 +481,54 @@ abbrev without_all : List ℕ → List ℕ → List ℕ
 without_all [] xs = xs
 without_all (k ∷ ks) xs = without_all ks (filter (is_other k) xs)
 
-pub live_after : (reason : EndReason) (ks : List ℕ) (t : Trace) → live_links (end_all reason ks t) ≡ without_all ks (live_links t)
+pub live_after : (reason : ℕ → EndReason) (ks : List ℕ) (t : Trace) → live_links (end_each reason ks t) ≡ without_all ks (live_links t)
 live_after reason [] t = refl
-live_after reason (k ∷ ks) t = live_after reason ks (Ended k reason ∷ t)
+live_after reason (k ∷ ks) t = live_after reason ks (Ended k (reason k) ∷ t)
 
 -- one point of a trace that the end of a link leaves as it is
-same_after : {X : Type 0} (f : Trace → X) → ((k : ℕ) (reason : EndReason) (t : Trace) → f (Ended k reason ∷ t) ≡ f t) → (reason : EndReason) (ks : List ℕ) (t : Trace)
-    → f (end_all reason ks t) ≡ f t
+same_after : {X : Type 0} (f : Trace → X) → ((k : ℕ) (why : EndReason) (t : Trace) → f (Ended k why ∷ t) ≡ f t) → (reason : ℕ → EndReason) (ks : List ℕ) (t : Trace)
+    → f (end_each reason ks t) ≡ f t
 same_after f same reason [] t = refl
-same_after f same reason (k ∷ ks) t = same_after f same reason ks (Ended k reason ∷ t) ∙ same k reason t
+same_after f same reason (k ∷ ks) t = same_after f same reason ks (Ended k (reason k) ∷ t) ∙ same k (reason k) t
 
-pub moment_after : (reason : EndReason) (ks : List ℕ) (t : Trace) → moment_of (end_all reason ks t) ≡ moment_of t
-moment_after = same_after moment_of (λ k reason t. refl)
+pub moment_after : (reason : ℕ → EndReason) (ks : List ℕ) (t : Trace) → moment_of (end_each reason ks t) ≡ moment_of t
+moment_after = same_after moment_of (λ k why t. refl)
 
-accepted_after : (reason : EndReason) (ks : List ℕ) (t : Trace) → accepted_of (end_all reason ks t) ≡ accepted_of t
-accepted_after = same_after accepted_of (λ k reason t. refl)
+turned_after : (reason : ℕ → EndReason) (ks : List ℕ) (t : Trace) → turned_links (end_each reason ks t) ≡ turned_links t
+turned_after = same_after turned_links (λ k why t. refl)
 
-pub seen_after : (s : Setting) (reason : EndReason) (ks : List ℕ) (t : Trace) (j : ℕ) → link_seen s (end_all reason ks t) j ≡ link_seen s t j
+accepted_after : (reason : ℕ → EndReason) (ks : List ℕ) (t : Trace) → accepted_of (end_each reason ks t) ≡ accepted_of t
+accepted_after = same_after accepted_of (λ k why t. refl)
+
+pub seen_after : (s : Setting) (reason : ℕ → EndReason) (ks : List ℕ) (t : Trace) (j : ℕ) → link_seen s (end_each reason ks t) j ≡ link_seen s t j
 unfolding link_seen
-seen_after s reason ks t j = same_after (λ (u : Trace). link_seen s u j) (λ k reason t. refl) reason ks t
+seen_after s reason ks t j = same_after (λ (u : Trace). link_seen s u j) (λ k why t. refl) reason ks t
 
-pub took_after : (s : Setting) (reason : EndReason) (ks : List ℕ) (t : Trace) → TookNoMore s t → TookNoMore s (end_all reason ks t)
+pub took_after : (s : Setting) (reason : ℕ → EndReason) (ks : List ℕ) (t : Trace) → TookNoMore s t → TookNoMore s (end_each reason ks t)
 took_after s reason ks t took j =
-    let taken = same_after (λ (u : Trace). taken_by u j) (λ k reason t. refl) reason ks t in
-    let lines = same_after (λ (u : Trace). lines_of s u j) (λ k reason t. refl) reason ks t in
-    subst (λ n. n ≤ length (text_bytes (lines_of s (end_all reason ks t) j))) (sym taken) (subst (λ ls. taken_by t j ≤ length (text_bytes ls)) (sym lines) (took j))
+    let taken = same_after (λ (u : Trace). taken_by u j) (λ k why t. refl) reason ks t in
+    let lines = same_after (λ (u : Trace). lines_of s u j) (λ k why t. refl) reason ks t in
+    subst (λ n. n ≤ length (text_bytes (lines_of s (end_each reason ks t) j))) (sym taken) (subst (λ ls. taken_by t j ≤ length (text_bytes ls)) (sym lines) (took j))
 
-pub going_after : (ks : List ℕ) (t : Trace) → stopped_links (end_all FoundGone ks t) ≡ stopped_links t
-going_after [] t = refl
-going_after (k ∷ ks) t = going_after ks (Ended k FoundGone ∷ t) ∙ append-nil (stopped_links t)
+-- ends that no stop makes
+pub going_after : (reason : ℕ → EndReason) → ((k : ℕ) → stopped_link (reason k) k ≡ []) → (ks : List ℕ) (t : Trace) → stopped_links (end_each reason ks t) ≡ stopped_links t
+going_after reason none [] t = refl
+going_after reason none (k ∷ ks) t = going_after reason none ks (Ended k (reason k) ∷ t) ∙ ap (λ new. stopped_links t ++ new) (none k) ∙ append-nil (stopped_links t)
 
--- links that were found gone aren't closed
-pub open_after : (ks : List ℕ) (t : Trace) → closed_links (end_all FoundGone ks t) ≡ closed_links t
-open_after [] t = refl
-open_after (k ∷ ks) t = open_after ks (Ended k FoundGone ∷ t)
+-- ends that close no link, and ends that do
+open_after : (reason : ℕ → EndReason) → ((k : ℕ) → is_closing (reason k) ≡ false) → (ks : List ℕ) (t : Trace) → closed_links (end_each reason ks t) ≡ closed_links t
+open_after reason none [] t = refl
+open_after reason none (k ∷ ks) t =
+    open_after reason none ks (Ended k (reason k) ∷ t) ∙ ap (λ b. if b then placed k (closed_links t) else closed_links t) (none k)
+
+closed_after : (reason : ℕ → EndReason) → ((k : ℕ) → is_closing (reason k) ≡ true) → (ks : List ℕ) (t : Trace) → closed_links (end_each reason ks t) ≡ placed_all ks (closed_links t)
+closed_after reason all [] t = refl
+closed_after reason all (k ∷ ks) t =
+    closed_after reason all ks (Ended k (reason k) ∷ t) ∙ ap (λ b. placed_all ks (if b then placed k (closed_links t) else closed_links t)) (all k)
 
 stopped_after : (ks : List ℕ) (t : Trace) → stopped_links (end_all ByStop ks t) ≡ stopped_links t ++ ks
 stopped_after [] t = sym (append-nil (stopped_links t))
 stopped_after (k ∷ ks) t = stopped_after ks (Ended k ByStop ∷ t) ∙ append_assoc (stopped_links t) (k ∷ []) ks
-
-pub stopped_by_stop : (t : Trace) → stopped_links t ≡ [] → stopped_links (end_all ByStop (live_links t) t) ≡ live_links t
-stopped_by_stop t going = stopped_after (live_links t) t ∙ ap (λ ks. ks ++ live_links t) going
 
 filter_all : (xs : List ℕ) → filter (λ x. not false) xs ≡ xs
 filter_all [] = refl
@@ -499,6 +575,38 @@ left_none xs = left_without xs xs ∙ filter_members (λ x. not (is_member x xs)
     nothing [] = refl
     nothing (x ∷ xs) = nothing xs
 
+pub late_goes : (t : Trace) (k : ℕ) → stopped_link (late_reason t k) k ≡ []
+late_goes t k = by (is_nameless t k)
+  where
+    by : (b : Bool) → stopped_link (if b then NoLogin else Silent) k ≡ []
+    by true = refl
+    by false = refl
+
+late_closes : (t : Trace) (k : ℕ) → is_closing (late_reason t k) ≡ true
+late_closes t k = by (is_nameless t k)
+  where
+    by : (b : Bool) → is_closing (if b then NoLogin else Silent) ≡ true
+    by true = refl
+    by false = refl
+
+pub refused_goes : (t : Trace) (k : ℕ) → stopped_link (refused_reason t k) k ≡ []
+refused_goes t k = by (is_member k (turned_links t))
+  where
+    by : (b : Bool) → stopped_link (if b then Full else Overfull) k ≡ []
+    by true = refl
+    by false = refl
+
+refused_closes : (t : Trace) (k : ℕ) → is_closing (refused_reason t k) ≡ true
+refused_closes t k = by (is_member k (turned_links t))
+  where
+    by : (b : Bool) → is_closing (if b then Full else Overfull) ≡ true
+    by true = refl
+    by false = refl
+
+-- what is kept where links have ended: the others, and which are to be closed
+abbrev pub with_ends : List ℕ → List LinkSeen → List ℕ → CoreSeen → CoreSeen
+with_ends ends links closing core = record core { links = links; closing = closing; heard = forgotten_all ends core.heard }
+
 module _ (s : Setting) (core : CoreSeen) (t : Trace) (follows : Follows s core t) (going : stopped_links t ≡ []) where
   there_seen : (j : ℕ) → is_there (link_seen s t j) ≡ not (is_gone t j)
   unfolding link_seen
@@ -508,72 +616,107 @@ module _ (s : Setting) (core : CoreSeen) (t : Trace) (follows : Follows s core t
   unfolding link_seen
   lost_seen_as j = refl
 
-  live_numbers : numbers core.links ≡ live_links t
-  live_numbers = ap numbers follows.links ∙ numbers_seen s t (served_links t) ∙ ap (λ stopped. stopped ++ live_links t) going
+  late_seen : (timeout j : ℕ) → is_late_link timeout (moment_of t) (link_seen s t j) ≡ is_late timeout t j
+  unfolding link_seen
+  late_seen timeout j = refl
 
-  lost_numbers : numbers (filter is_lost core.links) ≡ gone_links t
-  lost_numbers =
-      ap (λ links. numbers (filter is_lost links)) (follows.links ∙ ap (λ stopped. map (link_seen s t) (stopped ++ live_links t)) going)
-      ∙ ap numbers (filter_seen s core t follows is_lost (is_gone t) (live_links t) lost_seen_as)
-      ∙ numbers_seen s t (gone_links t)
+  in_time_seen : (timeout j : ℕ) → is_in_time timeout (moment_of t) (link_seen s t j) ≡ not (is_late timeout t j)
+  in_time_seen timeout j = ap not (late_seen timeout j)
+
+  over_seen : (j : ℕ) → is_overfull (link_seen s t j) ≡ (text_to s t j).over
+  unfolding link_seen
+  over_seen j = refl
+
+  none_seen : (ks : List ℕ) (j : ℕ) → is_none_of ks (link_seen s t j) ≡ not (is_member j ks)
+  unfolding link_seen
+  none_seen ks j = refl
+
+  links_live : core.links ≡ map (link_seen s t) (live_links t)
+  links_live = follows.links ∙ ap (λ stopped. map (link_seen s t) (stopped ++ live_links t)) going
+
+  pub live_numbers : numbers core.links ≡ live_links t
+  live_numbers = ap numbers links_live ∙ numbers_seen s t (live_links t)
+
+  -- the numbers of the links that pass a test, and the links that fail it
+  tested_numbers : (p : LinkSeen → Bool) (q : ℕ → Bool) → ((j : ℕ) → p (link_seen s t j) ≡ q j) → numbers (filter p core.links) ≡ filter q (live_links t)
+  tested_numbers p q same = ap (λ links. numbers (filter p links)) links_live ∙ ap numbers (filter_seen s core t follows p q (live_links t) same) ∙ numbers_seen s t (filter q (live_links t))
+
+  tested_links : (p : LinkSeen → Bool) (q : ℕ → Bool) → ((j : ℕ) → p (link_seen s t j) ≡ q j) → filter p core.links ≡ map (link_seen s t) (filter q (live_links t))
+  tested_links p q same = ap (filter p) links_live ∙ filter_seen s core t follows p q (live_links t) same
+
+  -- links end, each for its reason, and are forgotten
+  follows_ends : (reason : ℕ → EndReason) (ks : List ℕ) (links : List LinkSeen) (closing : List ℕ) → ((k : ℕ) → stopped_link (reason k) k ≡ [])
+      → links ≡ map (link_seen s t) (without_all ks (live_links t)) → closing ≡ closed_links (end_each reason ks t)
+      → Follows s (with_ends ks links closing core) (end_each reason ks t)
+  follows_ends reason ks links closing none left closed =
+      let now = end_each reason ks t in
+      record {
+        moment = follows.moment ∙ sym (moment_after reason ks t);
+        turned = follows.turned ∙ sym (turned_after reason ks t);
+        closing = closed;
+        links = left
+            ∙ sym (map_on (link_seen s now) (link_seen s t) (without_all ks (live_links t)) (λ j member. seen_after s reason ks t j))
+            ∙ ap (map (link_seen s now)) (sym (live_after reason ks t))
+            ∙ ap (λ stopped. map (link_seen s now) (stopped ++ live_links now)) (sym (going_after reason none ks t ∙ going));
+        tables = record {
+          accepted = follows.tables.accepted ∙ sym (accepted_after reason ks t);
+          stations = subst (Agrees core.stations) (sym (accepted_after reason ks t)) follows.tables.stations;
+          heard = remembers_all_ended reason ks core.heard t follows.tables.heard;
+        };
+        took = took_after s reason ks t follows.took;
+      }
 
   -- the links that were found gone end as a round begins
-  pub follows_begun : Follows s (with_heard (forgotten_all (numbers (filter is_lost core.links)) core.heard) (with_links (filter is_there core.links) core)) (end_gone t)
-  follows_begun = record {
-    moment = follows.moment ∙ sym (moment_after FoundGone (gone_links t) t);
-    links =
-        ap (filter is_there) (follows.links ∙ ap (λ stopped. map (link_seen s t) (stopped ++ live_links t)) going)
-        ∙ filter_seen s core t follows is_there (λ j. not (is_gone t j)) (live_links t) there_seen
-        ∙ sym (map_on (link_seen s (end_gone t)) (link_seen s t) (filter (λ j. not (is_gone t j)) (live_links t)) (λ j member. seen_after s FoundGone (gone_links t) t j))
-        ∙ ap (map (link_seen s (end_gone t))) (sym (live_after FoundGone (gone_links t) t ∙ left_failing (is_gone t) (live_links t)))
-        ∙ ap (λ stopped. map (link_seen s (end_gone t)) (stopped ++ live_links (end_gone t))) (sym (going_after (gone_links t) t ∙ going));
-    tables = record {
-      accepted = follows.tables.accepted ∙ sym (accepted_after FoundGone (gone_links t) t);
-      stations = subst (Agrees core.stations) (sym (accepted_after FoundGone (gone_links t) t)) follows.tables.stations;
-      heard = subst (λ ks. Remembers (forgotten_all ks core.heard) (end_gone t)) (sym lost_numbers) (remembers_all_ended FoundGone (gone_links t) core.heard t follows.tables.heard);
-    };
-    took = took_after s FoundGone (gone_links t) t follows.took;
-  }
+  pub follows_gone : Follows s (with_ends (numbers (filter is_lost core.links)) (filter is_there core.links) core.closing core) (end_gone t)
+  follows_gone =
+      subst (λ ks. Follows s (with_ends ks (filter is_there core.links) core.closing core) (end_gone t)) (sym (tested_numbers is_lost (is_gone t) lost_seen_as))
+      (follows_ends (λ k. FoundGone) (gone_links t) (filter is_there core.links) core.closing (λ k. refl)
+      (tested_links is_there (λ j. not (is_gone t j)) there_seen ∙ ap (map (link_seen s t)) (sym (left_failing (is_gone t) (live_links t))))
+      (follows.closing ∙ sym (open_after (λ k. FoundGone) (λ k. refl) (gone_links t) t)))
+
+  -- the links that are late end at a tick
+  pub follows_late : (timeout : ℕ) (ends : List ℕ) → ends ≡ numbers (filter (is_late_link timeout (moment_of t)) core.links)
+      → Follows s (with_ends ends (filter (is_in_time timeout (moment_of t)) core.links) (placed_all ends core.closing) core) (end_each (late_reason t) (late_links timeout t) t)
+  follows_late timeout ends are =
+      let links = filter (is_in_time timeout (moment_of t)) core.links in
+      let now = end_each (late_reason t) (late_links timeout t) t in
+      subst (λ ks. Follows s (with_ends ks links (placed_all ks core.closing) core) now) (sym (are ∙ tested_numbers (is_late_link timeout (moment_of t)) (is_late timeout t) (late_seen timeout)))
+      (follows_ends (late_reason t) (late_links timeout t) links (placed_all (late_links timeout t) core.closing) (late_goes t)
+      (tested_links (is_in_time timeout (moment_of t)) (λ j. not (is_late timeout t j)) (in_time_seen timeout) ∙ ap (map (link_seen s t)) (sym (left_failing (is_late timeout t) (live_links t))))
+      (ap (placed_all (late_links timeout t)) follows.closing ∙ sym (closed_after (late_reason t) (late_closes t) (late_links timeout t) t)))
+
+  -- the links that are overfull or were turned away end with the round
+  pub follows_refused_links : (ends : List ℕ) → ends ≡ placed_all core.turned (numbers (filter is_overfull core.links))
+      → Follows s (with_ends ends (filter (is_none_of ends) core.links) (placed_all ends core.closing) core) (end_each (refused_reason t) (refused_links s t) t)
+  follows_refused_links ends are =
+      let ks = refused_links s t in
+      let same : ends ≡ ks =
+      are ∙ ap (placed_all core.turned) (tested_numbers is_overfull (λ j. (text_to s t j).over) over_seen) ∙ ap (λ turned. placed_all turned (over_links s t)) follows.turned in
+      subst (λ ns. Follows s (with_ends ns (filter (is_none_of ns) core.links) (placed_all ns core.closing) core) (end_each (refused_reason t) ks t)) (sym same)
+      (follows_ends (refused_reason t) ks (filter (is_none_of ks) core.links) (placed_all ks core.closing) (refused_goes t)
+      (tested_links (is_none_of ks) (λ j. not (is_member j ks)) (none_seen ks) ∙ ap (map (link_seen s t)) (sym (left_without ks (live_links t))))
+      (ap (placed_all ks) follows.closing ∙ sym (closed_after (refused_reason t) (refused_closes t) ks t)))
 
   -- at a stop all links end, and keep their texts
-  pub follows_stopped : Follows s (with_heard (forgotten_all (numbers core.links) core.heard) core) (end_all ByStop (live_links t) t)
-  follows_stopped = record {
-    moment = follows.moment ∙ sym (moment_after ByStop (live_links t) t);
-    links =
-        follows.links
-        ∙ sym (map_on (link_seen s (end_all ByStop (live_links t) t)) (link_seen s t) (served_links t) (λ j member. seen_after s ByStop (live_links t) t j))
-        ∙ ap (map (link_seen s (end_all ByStop (live_links t) t))) (sym (
-        ap (λ stopped. stopped ++ live_links (end_all ByStop (live_links t) t)) (stopped_after (live_links t) t)
-        ∙ ap (λ live. (stopped_links t ++ live_links t) ++ live) (live_after ByStop (live_links t) t ∙ left_none (live_links t))
-        ∙ append-nil (stopped_links t ++ live_links t)));
-    tables = record {
-      accepted = follows.tables.accepted ∙ sym (accepted_after ByStop (live_links t) t);
-      stations = subst (Agrees core.stations) (sym (accepted_after ByStop (live_links t) t)) follows.tables.stations;
-      heard = subst (λ ks. Remembers (forgotten_all ks core.heard) (end_all ByStop (live_links t) t)) (sym live_numbers) (remembers_all_ended ByStop (live_links t) core.heard t follows.tables.heard);
-    };
-    took = took_after s ByStop (live_links t) t follows.took;
-  }
-
--- ---- the links to be closed after a stop
-
--- a number above all others comes last
-placed_last : (low high k : ℕ) (before after : List ℕ) → Rises low (before ++ k ∷ after) high → placed k before ≡ before ++ k ∷ []
-placed_last low high k [] after rises = refl
-placed_last low high k (n ∷ before) after rises =
-    let above = member_below n high (before ++ k ∷ after) k rises.1 (member_here before after k) in
-    let lt = above.0 in
-    let later : nat_lt k n ≡ false = false_from_ne_true _ (λ is. let under : k < n = ltb-true k n is in absurd (omega arith)) in
-    ap (λ b. cond b (k ∷ n ∷ before) (n ∷ placed k before)) later ∙ ap (λ ns. n ∷ ns) (placed_last n high k before after rises.1)
-
--- rising links that a stop ends are those to be closed
-closed_rising : (high : ℕ) (ks : List ℕ) (t : Trace) → Rises 0 (closed_links t ++ ks) high → closed_links (end_all ByStop ks t) ≡ closed_links t ++ ks
-closed_rising high [] t rises = sym (append-nil (closed_links t))
-closed_rising high (k ∷ ks) t rises =
-    let last = placed_last 0 high k (closed_links t) ks rises in
-    let split : (closed_links t ++ k ∷ []) ++ ks ≡ closed_links t ++ k ∷ ks = append_assoc (closed_links t) (k ∷ []) ks in
-    closed_rising high ks (Ended k ByStop ∷ t) (subst (λ ns. Rises 0 ns high) (sym (ap (λ ns. ns ++ ks) last ∙ split)) rises)
-    ∙ ap (λ ns. ns ++ ks) last ∙ split
-
-pub closed_by_stop : (high : ℕ) (t : Trace) → closed_links t ≡ [] → Rises 0 (live_links t) high → closed_links (end_all ByStop (live_links t) t) ≡ live_links t
-closed_by_stop high t none rises =
-    closed_rising high (live_links t) t (subst (λ ns. Rises 0 (ns ++ live_links t) high) (sym none) rises) ∙ ap (λ ns. ns ++ live_links t) none
+  pub follows_stopped : (ends : List ℕ) → ends ≡ numbers core.links → Follows s (with_ends ends core.links (placed_all ends core.closing) core) (end_all ByStop (live_links t) t)
+  follows_stopped ends are =
+      let now = end_all ByStop (live_links t) t in
+      let stops : ℕ → EndReason = λ k. ByStop in
+      subst (λ ks. Follows s (with_ends ks core.links (placed_all ks core.closing) core) now) (sym (are ∙ live_numbers)) (record {
+        moment = follows.moment ∙ sym (moment_after stops (live_links t) t);
+        turned = follows.turned ∙ sym (turned_after stops (live_links t) t);
+        closing = ap (placed_all (live_links t)) follows.closing ∙ sym (closed_after stops (λ k. refl) (live_links t) t);
+        links =
+            follows.links
+            ∙ sym (map_on (link_seen s now) (link_seen s t) (served_links t) (λ j member. seen_after s stops (live_links t) t j))
+            ∙ ap (map (link_seen s now)) (sym (
+            ap (λ stopped. stopped ++ live_links now) (stopped_after (live_links t) t)
+            ∙ ap (λ live. (stopped_links t ++ live_links t) ++ live) (live_after stops (live_links t) t ∙ left_none (live_links t))
+            ∙ append-nil (stopped_links t ++ live_links t)));
+        tables = record {
+          accepted = follows.tables.accepted ∙ sym (accepted_after stops (live_links t) t);
+          stations = subst (Agrees core.stations) (sym (accepted_after stops (live_links t) t)) follows.tables.stations;
+          heard = remembers_all_ended stops (live_links t) core.heard t follows.tables.heard;
+        };
+        took = took_after s stops (live_links t) t follows.took;
+      })

@@ -9,11 +9,11 @@ use Rattle.aprs_history.specs.Rounds.{AreFresh, is_whole, with_events, events_tr
 use Rattle.aprs_history.specs.Acts.{Closes, offer_to, offered_links}
 use Rattle.aprs_history.specs.Stands.{Follows, StandsFor}
 use Rattle.server_core.specs.ActsSeen.{ActsSeen}
-use Rattle.server_core.specs.LinkSteps.{Rises, is_ready, number_of, numbers}
+use Rattle.server_core.specs.LinkSteps.{is_ready, number_of}
 use Rattle.server_core.specs.Meaning.{CoreMeaning, setting_of, Stands, AreActs}
-use Rattle.server_core.specs.Steps.{Rests, Walks, SameRest, AfterEvent}
+use Rattle.server_core.specs.Steps.{Walks, SameRest, AfterEvent}
 use Rattle.server_core.specs.RoundWalk.{GoesOn, Walking, Traced}
-use Rattle.server_core.proofs.RoundLemmas.{ends_not, no_stop, open_whole, trace_whole, greatest_whole, stopped_whole, due_whole, history_going, offers_are, closes_are}
+use Rattle.server_core.proofs.RoundLemmas.{ends_not, no_stop, open_whole, trace_whole, greatest_whole, stopped_whole, due_whole, history_going, offers_are}
 
 pub next_item : {X : Type 0} (xs : List X) (i : ℕ) (x : X) → i < length xs → x ≡ get_or xs i x → drop i xs ≡ x ∷ drop (i + 1) xs
 next_item xs i x lt is = rw add-one (drop-cons xs i x lt ∙ ap (λ y. y ∷ drop (suc i) xs) (sym is))
@@ -58,13 +58,12 @@ round_next start events core new left e rest is so_far steps after =
 pub record WholeRound (old mid walked new : CoreMeaning) (events : List Event) : Type 0 where
   pub whole : is_whole 0 events ≡ true
   pub going : old.seen.stopped ≡ false
-  pub begun : (t : Trace) → Rests old t → Walks mid (begin_round t)
+  pub begun : (t : Trace) → Walks old t → Walks mid (begin_round t)
   pub rest : SameRest old mid
   pub walking : Walking mid events walked []
   pub traced : (t : Trace) → Walks mid t → Traced mid t events walked [] (events_trace (setting_of mid.conf) events t)
-  pub finished : (t : Trace) → Walks walked t → Follows (setting_of walked.conf) new.seen (end_round walked.seen.stopped t)
+  pub finished : (t : Trace) → Walks walked t → Follows (setting_of walked.conf) new.seen (end_round (setting_of walked.conf) walked.seen.stopped t)
   pub kept : SameRest walked new
-  pub rises : Rises 0 (numbers new.seen.links) new.seen.greatest
 
 module _ (old mid walked new : CoreMeaning) (events : List Event) (round : WholeRound old mid walked new events) (h : History) (stands : Stands old h) where
   walked_conf : walked.conf ≡ old.conf
@@ -73,27 +72,27 @@ module _ (old mid walked new : CoreMeaning) (events : List Event) (round : Whole
   same_conf : new.conf ≡ old.conf
   same_conf = round.kept.conf ∙ walked_conf
 
-  rests_old : Rests old (trace_of (setting_of old.conf) h)
-  rests_old = record { follows = stands.follows; going = history_going (setting_of old.conf) h (sym stands.stopped ∙ round.going) }
+  walks_old : Walks old (trace_of (setting_of old.conf) h)
+  walks_old = record { follows = stands.follows; going = history_going (setting_of old.conf) h (sym stands.stopped ∙ round.going) }
 
   -- the trace before the round's end
   abbrev before_end : Trace
   before_end = events_trace (setting_of mid.conf) events (begin_round (trace_of (setting_of old.conf) h))
 
   walks_now : Walks walked before_end
-  walks_now = (round.traced (begin_round (trace_of (setting_of old.conf) h)) (round.begun (trace_of (setting_of old.conf) h) rests_old)).walks
+  walks_now = (round.traced (begin_round (trace_of (setting_of old.conf) h)) (round.begun (trace_of (setting_of old.conf) h) walks_old)).walks
 
   stopped_is : walked.seen.stopped ≡ stopped_after events false
   stopped_is = round.walking.stopped ∙ ap (stopped_after events) (round.rest.stopped ∙ round.going)
 
-  trace_is : end_round walked.seen.stopped before_end ≡ trace_of (setting_of old.conf) (with_events events h)
+  trace_is : end_round (setting_of old.conf) walked.seen.stopped before_end ≡ trace_of (setting_of old.conf) (with_events events h)
   trace_is =
-      ap (λ b. end_round b before_end) stopped_is
-      ∙ ap (λ conf. end_round (stopped_after events false) (events_trace (setting_of conf) events (begin_round (trace_of (setting_of old.conf) h)))) round.rest.conf
+      ap (λ b. end_round (setting_of old.conf) b before_end) stopped_is
+      ∙ ap (λ conf. end_round (setting_of old.conf) (stopped_after events false) (events_trace (setting_of conf) events (begin_round (trace_of (setting_of old.conf) h)))) round.rest.conf
       ∙ sym (trace_whole (setting_of old.conf) 0 events h round.whole stands.finished)
 
-  follows_end : Follows (setting_of old.conf) new.seen (end_round walked.seen.stopped before_end)
-  follows_end = subst (λ conf. Follows (setting_of conf) new.seen (end_round walked.seen.stopped before_end)) walked_conf (round.finished before_end walks_now)
+  follows_end : Follows (setting_of old.conf) new.seen (end_round (setting_of old.conf) walked.seen.stopped before_end)
+  follows_end = subst (λ conf. Follows (setting_of conf) new.seen (end_round (setting_of conf) walked.seen.stopped before_end)) walked_conf (round.finished before_end walks_now)
 
   follows_old : Follows (setting_of old.conf) new.seen (trace_of (setting_of old.conf) (with_events events h))
   follows_old = subst (λ t. Follows (setting_of old.conf) new.seen t) trace_is follows_end
@@ -107,19 +106,13 @@ module _ (old mid walked new : CoreMeaning) (events : List Event) (round : Whole
         stopped = round.kept.stopped ∙ round.walking.stopped ∙ ap (stopped_after events) (round.rest.stopped ∙ stands.stopped) ∙ sym (stopped_whole events h);
       })
 
-  closed_now : (if new.seen.stopped then numbers new.seen.links else []) ≡ closed_links (trace_of (setting_of old.conf) (with_events events h))
-  closed_now =
-      ap (λ b. if b then numbers new.seen.links else []) round.kept.stopped
-      ∙ closes_are (setting_of old.conf) new.seen before_end walked.seen.stopped follows_end walks_now.going walks_now.open' round.rises
-      ∙ ap closed_links trace_is
-
-  acts_old : (acts : ActsSeen) → acts.offers ≡ map number_of (filter is_ready new.seen.links) → acts.closes ≡ (if new.seen.stopped then numbers new.seen.links else []) → acts.dial ≡ None → acts.casts ≡ []
+  acts_old : (acts : ActsSeen) → acts.offers ≡ map number_of (filter is_ready new.seen.links) → acts.closes ≡ new.seen.closing → acts.dial ≡ None → acts.casts ≡ []
       → AreActs (setting_of old.conf) (with_events events h) acts
   acts_old acts offers closes dial casts =
       let s = setting_of old.conf in
       let t = trace_of s (with_events events h) in
       let offered : acts.offers ≡ offered_links s t = offers ∙ offers_are s new.seen t follows_old in
-      let closed : acts.closes ≡ closed_links t = closes ∙ closed_now in
+      let closed : acts.closes ≡ closed_links t = closes ∙ follows_old.closing in
       record {
         due = due_whole s 0 events h round.whole stands.finished ∙ ap (λ ks. map (offer_to s t) ks ++ map Closes (closed_links t)) (sym offered)
             ∙ ap (λ ks. map (offer_to s t) acts.offers ++ map Closes ks) (sym closed);
@@ -127,13 +120,13 @@ module _ (old mid walked new : CoreMeaning) (events : List Event) (round : Whole
         casts = casts;
       }
 
-  pub round_acts : (acts : ActsSeen) → acts.offers ≡ map number_of (filter is_ready new.seen.links) → acts.closes ≡ (if new.seen.stopped then numbers new.seen.links else []) → acts.dial ≡ None → acts.casts ≡ []
+  pub round_acts : (acts : ActsSeen) → acts.offers ≡ map number_of (filter is_ready new.seen.links) → acts.closes ≡ new.seen.closing → acts.dial ≡ None → acts.casts ≡ []
       → AreActs (setting_of new.conf) (with_events events h) acts
   round_acts acts offers closes dial casts =
       subst (λ conf. AreActs (setting_of conf) (with_events events h) acts) (sym same_conf) (acts_old acts offers closes dial casts)
 
   pub acts_ok : {E : Type 0} (result : Result ActsSeen E) → IfOk result (λ acts. acts.offers ≡ map number_of (filter is_ready new.seen.links))
-      → IfOk result (λ acts. acts.closes ≡ (if new.seen.stopped then numbers new.seen.links else [])) → IfOk result (λ acts. (acts.dial ≡ None) × (acts.casts ≡ []))
+      → IfOk result (λ acts. acts.closes ≡ new.seen.closing) → IfOk result (λ acts. (acts.dial ≡ None) × (acts.casts ≡ []))
       → IfOk result (λ acts. AreActs (setting_of new.conf) (with_events events h) acts)
   acts_ok (Ok acts) offers closes none = round_acts acts offers closes none.0 none.1
   acts_ok (Err e) offers closes none = offers

@@ -1,5 +1,5 @@
 -- What each happening changes of a link.
-use Rattle.std.specs.Prelude.{◌≡◌, ℕ, ◌<◌, ◌==◌, ◌≤◌, Bool, true, false, nat_le, nat_lt, List, [], ◌∷◌, ◌++◌, length, map, not, ◌&&◌, ◌||◌, is_some, Option, Some, None, if◌then◌else◌}
+use Rattle.std.specs.Prelude.{◌≡◌, ℕ, ◌<◌, ◌==◌, ◌≤◌, ◌-◌, Bool, true, false, is_none, nat_le, nat_lt, List, [], ◌∷◌, ◌++◌, length, map, not, ◌&&◌, ◌||◌, is_some, Option, Some, None, if◌then◌else◌}
 use Rattle.std.specs.List.{list_any, flat_map, zip}
 use Rattle.std.specs.Option.{option_and_then}
 use Rattle.aprs_base.specs.PacketSeen.{PacketSeen}
@@ -16,13 +16,13 @@ use Rattle.aprs_history.specs.declared.verdicts.FilterAnswer.TheVariants.{Active
 use Rattle.aprs_history.specs.declared.verdicts.Session.{Session}
 use Rattle.aprs_history.specs.Stands.{LinkSeen, CoreSeen}
 use Rattle.aprs_history.specs.Trace.{is_member}
-use Rattle.aprs_history.specs.Links.{Opening}
+use Rattle.aprs_history.specs.Links.{Opening, login_seconds, opened_at}
 use Rattle.aprs_history.specs.declared.verdicts.Verdict.{Verdict}
 use Rattle.aprs_history.specs.declared.verdicts.Verdict.TheVariants.{PassedOver, Refused, LoggedIn, Filtered, Accepted}
 use Rattle.aprs_history.specs.Scenes.{has_filters, is_only, packet_of, verified_login}
 use Rattle.aprs_history.specs.Messages.{is_message, is_position, is_to_login}
 use Rattle.aprs_history.specs.Sights.{named_call}
-use Rattle.aprs_history.specs.Texts.{banner, filter_words, login_reply, port_wants, refusal_reply, refused_filter}
+use Rattle.aprs_history.specs.Texts.{banner, filter_words, login_reply, most_waiting, port_wants, refusal_reply, refused_filter}
 use Rattle.server_core.specs.declared.link.SourcePlace.{SourcePlace}
 use Rattle.server_core.specs.Pending.{with_line, without_bytes, pending_bytes}
 
@@ -45,11 +45,15 @@ with_taken offered n link = record link { queue = without_bytes link.queue n; bl
 abbrev pub with_bytes : ℕ → Held → LinkSeen → LinkSeen
 with_bytes moment held link = record link { last = moment; held = held }
 
-abbrev pub with_text : List ℕ → LinkSeen → LinkSeen
-with_text line link = record link { queue = with_line link.queue line }
+-- a line more to take, where it fits; from the first on that doesn't, none is added
+unfoldable pub with_text : List ℕ → LinkSeen → LinkSeen
+with_text line link =
+    if link.over then link
+    else if length link.queue.lines == most_waiting then record link { over = true }
+    else record link { queue = with_line link.queue line }
 
 abbrev pub with_session : Session → Option Seen → List ℕ → LinkSeen → LinkSeen
-with_session session mine reply link = record link { session = Some session; mine = mine; queue = with_line link.queue reply }
+with_session session mine reply link = with_text reply (record link { session = Some session; mine = mine })
 
 -- where a call was last seen, by a table
 abbrev pub place_young : ℕ → StationsSeen → List ℕ → Option Seen
@@ -60,7 +64,7 @@ abbrev pub found_in : ℕ → StationsSeen → TermSeen → Option Seen
 found_in now stations term = option_and_then (place_young now stations) (named_call term.what)
 
 abbrev pub with_filter : List TermSeen → List (Option Seen) → List ℕ → LinkSeen → LinkSeen
-with_filter terms friends reply link = record link { filter = terms; friends = friends; queue = with_line link.queue reply }
+with_filter terms friends reply link = with_text reply (record link { filter = terms; friends = friends })
 
 -- after an answer to a filter, where the calls that its terms name are found so
 abbrev pub with_answer : (TermSeen → Option Seen) → FilterAnswer → LinkSeen → LinkSeen
@@ -166,6 +170,7 @@ new_link_seen number opening = record {
   friends = [];
   mine = None;
   queue = record { lines = banner ∷ []; offset = 0 };
+  over = false;
   blocked = false;
   gone = false;
 }
@@ -180,6 +185,24 @@ is_ready link = not link.blocked && nat_lt 0 (length link.queue.lines)
 
 abbrev pub is_there : LinkSeen → Bool
 is_there link = not link.gone
+
+-- a line didn't fit
+abbrev pub is_overfull : LinkSeen → Bool
+is_overfull link = link.over
+
+-- it has not logged in for half a minute, or has brought no bytes for so many seconds
+abbrev pub is_nameless_link : ℕ → LinkSeen → Bool
+is_nameless_link now link = is_none link.session && nat_le login_seconds (now - opened_at link.opening)
+
+abbrev pub is_late_link : ℕ → ℕ → LinkSeen → Bool
+is_late_link timeout now link = is_nameless_link now link || nat_le timeout (now - link.last)
+
+abbrev pub is_in_time : ℕ → ℕ → LinkSeen → Bool
+is_in_time timeout now link = not (is_late_link timeout now link)
+
+-- it is none of these
+abbrev pub is_none_of : List ℕ → LinkSeen → Bool
+is_none_of numbers link = not (is_member link.link numbers)
 
 abbrev pub is_another : ℕ → LinkSeen → Bool
 is_another number link = not (link.link == number)

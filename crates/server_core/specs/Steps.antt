@@ -4,7 +4,7 @@ use Rattle.aprs_base.specs.Outside.{new_link}
 use Rattle.aprs_base.specs.declared.cutting.Cut.{Cut}
 use Rattle.aprs_base.specs.declared.events.Event.{Event}
 use Rattle.aprs_history.specs.Setting.{Setting}
-use Rattle.aprs_history.specs.Trace.{Trace, Said, closed_links, stopped_links}
+use Rattle.aprs_history.specs.Trace.{Trace, Said, stopped_links}
 use Rattle.aprs_history.specs.declared.verdicts.Verdict.{Verdict}
 use Rattle.aprs_history.specs.Scenes.{scene_of}
 use Rattle.aprs_history.specs.Verdicts.{Scene, verdict_of}
@@ -13,16 +13,10 @@ use Rattle.aprs_history.specs.Stands.{Follows}
 use Rattle.server_core.specs.LinkSteps.{after_verdict, filters_at, only_at, others_at, session_at}
 use Rattle.server_core.specs.Meaning.{CoreMeaning, setting_of}
 
--- the core follows the trace so far, and no stop has come
-pub record Rests (core : CoreMeaning) (trace : Trace) : Type 0 where
-  pub follows : Follows (setting_of core.conf) core.seen trace
-  pub going : stopped_links trace ≡ []
-
--- and in a round no link is to be closed yet
+-- the core follows the trace so far, and no stop has ended links
 pub record Walks (core : CoreMeaning) (trace : Trace) : Type 0 where
   pub follows : Follows (setting_of core.conf) core.seen trace
   pub going : stopped_links trace ≡ []
-  pub open' : closed_links trace ≡ []
 
 -- configuration, greatest number and stop are as they were
 pub record SameRest (old new : CoreMeaning) : Type 0 where

@@ -13,6 +13,13 @@ pub(crate) fn server_of(conf: &Conf) -> &Call
     &conf.server
 }
 
+/// The most clients that may be there at once.
+pub(crate) fn most_clients(conf: &Conf) -> usize
+    ensures { result ≡ conf.now.max_clients }
+{
+    conf.max_clients as usize
+}
+
 /// The listener of that number, among those that aren't idle.
 fn numbered_at(listens: &[Listen], number: usize) -> Option<ListenSpec>
     ensures { result ≡ slice_get (numbered listens.now) number }

@@ -2,7 +2,7 @@
 ghost use Rattle.std.specs.Prelude.{◌≡◌, ◌||◌, IsTrue, IfSome, is_some, ℕ, ◌≤◌, ◌<◌, List, ◌++◌, Some, None, OnOk, IfOk, length, min, take, option_map, true, false};
 ghost use Rattle.std.specs.Arc.{arc_value};
 ghost use Rattle.aprs_base.specs.Held.{held_after};
-ghost use Rattle.server_core.specs.LinkSteps.{at_moment, is_asked_at, is_lost, is_ready, list_of, new_link_seen, number_of, passes_packet, wants_packet, when_gone, with_bytes, with_copy, with_filter, with_packet, with_room, with_seen, with_session, with_taken, with_text};
+ghost use Rattle.server_core.specs.LinkSteps.{at_moment, is_asked_at, is_in_time, is_late_link, is_none_of, is_lost, is_nameless_link, is_ready, list_of, new_link_seen, number_of, passes_packet, wants_packet, when_gone, with_bytes, with_copy, with_filter, with_packet, with_room, with_seen, with_session, with_taken, with_text};
 ghost use Rattle.aprs_base.specs.Bytes.{IsLine, is_station};
 ghost use Rattle.aprs_history.specs.Verdicts.{client_origin};
 ghost use Rattle.aprs_history.specs.Scenes.{has_filters, is_only, is_only_kind, verified_login};
@@ -27,6 +27,9 @@ use std::alloc::Global;
 use std::marker::Model;
 use std::sync::Arc;
 
+/// The seconds that a link has for its login.
+const LOGIN_SECONDS: u64 = 30;
+
 /// Where a packet's source was last seen, and whether it is a gate.
 #[derive(Clone, Copy)]
 pub(crate) struct SourcePlace {
@@ -49,6 +52,8 @@ pub(crate) struct Link {
     pub friends: Friends,
     pub mine: Option<Seen>,
     pub queue: Queue,
+    /// A line didn't fit into the queue: the link takes none any more, and ends with the round.
+    pub over: bool,
     pub blocked: bool,
     pub gone: bool,
 }
@@ -71,6 +76,7 @@ impl Model for Link {
       friends = l.friends;
       mine = l.mine;
       queue = l.queue;
+      over = l.over;
       blocked = l.blocked;
       gone = l.gone;
     } };
@@ -107,6 +113,7 @@ impl Link {
             },
             mine: None,
             queue,
+            over: false,
             blocked: false,
             gone: false,
         })
@@ -140,10 +147,9 @@ impl Link {
         ensures number { self.new.link ≡ self.old.link }
         ensures ok { OnOk result (self.new ≡ with_session session mine (arc_value reply) self.old) }
     {
-        self.queue.push(reply)?;
         self.session = Some(session);
         self.mine = mine;
-        Ok(())
+        self.push(reply)
     }
 
     /// The link has another filter, and is told so. The calls of its terms were last seen there.
@@ -157,10 +163,9 @@ impl Link {
         ensures number { self.new.link ≡ self.old.link }
         ensures ok { OnOk result (self.new ≡ with_filter filter friends (arc_value reply) self.old) }
     {
-        self.queue.push(reply)?;
         self.filter = filter;
         self.friends = friends;
-        Ok(())
+        self.push(reply)
     }
 
     /// Whether it has logged in.
@@ -347,12 +352,45 @@ impl Link {
         self.queue.front_bytes(out)
     }
 
-    /// Takes a line, which it is sent after those before.
+    /// Takes a line, which it is sent after those before. Where it doesn't fit the link is overfull, and takes none any more.
     pub fn push(&mut self, line: Arc<Line>) -> Result<(), Memory>
         ensures number { self.new.link ≡ self.old.link }
         ensures ok { OnOk result (self.new ≡ with_text (arc_value line) self.old) }
     {
+        if self.over {
+            return Ok(());
+        }
+        if self.queue.is_full() {
+            self.over = true;
+            return Ok(());
+        }
         self.queue.push(line)
+    }
+
+    /// Whether it has not logged in for half a minute, or has brought no bytes for so many seconds.
+    pub fn is_late(&self, timeout: u32, now: u64) -> bool
+        ensures { result ≡ is_late_link timeout now self.now }
+    {
+        self.is_nameless(now) || u64::from(timeout) <= now.saturating_sub(self.last)
+    }
+
+    pub fn is_in_time(&self, timeout: u32, now: u64) -> bool
+        ensures { result ≡ is_in_time timeout now self.now }
+    {
+        !self.is_late(timeout, now)
+    }
+
+    /// Whether its number is none of these.
+    pub fn is_none_of(&self, numbers: &[u32]) -> bool
+        ensures { result ≡ is_none_of numbers.now self.now }
+    {
+        !numbers.iter().any(|number| *number == self.number)
+    }
+
+    fn is_nameless(&self, now: u64) -> bool
+        ensures { result ≡ is_nameless_link now self.now }
+    {
+        self.session.is_none() && LOGIN_SECONDS <= now.saturating_sub(self.opened)
     }
 
     pub fn give_room(&mut self)

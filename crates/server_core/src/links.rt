@@ -1,10 +1,11 @@
 //! The links of the core, in the order of their numbers.
 ghost use Rattle.std.specs.Prelude.{◌≡◌, ℕ, ◌≤◌, ◌<◌, ◌^◌, ◌++◌, [], IsTrue, List, None, Some, OnOk, IfOk, is_some, min, take, IfSome, length, map, option_map, position, filter};
 ghost use Rattle.std.specs.Arc.{arc_value};
-ghost use Rattle.server_core.specs.LinkSteps.{Rises, at_link, at_moment, filters_at, list_of, only_at, other_login, others_at, number_of, has_that, held_at, is_another, is_ready, is_there, numbers, pending_at, session_at, when_gone, with_bytes, with_filter, with_packet, with_room, with_session, with_taken, with_text};
+ghost use Rattle.server_core.specs.LinkSteps.{Rises, at_link, at_moment, filters_at, list_of, only_at, other_login, others_at, number_of, has_that, held_at, is_another, is_in_time, is_late_link, is_none_of, is_overfull, is_ready, is_there, numbers, pending_at, session_at, when_gone, with_bytes, with_filter, with_packet, with_room, with_session, with_taken, with_text};
 ghost use Rattle.aprs_base.specs.Bytes.{is_station};
 ghost use Rattle.aprs_base.specs.Cuts.{cuts_by};
 ghost use Rattle.aprs_base.specs.Held.{held_after};
+ghost use Rattle.aprs_history.specs.Trace.{placed, placed_all};
 ghost use Rattle.aprs_history.specs.Verdicts.{client_origin};
 ghost use Rattle.q_construct.specs.Rule.{has_station};
 
@@ -122,6 +123,84 @@ pub(crate) fn ready(alloc: Global, links: &[Link]) -> Result<Vec<u32>, Memory>
         }
     }
     Ok(numbers)
+}
+
+/// A line for all links.
+pub(crate) fn tell_all(links: &mut Vec<Link>, line: &Arc<Line>) -> Result<(), Memory>
+    ensures numbers { numbers links.new.items ≡ numbers links.old.items }
+    ensures ok { OnOk result (links.new.items ≡ map (with_text (arc_value line.now)) links.old.items) }
+{
+    for link in links.iter_mut() {
+        link.push(line.clone()?)?;
+    }
+    Ok(())
+}
+
+/// The numbers of the links that end by time.
+pub(crate) fn late(
+    alloc: Global,
+    links: &[Link],
+    timeout: u32,
+    now: u64,
+) -> Result<Vec<u32>, Memory>
+    ensures { IfOk result (λ v. v.items ≡ numbers (filter (is_late_link timeout now) links.now)) }
+{
+    let mut numbers = Vec::new(alloc);
+    for link in links {
+        if link.is_late(timeout, now) {
+            numbers.push(link.number())?;
+        }
+    }
+    Ok(numbers)
+}
+
+/// The links that end by time leave.
+pub(crate) fn drop_late(links: &mut Vec<Link>, timeout: u32, now: u64)
+    ensures { links.new.items ≡ filter (is_in_time timeout now) links.old.items }
+{
+    links.retain(|link| link.is_in_time(timeout, now));
+}
+
+/// The numbers of the links that are overfull.
+pub(crate) fn overfull(alloc: Global, links: &[Link]) -> Result<Vec<u32>, Memory>
+    ensures { IfOk result (λ v. v.items ≡ numbers (filter is_overfull links.now)) }
+{
+    let mut numbers = Vec::new(alloc);
+    for link in links {
+        if link.over {
+            numbers.push(link.number())?;
+        }
+    }
+    Ok(numbers)
+}
+
+/// The links of these numbers leave.
+pub(crate) fn drop_these(links: &mut Vec<Link>, numbers: &[u32])
+    ensures { links.new.items ≡ filter (is_none_of numbers.now) links.old.items }
+{
+    links.retain(|link| link.is_none_of(numbers));
+}
+
+/// Puts a number into its place among rising ones.
+pub(crate) fn place(numbers: &mut Vec<u32>, number: u32) -> Result<(), Memory>
+    ensures { OnOk result (numbers.new.items ≡ placed number numbers.old.items) }
+{
+    let place = numbers
+        .iter()
+        .position(|other| number < *other)
+        .unwrap_or(numbers.len());
+    numbers.insert(place, number)?;
+    Ok(())
+}
+
+/// The same for several, one after another.
+pub(crate) fn place_all(numbers: &mut Vec<u32>, more: &[u32]) -> Result<(), Memory>
+    ensures { OnOk result (numbers.new.items ≡ placed_all more.now numbers.old.items) }
+{
+    for number in more {
+        place(numbers, *number)?;
+    }
+    Ok(())
 }
 
 /// The numbers of all links.

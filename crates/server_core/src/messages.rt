@@ -155,10 +155,10 @@ pub(crate) fn forget_lost(heard: &mut Heard, links: &[Link])
 }
 
 /// Forgets what all links heard and were promised.
-pub(crate) fn forget_all(heard: &mut Heard, links: &[Link])
-    ensures { heard.new ≡ forgotten_all (numbers links.now) heard.old }
+pub(crate) fn forget_all(heard: &mut Heard, links: &[u32])
+    ensures { heard.new ≡ forgotten_all links.now heard.old }
 {
     for link in links {
-        heard.forget(link.number());
+        heard.forget(*link);
     }
 }

@@ -1,7 +1,7 @@
 //! The lines that a link has still to take.
-ghost use Rattle.std.specs.Prelude.{◌≡◌, ◌+◌, ◌-◌, ◌≤◌, ◌<◌, ◌++◌, [], OnOk, IsTrue, ◌↔◌, length, take, drop, min};
+ghost use Rattle.std.specs.Prelude.{◌≡◌, ◌==◌, ◌+◌, ◌-◌, ◌≤◌, ◌<◌, ◌++◌, [], OnOk, IsTrue, ◌↔◌, length, take, drop, min};
 ghost use Rattle.std.specs.Arc.{arc_value};
-ghost use Rattle.aprs_history.specs.Texts.{ended_line};
+ghost use Rattle.aprs_history.specs.Texts.{ended_line, most_waiting};
 ghost use Rattle.server_core.specs.Pending.{pending_bytes, with_line, without_bytes};
 
 use aprs_base::{Line, Memory};
@@ -9,6 +9,9 @@ use std::alloc::Global;
 use std::collections::VecDeque;
 use std::marker::Model;
 use std::sync::Arc;
+
+/// The most lines that a link hasn't wholly taken.
+const MOST_LINES: usize = 1000;
 
 /// Lines in order, and how many bytes of the first, with its CR and LF, are taken.
 #[derive(Drop)]
@@ -45,6 +48,13 @@ impl Queue {
     {
         self.lines.push_back(line)?;
         Ok(())
+    }
+
+    /// Whether it has as many lines as it may have.
+    pub fn is_full(&self) -> bool
+        ensures { result ≡ (length self.now.lines == most_waiting) }
+    {
+        self.lines.len() == MOST_LINES
     }
 
     pub fn is_empty(&self) -> bool

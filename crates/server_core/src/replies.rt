@@ -1,6 +1,7 @@
 //! What the server answers.
 ghost use Rattle.std.specs.Prelude.{◌≡◌, ◌++◌, ◌+◌, ◌≤◌, IfOk, Ok, codes, length};
 ghost use Rattle.aprs_base.specs.Bytes.{IsInner};
+ghost use Rattle.aprs_history.specs.Dates.{comment_text};
 ghost use Rattle.aprs_history.specs.Verdicts.{active_reply};
 ghost use Rattle.filter_lang.specs.Grammar.{terms_of};
 ghost use Rattle.std.specs.Fmt.{decimal};
@@ -22,6 +23,17 @@ pub(crate) fn login_line(server: &Call, session: &Session) -> Line
     append(&mut text, b"# logresp ");
     append(&mut text, session.call.bytes());
     append(&mut text, word_for(session.verified));
+    append(&mut text, server.bytes());
+    known_line(text.as_slice())
+}
+
+/// The comment line that tells the date.
+pub(crate) fn comment_of(server: &Call, moment: u64) -> Line
+    ensures { result ≡ comment_text server.now moment }
+{
+    let mut text = ArrayVec::new();
+    append(&mut text, b"# aprsc 1.0 ");
+    append(&mut text, b" ");
     append(&mut text, server.bytes());
     known_line(text.as_slice())
 }

@@ -3,8 +3,8 @@ ghost use Rattle.std.specs.Prelude.{◌≡◌, ◌∷◌, [], ◌≤◌, ◌<◌
 ghost use Rattle.std.specs.Arc.{arc_value};
 ghost use Rattle.aprs_base.specs.Bytes.{is_station};
 ghost use Rattle.aprs_base.specs.Outside.{new_link};
-ghost use Rattle.aprs_history.specs.Trace.{Trace, Brought, ByPeer, Ended, Opened, Roomed, Ticked, is_live};
-ghost use Rattle.aprs_history.specs.Links.{brought_by};
+ghost use Rattle.aprs_history.specs.Trace.{Trace, Brought, ByPeer, Ended, Opened, Roomed, Ticked, is_live, placed_all};
+ghost use Rattle.aprs_history.specs.Links.{brought_by, late_links, late_reason};
 ghost use Rattle.aprs_base.specs.Cuts.{cuts_by};
 ghost use Rattle.aprs_history.specs.Setting.{kind_at};
 ghost use Rattle.aprs_history.specs.Scenes.{packet_of};
@@ -12,36 +12,37 @@ ghost use Rattle.aprs_history.specs.Verdicts.{command_verdict, filter_command, l
 ghost use Rattle.aprs_history.specs.declared.verdicts.FilterAnswer.{FilterAnswer};
 ghost use Rattle.aprs_history.specs.declared.verdicts.Verdict.{Verdict};
 ghost use Rattle.aprs_history.specs.Stands.{Follows};
-ghost use Rattle.aprs_history.specs.History.{History, admitted, begin_round, end_round, say_all, trace_of, with_bytes_of, with_event};
+ghost use Rattle.aprs_history.specs.History.{History, admission, admitted, begin_round, dated, end_each, end_round, end_stopped, refused_links, refused_reason, say_all, trace_of, with_bytes_of, with_event, with_tick};
 ghost use Rattle.aprs_history.specs.Rounds.{AreFresh, events_trace, greatest_after, is_whole, only_listens, stopped_after, with_events};
 ghost use Rattle.aprs_history.specs.Texts.{untaken};
-ghost use Rattle.server_core.specs.LinkSteps.{AreServed, Rises, after_login, after_packet, all_few, filters_at, has_few, has_number, is_ready, number_of, numbers, owed_in, pending_at, promised_all, session_at, source_found, spent};
+ghost use Rattle.server_core.specs.LinkSteps.{AreServed, Rises, after_login, after_packet, all_few, filters_at, has_few, has_number, is_late_link, is_overfull, is_ready, number_of, numbers, owed_in, pending_at, promised_all, session_at, source_found, spent};
 ghost use Rattle.aprs_base.specs.declared.events.Happening.{Happening};
 ghost use Rattle.aprs_base.specs.declared.events.Sent.{Sent};
 ghost use Rattle.server_core.specs.Meaning.{AreActs, Stands, numbered, setting_of};
 ghost use Rattle.server_core.specs.RoundWalk.{Traced, Walking};
-ghost use Rattle.server_core.specs.Steps.{AfterEvent, Rests, SameRest, Walks, saying, scene_at, with_verdict};
+ghost use Rattle.server_core.specs.Steps.{AfterEvent, SameRest, Walks, saying, scene_at, with_verdict};
 
 #[cfg(test)]
 mod tests;
 
 use crate::acts::Acts;
-use crate::conf::{served_by, server_of};
+use crate::conf::{most_clients, served_by, server_of};
 use crate::judging::{is_comment_line, judge_command, judge_login, judge_packet};
 use crate::link::{Link, SourcePlace};
 use crate::links::{
-    all, bring, drop_gone, drop_link, forget_places, give_room, has_filters_at, has_session_at,
-    log_in, lose, offer, origin_at, others, ready, reply, set_filter, share, take,
+    all, bring, drop_gone, drop_late, drop_link, drop_these, forget_places, give_room,
+    has_filters_at, has_session_at, late, log_in, lose, offer, origin_at, others, overfull,
+    place_all, ready, reply, set_filter, share, take, tell_all,
 };
 use crate::messages::{
     forget_all, forget_lost, hearers_of, is_position, owed_to, promise_all, receiver_of,
 };
 use crate::places::friends_found;
-use crate::replies::{denied_line, login_line, refusal_line};
+use crate::replies::{comment_of, denied_line, login_line, refusal_line};
 use aprs_base::{Addr, Cut, Event, Line, Memory, Packet, Parts, Source};
 use aprs_body::classify;
 use aprs_conf::Conf;
-use aprs_history::{FilterAnswer, Refusal, Session, Verdict};
+use aprs_history::{Admission, FilterAnswer, Refusal, Session, Verdict};
 use filter_lang::FilterSet;
 use heard_routing::Heard;
 use station_table::Stations;
@@ -53,6 +54,9 @@ use std::thread::Threads;
 
 /// The greatest moment: the last second of the year 9999.
 const LAST_MOMENT: u64 = 253_402_300_799;
+
+/// The seconds between two comment lines.
+const COMMENT_SECONDS: u64 = 20;
 
 /// The most bytes of one offer.
 const MOST_OFFERED: usize = 65_536;
@@ -77,6 +81,9 @@ pub struct Core {
     conf: Conf,
     moment: u64,
     links: Vec<Link>,
+    /// The links that were turned away in this round, and those that ended in it and are to be closed, both rising.
+    turned: Vec<u32>,
+    closing: Vec<u32>,
     /// All packets that were accepted, in order.
     accepted: Vec<Packet>,
     /// Where stations were last seen, and which are gates.
@@ -93,17 +100,19 @@ impl Model for Core {
 
     ghost Value = { CoreMeaning };
 
-    ghost view = { λ c. record { conf = c.conf; seen = record { moment = c.moment; links = c.links.items; accepted = c.accepted.items; stations = c.stations; heard = c.heard; greatest = c.greatest; stopped = c.stopped } } };
+    ghost view = { λ c. record { conf = c.conf; seen = record { moment = c.moment; links = c.links.items; turned = c.turned.items; closing = c.closing.items; accepted = c.accepted.items; stations = c.stations; heard = c.heard; greatest = c.greatest; stopped = c.stopped } } };
 
-    ghost invariant = { λ c. IsKept (record { conf = c.conf; seen = record { moment = c.moment; links = c.links.items; accepted = c.accepted.items; stations = c.stations; heard = c.heard; greatest = c.greatest; stopped = c.stopped } }) };
+    ghost invariant = { λ c. IsKept (record { conf = c.conf; seen = record { moment = c.moment; links = c.links.items; turned = c.turned.items; closing = c.closing.items; accepted = c.accepted.items; stations = c.stations; heard = c.heard; greatest = c.greatest; stopped = c.stopped } }) };
 }
 
 impl Core {
     /// A round begins: the links that a send found gone end.
     fn begin(&mut self)
-        ensures walks { (t : Trace) → Rests self.old t → Walks self.new (begin_round t) }
+        ensures walks { (t : Trace) → Walks self.old t → Walks self.new (begin_round t) }
         ensures rest { SameRest self.old self.new }
     {
+        self.turned.clear();
+        self.closing.clear();
         forget_lost(&mut self.heard, self.links.as_slice());
         drop_gone(&mut self.links);
     }
@@ -341,19 +350,35 @@ impl Core {
     /// A link was opened on a listener.
     fn open(&mut self, alloc: Global, listener: u16, number: u32, from: Addr) -> Result<(), Memory>
         requires { self.old.seen.greatest < number }
-        ensures walks { (t : Trace) → Walks self.old t → OnOk result (Walks self.new (Opened listener (admitted (kind_at (setting_of self.old.conf) listener)) number from ∷ t)) }
+        ensures walks { (t : Trace) → Walks self.old t → OnOk result (Walks self.new (Opened listener (admission (setting_of self.old.conf) t listener) number from ∷ t)) }
         ensures conf { OnOk result (self.new.conf ≡ self.old.conf) }
         ensures greatest { OnOk result (self.new.seen.greatest ≡ number) }
         ensures stopped { OnOk result (self.new.seen.stopped ≡ self.old.seen.stopped) }
     {
+        let admission = self.admission(listener);
         self.greatest = number;
-        match served_by(&self.conf, listener) {
-            Some(kind) => {
+        match admission {
+            Admission::Served(kind) => {
                 self.links
                     .push(Link::open(alloc, number, kind, from, self.moment)?)?;
                 Ok(())
             }
-            None => Ok(()),
+            Admission::TurnedAway => {
+                self.turned.push(number)?;
+                Ok(())
+            }
+            Admission::NoPort => Ok(()),
+        }
+    }
+
+    /// What becomes of a connection on that listener.
+    fn admission(&self, listener: u16) -> Admission
+        ensures { result ≡ admitted self.now.conf.max_clients (length self.now.seen.links) (kind_at (setting_of self.now.conf) listener) }
+    {
+        match served_by(&self.conf, listener) {
+            Some(kind) if self.links.len() < most_clients(&self.conf) => Admission::Served(kind),
+            Some(_) => Admission::TurnedAway,
+            None => Admission::NoPort,
         }
     }
 
@@ -377,12 +402,68 @@ impl Core {
     }
 
     /// The moment goes on.
-    fn tick(&mut self, moment: u64)
+    fn go_on(&mut self, moment: u64)
         ensures walks { (t : Trace) → Walks self.old t → Walks self.new (Ticked moment ∷ t) }
         ensures rest { SameRest self.old self.new }
     {
         self.moment = moment.min(LAST_MOMENT).max(self.moment);
         forget_places(&mut self.links, self.moment);
+    }
+
+    /// The links that are late end.
+    fn end_late(&mut self, alloc: Global) -> Result<(), Memory>
+        ensures walks { (t : Trace) → Walks self.old t
+            → OnOk result (Walks self.new (end_each (late_reason t) (late_links self.old.conf.client_timeout t) t)) }
+        ensures rest { OnOk result (SameRest self.old self.new) }
+    {
+        let ends = self.late(alloc)?;
+        self.drop_late(ends.as_slice())
+    }
+
+    /// The numbers of the links that are late.
+    fn late(&self, alloc: Global) -> Result<Vec<u32>, Memory>
+        ensures { IfOk result (λ v. v.items ≡ numbers (filter (is_late_link self.now.conf.client_timeout self.now.seen.moment) self.now.seen.links)) }
+    {
+        late(
+            alloc,
+            self.links.as_slice(),
+            self.conf.client_timeout,
+            self.moment,
+        )
+    }
+
+    /// The links that are late leave, and are to be closed.
+    fn drop_late(&mut self, ends: &[u32]) -> Result<(), Memory>
+        ensures walks { (t : Trace) → Walks self.old t → ends.now ≡ numbers (filter (is_late_link self.old.conf.client_timeout self.old.seen.moment) self.old.seen.links)
+            → OnOk result (Walks self.new (end_each (late_reason t) (late_links self.old.conf.client_timeout t) t)) }
+        ensures rest { OnOk result (SameRest self.old self.new) }
+    {
+        forget_all(&mut self.heard, ends);
+        drop_late(&mut self.links, self.conf.client_timeout, self.moment);
+        place_all(&mut self.closing, ends)
+    }
+
+    /// The links are told the date, where the moment has passed a border since.
+    fn tell_date(&mut self, alloc: Global, before: u64) -> Result<(), Memory>
+        ensures walks { (t : Trace) → Walks self.old t → OnOk result (Walks self.new (dated before t)) }
+        ensures rest { OnOk result (SameRest self.old self.new) }
+    {
+        if before / COMMENT_SECONDS < self.moment / COMMENT_SECONDS {
+            let line = Arc::new(alloc, comment_of(server_of(&self.conf), self.moment))?;
+            tell_all(&mut self.links, &line)?;
+        }
+        Ok(())
+    }
+
+    /// The moment goes on, the links that are late end, and the others are told the date.
+    fn tick(&mut self, alloc: Global, moment: u64) -> Result<(), Memory>
+        ensures walks { (t : Trace) → Walks self.old t → OnOk result (Walks self.new (with_tick (setting_of self.old.conf) moment t)) }
+        ensures rest { OnOk result (SameRest self.old self.new) }
+    {
+        let before = self.moment;
+        self.go_on(moment);
+        self.end_late(alloc)?;
+        self.tell_date(alloc, before)
     }
 
     /// Bytes came on a link: they are cut, and each line is heard.
@@ -426,7 +507,7 @@ impl Core {
         ensures rest { OnOk result (AfterEvent self.old self.new event.now) }
     {
         match event {
-            Event::Tick(moment) => self.tick(*moment),
+            Event::Tick(moment) => self.tick(alloc, *moment)?,
             Event::Opened {
                 listener,
                 link,
@@ -456,32 +537,87 @@ impl Core {
         Ok(())
     }
 
-    /// A round ends: after a stop all links end, and keep what they have still to take.
-    fn finish(&mut self)
-        ensures follows { (t : Trace) → Walks self.old t → Follows (setting_of self.old.conf) self.new.seen (end_round self.old.seen.stopped t) }
-        ensures rest { SameRest self.old self.new }
-        ensures rises { Rises 0 (numbers self.new.seen.links) self.new.seen.greatest }
+    /// The links that are overfull end, and those that were turned away.
+    fn end_refused(&mut self, alloc: Global) -> Result<(), Memory>
+        ensures walks { (t : Trace) → Walks self.old t
+            → OnOk result (Walks self.new (end_each (refused_reason t) (refused_links (setting_of self.old.conf) t) t)) }
+        ensures rest { OnOk result (SameRest self.old self.new) }
     {
-        if self.stopped {
-            forget_all(&mut self.heard, self.links.as_slice());
-        }
+        let ends = self.refused(alloc)?;
+        self.drop_refused(ends.as_slice())
     }
 
-    /// What is to be done now: offers, and after a stop the close of each link.
+    /// The numbers of the links that are overfull or were turned away, rising.
+    fn refused(&self, alloc: Global) -> Result<Vec<u32>, Memory>
+        ensures { IfOk result (λ v. v.items ≡ placed_all self.now.seen.turned (numbers (filter is_overfull self.now.seen.links))) }
+    {
+        let mut ends = overfull(alloc, self.links.as_slice())?;
+        place_all(&mut ends, self.turned.as_slice())?;
+        Ok(ends)
+    }
+
+    /// These links leave, and are to be closed.
+    fn drop_refused(&mut self, ends: &[u32]) -> Result<(), Memory>
+        ensures walks { (t : Trace) → Walks self.old t → ends.now ≡ placed_all self.old.seen.turned (numbers (filter is_overfull self.old.seen.links))
+            → OnOk result (Walks self.new (end_each (refused_reason t) (refused_links (setting_of self.old.conf) t) t)) }
+        ensures rest { OnOk result (SameRest self.old self.new) }
+    {
+        forget_all(&mut self.heard, ends);
+        drop_these(&mut self.links, ends);
+        place_all(&mut self.closing, ends)
+    }
+
+    /// After a stop all links end, and keep what they have still to take.
+    fn end_stopped(&mut self, alloc: Global) -> Result<(), Memory>
+        ensures follows { (t : Trace) → Walks self.old t
+            → OnOk result (Follows (setting_of self.old.conf) self.new.seen (end_stopped self.old.seen.stopped t)) }
+        ensures rest { OnOk result (SameRest self.old self.new) }
+    {
+        if self.stopped {
+            let ends = self.all(alloc)?;
+            self.close_all(ends.as_slice())?;
+        }
+        Ok(())
+    }
+
+    /// The numbers of all links.
+    fn all(&self, alloc: Global) -> Result<Vec<u32>, Memory>
+        ensures { IfOk result (λ v. v.items ≡ numbers self.now.seen.links) }
+    {
+        all(alloc, self.links.as_slice())
+    }
+
+    /// All links are to be closed, and are forgotten.
+    fn close_all(&mut self, ends: &[u32]) -> Result<(), Memory>
+        ensures follows { (t : Trace) → Walks self.old t → ends.now ≡ numbers self.old.seen.links
+            → OnOk result (Follows (setting_of self.old.conf) self.new.seen (end_stopped true t)) }
+        ensures rest { OnOk result (SameRest self.old self.new) }
+    {
+        forget_all(&mut self.heard, ends);
+        place_all(&mut self.closing, ends)
+    }
+
+    /// A round ends.
+    fn finish(&mut self, alloc: Global) -> Result<(), Memory>
+        ensures follows { (t : Trace) → Walks self.old t
+            → OnOk result (Follows (setting_of self.old.conf) self.new.seen (end_round (setting_of self.old.conf) self.old.seen.stopped t)) }
+        ensures rest { OnOk result (SameRest self.old self.new) }
+    {
+        self.end_refused(alloc)?;
+        self.end_stopped(alloc)
+    }
+
+    /// What is to be done now: offers, and then the closes.
     fn acts(&self, alloc: Global) -> Result<Acts, Memory>
         ensures offers { IfOk result (λ acts. acts.offers ≡ map number_of (filter is_ready self.now.seen.links)) }
-        ensures closes { IfOk result (λ acts. acts.closes ≡ (if self.now.seen.stopped then numbers self.now.seen.links else [])) }
+        ensures closes { IfOk result (λ acts. acts.closes ≡ self.now.seen.closing) }
         ensures done { IfOk result (λ acts. acts.done ≡ self.now.seen.stopped) }
         ensures rising { IfOk result (λ acts. Rises 0 acts.offers self.now.seen.greatest) }
         ensures served { IfOk result (λ acts. AreServed acts.offers self.now.seen.links) }
         ensures none { IfOk result (λ acts. (acts.dial ≡ None) × (acts.casts ≡ [])) }
     {
         let offers = ready(alloc, self.links.as_slice())?;
-        let closes = if self.stopped {
-            all(alloc, self.links.as_slice())?
-        } else {
-            Vec::new(alloc)
-        };
+        let closes = self.closing.clone()?;
         Ok(Acts {
             dial: None,
             casts: Vec::new(alloc),
@@ -514,7 +650,7 @@ impl Core {
     {
         self.begin();
         self.walk(alloc, events)?;
-        self.finish();
+        self.finish(alloc)?;
         self.acts(alloc)
     }
 
@@ -579,6 +715,8 @@ impl Core {
             conf,
             moment: 0,
             links: Vec::new(alloc),
+            turned: Vec::new(alloc),
+            closing: Vec::new(alloc),
             accepted: Vec::new(alloc),
             stations: Stations::new(alloc, hasher)?,
             heard: Heard::new(alloc, hasher)?,

@@ -1,6 +1,6 @@
 use Rattle.std.proofs.Common.{ap, filter, subst, sym, ◌∙◌}
 use Rattle.server_core.specs.LinkSteps.{Rises, forgotten_all, is_lost, numbers, is_there}
-use Rattle.server_core.specs.Steps.{Rests}
+use Rattle.server_core.specs.Steps.{Walks}
 use Rattle.server_core.proofs.LinkLemmas.{rises_filter}
 use Rattle.server_core.proofs.CoreLemmas.{walks_begun}
 use Rattle.server_core.proofs.server.Core.begin.Goals as goal
@@ -13,5 +13,5 @@ invariant_of-self c = record {
 }
 
 pub returns-clause-walks : goal.returns-clause-walks
-returns-clause-walks c = λ t rests. walks_begun _ t c.drop_gone.new.links.items c.forget_lost.new.heard (subst (λ core. Rests core t) (sym c.self.view_is) rests) c.drop_gone.ensures
-    (c.forget_lost.ensures ∙ ap (λ links. forgotten_all (numbers (filter is_lost links)) c.self.inside.heard) c.as_slice.ensures.value)
+returns-clause-walks c = λ t walks. walks_begun _ t c.drop_gone.new.links.items c.forget_lost.new.heard c.clear.new.self.items c.clear-2.new.self.items (subst (λ core. Walks core t) (sym c.self.view_is) walks) c.drop_gone.ensures
+    (c.forget_lost.ensures ∙ ap (λ links. forgotten_all (numbers (filter is_lost links)) c.self.inside.heard) c.as_slice.ensures.value) c.clear.ensures.items c.clear-2.ensures.items

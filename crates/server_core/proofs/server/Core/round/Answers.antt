@@ -10,9 +10,8 @@ returns-clause-stands g c = λ h stands.
       rest = c.begin.ensures.rest;
       walking = c.in_ok-walk.ensures.walking;
       traced = c.in_ok-walk.ensures.traced;
-      finished = c.finish.ensures.follows;
-      kept = c.finish.ensures.rest;
-      rises = c.finish.ensures.rises;
+      finished = c.in_ok-finish.ensures.follows;
+      kept = c.in_ok-finish.ensures.rest;
     } in
     stands_ok c.acts.result (round_stands c.args.self.now c.begin.new.self c.walk.new.self c.finish.new.self c.args.events.now round h stands)
 
@@ -25,8 +24,7 @@ returns-clause-due g c = λ h stands.
       rest = c.begin.ensures.rest;
       walking = c.in_ok-walk.ensures.walking;
       traced = c.in_ok-walk.ensures.traced;
-      finished = c.finish.ensures.follows;
-      kept = c.finish.ensures.rest;
-      rises = c.finish.ensures.rises;
+      finished = c.in_ok-finish.ensures.follows;
+      kept = c.in_ok-finish.ensures.rest;
     } in
     acts_ok c.args.self.now c.begin.new.self c.walk.new.self c.finish.new.self c.args.events.now round h stands c.acts.result c.acts.ensures.offers c.acts.ensures.closes c.acts.ensures.none

@@ -3,7 +3,7 @@ use Rattle.server_core.specs.Steps.{Walks}
 use Rattle.server_core.proofs.CoreLemmas.{walks_ticked}
 use Rattle.server_core.specs.LinkSteps.{Rises, at_moment, numbers}
 use Rattle.server_core.proofs.LinkLemmas.{numbers_kept}
-use Rattle.server_core.proofs.server.Core.tick.Goals as goal
+use Rattle.server_core.proofs.server.Core.go_on.Goals as goal
 
 pub invariant_of-self : goal.invariant_of-self
 invariant_of-self c = record {
