@@ -1,5 +1,5 @@
 -- The parts of a moment are a date of the calendar, and they give the moment back.
-use Rattle.std.proofs.Common.{◌≡◌, ℕ, zero, suc, ◌+◌, ◌-◌, ◌*◌, ◌/◌, ◌%◌, ◌<◌, ◌≤◌, Bool, true, false, cond, nat_le, min, take, drop, refl, sym, ap, arith}
+use Rattle.std.proofs.Common.{◌≡◌, ℕ, zero, suc, ◌+◌, ◌-◌, ◌*◌, ◌/◌, ◌%◌, ◌<◌, ◌≤◌, Bool, true, false, cond, nat_le, min, take, drop, refl, sym, ap, ◌∙◌, arith}
 use Rattle.std.proofs.lemmas.Bool.Decides.{nat_tests}
 use Rattle.httpdate.specs.declared.parts.Parts.{Parts}
 use Rattle.httpdate.specs.declared.date.HttpDate.{HttpDate}
@@ -101,3 +101,25 @@ date_with moment years months day h =
 is_date : (moment : ℕ) → moment ≤ last_second → IsDateAt moment (parts_at moment)
 unfolding parts_at
 is_date moment h = date_with moment _ _ _ (splits (moment / 86400) _ _ _ (omega arith) refl refl refl)
+
+-- the text of each date with the seconds of a moment up to the last
+date_shown : (d : HttpDate) (moment : ℕ) → moment ≤ last_second → unix_secs d ≡ moment → date_at moment ≡ take 24 (drop 5 (date_text d))
+unfolding date_at
+date_shown d moment h same =
+    let cut : min moment last_second ≡ moment = omega arith in
+    let date = is_date moment h in
+    rw (cut, date_text_is d (parts_at moment) (is_valid_complete _ date.0) (same ∙ sym date.1)) refl
+
+-- a moment after the last second has its text
+pub date_text_at : (d : HttpDate) (moment : ℕ) → unix_secs d ≡ min moment last_second → date_at moment ≡ take 24 (drop 5 (date_text d))
+unfolding date_at
+date_text_at d moment same =
+    let cut : min (min moment last_second) last_second ≡ min moment last_second = omega arith in
+    rw cut at (date_shown d (min moment last_second) (omega arith) same)
+
+-- The text of a moment, from the parts of its date: both premises compute where the parts are written out.
+pub date_is : (p : Parts) (moment : ℕ) → is_valid p ≡ true → parts_secs p ≡ moment → date_at moment ≡ take 24 (drop 5 (imf_fixdate p))
+date_is p moment valid same =
+    let holds = is_valid_sound p valid in
+    let low = days_from_civil_bound _ _ _ holds.0 in
+    date_shown (record { parts = p; civil = holds.0; time = holds.1; right_day = holds.2 }) moment (omega (arith, holds.1)) same
