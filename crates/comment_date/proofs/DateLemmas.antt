@@ -1,9 +1,9 @@
 -- The parts of a moment are a date of the calendar, and they give the moment back.
-use Rattle.std.proofs.Common.{◌≡◌, ℕ, zero, suc, ◌+◌, ◌-◌, ◌*◌, ◌/◌, ◌%◌, ◌<◌, ◌≤◌, Bool, true, false, cond, nat_le, min, take, drop, refl, sym, ap, ◌∙◌, arith}
+use Rattle.std.proofs.Common.{◌≡◌, ℕ, zero, suc, ◌+◌, ◌-◌, ◌*◌, ◌/◌, ◌%◌, ◌<◌, ◌≤◌, true, false, cond, nat_le, min, take, drop, refl, sym, ap, ◌∙◌, arith}
 use Rattle.std.proofs.lemmas.Bool.Decides.{nat_tests}
 use Rattle.httpdate.specs.declared.parts.Parts.{Parts}
 use Rattle.httpdate.specs.declared.date.HttpDate.{HttpDate}
-use Rattle.httpdate.specs.Calendar.{IsCivilDate, IsTimeOfDay, days_in_year, days_in_month, days_of_years, days_of_months, days_from_civil, weekday}
+use Rattle.httpdate.specs.Calendar.{IsCivilDate, IsTimeOfDay, days_in_month, days_of_years, days_of_months, days_from_civil, weekday}
 use Rattle.httpdate.specs.Date.{date_text, unix_secs}
 use Rattle.httpdate.specs.Text.{imf_fixdate}
 use Rattle.httpdate.specs.Valid.{IsValid, is_valid, parts_secs}
@@ -51,9 +51,9 @@ splits days years in_year months low y i m =
     let more : days < days_of_years (suc years) = rw y (last_begun-last days_of_years days 8029 total) in
     let inside : in_year < days_of_months (1970 + years) 12 = omega (arith, days_of_months_all (1970 + years)) in
     let begun_month : days_of_months (1970 + years) months ≤ in_year =
-        rw m (last_begun-begun (days_of_months (1970 + years)) in_year 11 (omega arith)) in
+    rw m (last_begun-begun (days_of_months (1970 + years)) in_year 11 (omega arith)) in
     let more_month : in_year < days_of_months (1970 + years) (suc months) =
-        rw m (last_begun-last (days_of_months (1970 + years)) in_year 11 inside) in (
+    rw m (last_begun-last (days_of_months (1970 + years)) in_year 11 inside) in (
       rw y (last_begun-bound days_of_years days 8029),
       rw m (last_begun-bound (days_of_months (1970 + years)) in_year 11),
       omega arith,
