@@ -90,7 +90,7 @@ whole : (moment : ℕ) → moment / 86400 * 86400 + moment / 3600 % 24 * 3600 + 
 whole moment = omega arith
 
 -- the parts are a date, of this moment
-abbrev IsDateAt : ℕ → Parts → Type 0
+abbrev pub IsDateAt : ℕ → Parts → Type 0
 IsDateAt moment p = IsValid p × (parts_secs p ≡ moment)
 
 date_with : (moment years months day : ℕ) → IsSplit (moment / 86400) years months day → IsDateAt moment (parts_with moment years months day)
@@ -98,7 +98,7 @@ date_with moment years months day h =
     let days = counted _ years months day h in
     ((civil _ years months day h, clock moment, ap weekday (sym days)), rw days (whole moment))
 
-is_date : (moment : ℕ) → moment ≤ last_second → IsDateAt moment (parts_at moment)
+pub is_date : (moment : ℕ) → moment ≤ last_second → IsDateAt moment (parts_at moment)
 unfolding parts_at
 is_date moment h = date_with moment _ _ _ (splits (moment / 86400) _ _ _ (omega arith) refl refl refl)
 

@@ -1,2 +1,3 @@
 pub mod DateLemmas
 mod Rows
+pub mod TextLemmas
