@@ -1,5 +1,5 @@
 -- What is true of each queue, and what its calls keep of it.
-use Rattle.std.proofs.Common.{◌≡◌, ℕ, ◌+◌, ◌-◌, ◌*◌, ◌≤◌, ◌<◌, List, [], ◌∷◌, ◌++◌, length, drop, sym, ap, subst, ◌∙◌, arith, length-append, length-drop}
+use Rattle.std.proofs.Common.{◌≡◌, ℕ, ◌+◌, ◌-◌, ◌≤◌, ◌<◌, List, [], ◌∷◌, ◌++◌, length, drop, subst, arith, length-append, length-drop}
 use Rattle.aprs_base.specs.Bytes.{IsLine}
 use Rattle.link_queue.specs.Lines.{AreShort, IsWithinFirst, queued, text_bytes}
 use Rattle.link_queue.specs.Queues.{IsSound}

@@ -1,5 +1,5 @@
 -- What a queue is seen as: the lines that aren't wholly taken, the number of bytes taken of the first with its CR and LF, and the limit.
-use Rattle.std.specs.Prelude.{◌≡◌, ℕ, ◌+◌, ◌*◌, ◌≤◌, List, [], ◌∷◌, ◌++◌, length, drop}
+use Rattle.std.specs.Prelude.{◌≡◌, ℕ, ◌+◌, ◌≤◌, List, [], ◌∷◌, ◌++◌, length, drop}
 use Rattle.link_queue.specs.Lines.{AreShort, IsWithinFirst, queued, text_bytes}
 
 pub record QueueSeen : Type 0 where

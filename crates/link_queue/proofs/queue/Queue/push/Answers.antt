@@ -1,8 +1,7 @@
-use Rattle.std.proofs.Common.{◌≡◌, ◌+◌, ◌≤◌, ◌<◌, ◌∷◌, [], length, map, refl, ap, sym, subst, ◌∙◌, arith}
+use Rattle.std.proofs.Common.{◌∷◌, [], map, refl, sym, subst, arith}
 use Rattle.std.specs.Arc.{arc_value}
 use Rattle.std.proofs.lemmas.List.{length-map, map-append}
 use Rattle.aprs_base.specs.Bytes.{IsLine}
-use Rattle.link_queue.specs.Queues.{IsSound}
 use Rattle.link_queue.proofs.SoundLemmas.{push_fits, push_sound}
 use Rattle.link_queue.proofs.queue.Queue.push.Goals as goal
 

@@ -1,8 +1,7 @@
-use Rattle.std.proofs.Common.{◌≡◌, ◌+◌, ◌≤◌, ◌<◌, length, map, drop, refl, ap, sym, subst, ◌∙◌, arith}
+use Rattle.std.proofs.Common.{◌+◌, map, refl, sym, ◌∙◌, arith}
 use Rattle.std.specs.Arc.{arc_value}
 use Rattle.std.proofs.lemmas.List.{drop-drop}
-use Rattle.link_queue.specs.Lines.{queued, text_bytes}
-use Rattle.link_queue.specs.Queues.{IsSound, pending_bytes}
+use Rattle.link_queue.specs.Lines.{text_bytes}
 use Rattle.link_queue.proofs.LineLemmas.{queued_all, queued_rest}
 use Rattle.link_queue.proofs.SoundLemmas.{pending_is, taken_fits, taken_sound}
 use Rattle.link_queue.proofs.queue.Queue.taken.Goals as goal
