@@ -14,7 +14,8 @@ use Rattle.aprs_history.specs.Setting.{Setting}
 use Rattle.aprs_history.specs.Trace.{Trace, Entry, Ended, EndReason, NoLogin, Silent, Overfull, Full, ByPeer, FoundGone, ByStop, live_links}
 use Rattle.aprs_history.specs.History.{History, trace_of}
 use Rattle.aprs_history.specs.Acts.{Closes, Offers, due}
-use Rattle.aprs_history.specs.Texts.{banner, lines_of, text_bytes}
+use Rattle.link_queue.specs.Lines.{text_bytes}
+use Rattle.aprs_history.specs.Texts.{banner, lines_of}
 use Rattle.aprs_history.proofs.Rows.{client, crlf, listen, server_on, told_in}
 
 setting : Setting

@@ -7,7 +7,8 @@ use Rattle.aprs_base.specs.declared.packets.ListenSpec.{ListenSpec}
 use Rattle.aprs_history.specs.Setting.{Setting}
 use Rattle.aprs_history.specs.Trace.{Trace, closed_links, served_links}
 use Rattle.aprs_history.specs.Links.{is_blocked, taken_by}
-use Rattle.aprs_history.specs.Texts.{lines_of, text_bytes, untaken}
+use Rattle.link_queue.specs.Lines.{text_bytes}
+use Rattle.aprs_history.specs.Texts.{lines_of, untaken}
 use Rattle.aprs_history.specs.History.{History, open_events, ends_round, is_stopped, trace_of}
 
 pub data Act : Type 0 where

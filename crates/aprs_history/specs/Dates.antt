@@ -1,8 +1,7 @@
 -- The comment line that tells the date.
-use Rattle.std.specs.Prelude.{ℕ, List, [], ◌++◌, codes}
+use Rattle.std.specs.Prelude.{ℕ, List, ◌++◌, codes}
+use Rattle.comment_date.specs.Dates.{date_at}
 
-abbrev pub date_text_at : ℕ → List ℕ
-date_text_at moment = []
-
+-- the server's name and the date of a moment, in seconds since 1970
 abbrev pub comment_text : List ℕ → ℕ → List ℕ
-comment_text server moment = codes "# aprsc 1.0 " ++ (date_text_at moment ++ codes " " ++ server)
+comment_text server moment = codes "# aprsc 1.0 " ++ (date_at moment ++ (codes " " ++ server))

@@ -15,7 +15,8 @@ use Rattle.aprs_history.specs.Links.{Opening, opening_of, last_heard, brought_by
 use Rattle.aprs_history.specs.Scenes.{accepted_of}
 use Rattle.aprs_history.specs.Sights.{friends_of, own_place}
 use Rattle.aprs_history.specs.Messages.{heard_of, promise_of}
-use Rattle.aprs_history.specs.Texts.{Queued, queued, lines_of, text_bytes, text_to}
+use Rattle.link_queue.specs.Lines.{Queued, queued, text_bytes}
+use Rattle.aprs_history.specs.Texts.{lines_of, text_to}
 use Rattle.aprs_history.specs.History.{History, open_events, is_stopped, greatest_link, trace_of}
 
 -- what a core keeps of a link

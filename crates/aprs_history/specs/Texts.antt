@@ -1,10 +1,10 @@
 -- The text that each link is to take, line by line, and what of it is still to be taken.
 use Rattle.std.specs.Prelude.{ℕ, ◌==◌, ◌+◌, ◌-◌, ◌&&◌, ◌||◌, Bool, true, false, not, nat_le, is_some, List, [], ◌∷◌, ◌++◌, length, map, filter, drop, codes, Option, Some, None, if◌then◌else◌}
-use Rattle.std.specs.List.{flat_map}
 use Rattle.std.specs.Fmt.{decimal}
 use Rattle.aprs_base.specs.PacketSeen.{PacketSeen}
 use Rattle.aprs_base.specs.declared.packets.PortKind.{PortKind}
 use Rattle.aprs_base.specs.declared.packets.PortKind.TheVariants as kind
+use Rattle.link_queue.specs.Lines.{queued, text_bytes}
 use Rattle.aprs_history.specs.Dates.{comment_text}
 use Rattle.aprs_history.specs.Setting.{Setting}
 use Rattle.login_pass.specs.declared.login_line.LoginFault.{LoginFault}
@@ -25,13 +25,6 @@ use Rattle.aprs_history.specs.Links.{Opening, opening_of, session_of, taken_by}
 use Rattle.aprs_history.specs.Scenes.{packet_of}
 use Rattle.aprs_history.specs.Messages.{is_asked}
 use Rattle.aprs_history.specs.Sights.{filter_passes}
-
--- a line with its end, and lines one after another
-abbrev pub ended_line : List ℕ → List ℕ
-ended_line line = line ++ 13 ∷ 10 ∷ []
-
-abbrev pub text_bytes : List (List ℕ) → List ℕ
-text_bytes lines = flat_map ended_line lines
 
 abbrev pub banner : List ℕ
 banner = codes "# aprsc 1.0"
@@ -148,15 +141,6 @@ added_by setting earlier from (Accepted parts line) link =
 -- the comment line that tells the date
 abbrev pub comment_line : List ℕ → ℕ → TextLine
 comment_line server moment = record { kind = Comment; line = comment_text server moment }
-
--- lines of which some bytes are taken: those that are not wholly taken, and how much of the first is
-pub record Queued : Type 0 where
-  pub lines : List (List ℕ)
-  pub offset : ℕ
-
-abbrev pub queued : List (List ℕ) → ℕ → Queued
-queued [] taken = record { lines = []; offset = taken }
-queued (line ∷ lines) taken = if nat_le (length line + 2) taken then queued lines (taken - (length line + 2)) else record { lines = line ∷ lines; offset = taken }
 
 -- the text of a link: its lines, in order, from its opening on; and whether a line didn't fit any more
 pub record Text : Type 0 where

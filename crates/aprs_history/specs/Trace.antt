@@ -1,5 +1,5 @@
 -- The trace of a history: what happened to each link, with the verdict on each line, the newest first.
-use Rattle.std.specs.Prelude.{ℕ, ◌==◌, Bool, true, false, not, nat_lt, List, [], ◌∷◌, ◌++◌, filter, max, min, if◌then◌else◌}
+use Rattle.std.specs.Prelude.{ℕ, ◌==◌, Bool, true, false, not, nat_le, List, [], ◌∷◌, ◌++◌, filter, max, min, if◌then◌else◌}
 use Rattle.std.specs.List.{list_any}
 use Rattle.aprs_base.specs.declared.texts.Addr.{Addr}
 use Rattle.aprs_base.specs.declared.cutting.Cut.{Cut}
@@ -100,7 +100,7 @@ is_closing ByStop = true
 -- a number in its place among rising ones
 abbrev pub placed : ℕ → List ℕ → List ℕ
 placed n [] = n ∷ []
-placed n (m ∷ ms) = if nat_lt n m then n ∷ m ∷ ms else m ∷ placed n ms
+placed n (m ∷ ms) = if nat_le m n then m ∷ placed n ms else n ∷ m ∷ ms
 
 abbrev pub placed_all : List ℕ → List ℕ → List ℕ
 placed_all [] ms = ms

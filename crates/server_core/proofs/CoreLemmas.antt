@@ -239,6 +239,9 @@ walks_ticked core t walks m moment links is new =
 pub kept_above : (core : CoreMeaning) (k : ℕ) → IsKept core → core.seen.greatest < k → k < 2 ^ 32 → IsKept (record core { seen = record core.seen { greatest = k } })
 kept_above core k kept above small = record { rising = rises_to 0 core.seen.greatest k (numbers core.seen.links) kept.rising (omega arith); small = small; station = kept.station }
 
+pub kept_turned : (core : CoreMeaning) (turned : List ℕ) → IsKept core → IsKept (record core { seen = record core.seen { turned = turned } })
+kept_turned core turned kept = record { rising = kept.rising; small = kept.small; station = kept.station }
+
 pub kept_links : (core : CoreMeaning) (links : List LinkSeen) → links ≡ core.seen.links → IsKept core → IsKept (record core { seen = record core.seen { links = links } })
 kept_links core links same kept = subst (λ ls. IsKept (record core { seen = record core.seen { links = ls } })) (sym same) kept
 
@@ -261,38 +264,38 @@ unmoved_ok core t links (Err e) walks h = h
 -- ---- links end
 
 -- the links that are late
-pub walks_late : (core : CoreMeaning) (t : Trace) (ends closing : List ℕ) (links : List LinkSeen) (heard : HeardSeen) → Walks core t
+pub walks_late : (core : CoreMeaning) (conf : ConfSeen) (t : Trace) (ends closing : List ℕ) (links : List LinkSeen) (heard : HeardSeen) → Walks core t → core.conf ≡ conf
     → ends ≡ numbers (filter (is_late_link core.conf.client_timeout core.seen.moment) core.seen.links) → links ≡ filter (is_in_time core.conf.client_timeout core.seen.moment) core.seen.links
     → heard ≡ forgotten_all ends core.seen.heard → closing ≡ placed_all ends core.seen.closing
-    → Walks (record core { seen = record core.seen { links = links; heard = heard; closing = closing } }) (end_each (late_reason t) (late_links core.conf.client_timeout t) t)
-walks_late core t ends closing links heard walks are left forgotten closed =
+    → Walks (record core { seen = record core.seen { links = links; heard = heard; closing = closing } }) (end_each (late_reason t) (late_links conf.client_timeout t) t)
+walks_late core conf t ends closing links heard walks same are left forgotten closed =
     let s = setting_of core.conf in
     let timeout = core.conf.client_timeout in
     let now = end_each (late_reason t) (late_links timeout t) t in
     let left_now : links ≡ filter (is_in_time timeout (moment_of t)) core.seen.links = left ∙ ap (λ m. filter (is_in_time timeout m) core.seen.links) walks.follows.moment in
     let follows = follows_late s core.seen t walks.follows walks.going timeout ends (are ∙ ap (λ m. numbers (filter (is_late_link timeout m) core.seen.links)) walks.follows.moment) in
-    record {
+    subst (λ (c : ConfSeen). Walks (record core { seen = record core.seen { links = links; heard = heard; closing = closing } }) (end_each (late_reason t) (late_links c.client_timeout t) t)) same (record {
       follows = subst (λ ls. Follows s (record core.seen { links = ls; heard = heard; closing = closing }) now) (sym left_now)
           (subst (λ table. Follows s (record core.seen { links = filter (is_in_time timeout (moment_of t)) core.seen.links; heard = table; closing = closing }) now) (sym forgotten)
           (subst (λ cs. Follows s (record core.seen { links = filter (is_in_time timeout (moment_of t)) core.seen.links; heard = forgotten_all ends core.seen.heard; closing = cs }) now) (sym closed) follows));
       going = going_after (late_reason t) (late_goes t) (late_links timeout t) t ∙ walks.going;
-    }
+    })
 
 -- the links that are overfull, and those that were turned away
-pub walks_refused : (core : CoreMeaning) (t : Trace) (ends closing : List ℕ) (links : List LinkSeen) (heard : HeardSeen) → Walks core t
+pub walks_refused : (core : CoreMeaning) (conf : ConfSeen) (t : Trace) (ends closing : List ℕ) (links : List LinkSeen) (heard : HeardSeen) → Walks core t → core.conf ≡ conf
     → ends ≡ placed_all core.seen.turned (numbers (filter is_overfull core.seen.links)) → links ≡ filter (is_none_of ends) core.seen.links
     → heard ≡ forgotten_all ends core.seen.heard → closing ≡ placed_all ends core.seen.closing
-    → Walks (record core { seen = record core.seen { links = links; heard = heard; closing = closing } }) (end_each (refused_reason t) (refused_links (setting_of core.conf) t) t)
-walks_refused core t ends closing links heard walks are left forgotten closed =
+    → Walks (record core { seen = record core.seen { links = links; heard = heard; closing = closing } }) (end_each (refused_reason t) (refused_links (setting_of conf) t) t)
+walks_refused core conf t ends closing links heard walks same are left forgotten closed =
     let s = setting_of core.conf in
     let now = end_each (refused_reason t) (refused_links s t) t in
     let follows = follows_refused_links s core.seen t walks.follows walks.going ends are in
-    record {
+    subst (λ (c : ConfSeen). Walks (record core { seen = record core.seen { links = links; heard = heard; closing = closing } }) (end_each (refused_reason t) (refused_links (setting_of c) t) t)) same (record {
       follows = subst (λ ls. Follows s (record core.seen { links = ls; heard = heard; closing = closing }) now) (sym left)
           (subst (λ table. Follows s (record core.seen { links = filter (is_none_of ends) core.seen.links; heard = table; closing = closing }) now) (sym forgotten)
           (subst (λ cs. Follows s (record core.seen { links = filter (is_none_of ends) core.seen.links; heard = forgotten_all ends core.seen.heard; closing = cs }) now) (sym closed) follows));
       going = going_after (refused_reason t) (refused_goes t) (refused_links s t) t ∙ walks.going;
-    }
+    })
 
 -- after a stop all links, and there is still to keep of them what there was, but what they heard
 pub follows_stop : (core : CoreMeaning) (conf : ConfSeen) (stopped : Bool) (t : Trace) (ends closing : List ℕ) (heard : HeardSeen) → Walks core t → core.conf ≡ conf → stopped ≡ true
@@ -307,9 +310,9 @@ follows_stop core conf stopped t ends closing heard walks same stops are forgott
 
 -- ---- comment lines
 
-pub walks_dated : (core : CoreMeaning) (conf : ConfSeen) (t : Trace) (before : ℕ) (links : List LinkSeen) (line : List ℕ) → Walks core t → nat_lt (before / comment_seconds) (core.seen.moment / comment_seconds) ≡ true
+pub walks_dated : (core : CoreMeaning) (t : Trace) (before : ℕ) (links : List LinkSeen) (line : List ℕ) → Walks core t → nat_lt (before / comment_seconds) (core.seen.moment / comment_seconds) ≡ true
     → line ≡ comment_text core.conf.server core.seen.moment → links ≡ map (with_text line) core.seen.links → Walks (relinked links core) (dated before t)
-walks_dated core conf t before links line walks passed is new =
+walks_dated core t before links line walks passed is new =
     let s = setting_of core.conf in
     let m = moment_of t in
     let told : links ≡ map (with_text (comment_text core.conf.server m)) core.seen.links =

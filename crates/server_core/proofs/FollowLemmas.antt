@@ -1,5 +1,5 @@
 -- Each entry of a trace, and what it changes of what there is to keep of the links.
-use Rattle.std.proofs.Common.{◌≡◌, ℕ, ◌+◌, ◌-◌, ◌≤◌, ◌<◌, ◌==◌, Bool, true, false, not, ◌&&◌, ◌||◌, List, [], ◌∷◌, ◌++◌, length, map, refl, sym, ap, ◌∙◌, subst, arith, Option, Some, None, ⊎_elim, append-nil, length-append, nat_lt, nat_le, is_some, drop, eq-eqb, append_assoc, min, if◌then◌else◌}
+use Rattle.std.proofs.Common.{◌≡◌, ℕ, ◌+◌, ◌-◌, ◌≤◌, ◌<◌, ◌==◌, Bool, true, false, not, ◌&&◌, ◌||◌, List, [], ◌∷◌, ◌++◌, length, map, refl, sym, ap, ◌∙◌, subst, arith, Option, Some, None, ⊎_elim, append-nil, length-append, length-drop, nat_lt, nat_le, is_some, drop, eq-eqb, append_assoc, min, if◌then◌else◌}
 use Rattle.std.proofs.lemmas.Bool.{true≢false, eqb-true, cases_Bool, leb-true, leb-false, le-leb, lt-leb, ltb-true, ltb-false, false_from_ne_true, true_from_ne_false}
 use Rattle.std.proofs.Math.Nat.{le-max_right}
 use Rattle.std.proofs.Math.Seq.{drop-append-add}
@@ -30,7 +30,8 @@ use Rattle.aprs_history.specs.declared.verdicts.Admission.{Admission}
 use Rattle.aprs_history.specs.declared.verdicts.Admission.TheVariants.{Served}
 use Rattle.aprs_history.specs.Trace.{is_member, last_moment, moment_of, Trace, RoundBegan, Dated, Ticked, Opened, Brought, Said, Roomed, Took, Lost, is_live}
 use Rattle.aprs_history.specs.Links.{brought_by, filter_after, filter_by, filter_of, taken_by, session_of, opening_of}
-use Rattle.aprs_history.specs.Texts.{Queued, Text, TextLine, comment_line, most_waiting, queued, lines_of, plain, plain_line, relayed, reply_of, text_bytes, text_to, waiting_lines, with_text_line, with_text_lines, ended_line, wants, filter_reply, login_filter_reply, login_reply, refusal_reply, reply_lines, port_wants}
+use Rattle.link_queue.specs.Lines.{Queued, queued, text_bytes, ended_line}
+use Rattle.aprs_history.specs.Texts.{Text, TextLine, comment_line, most_waiting, lines_of, plain, plain_line, relayed, reply_of, text_to, waiting_lines, with_text_line, with_text_lines, wants, filter_reply, login_filter_reply, login_reply, refusal_reply, reply_lines, port_wants}
 use Rattle.aprs_history.specs.Stands.{LinkSeen, link_seen, TookNoMore}
 use Rattle.server_core.specs.Pending.{with_line, pending_bytes}
 use Rattle.server_core.specs.LinkSteps.{picked_at, at_link, at_moment, with_answer, with_room, when_gone, with_taken, with_bytes, with_text, with_session, with_packet, with_places, new_link_seen}
@@ -90,27 +91,14 @@ not_below a b le = false_from_ne_true _ (λ lt. let l : a < b = ltb-true a b lt 
 is_below : (a b : ℕ) → a < b → nat_lt a b ≡ true
 is_below a b lt = true_from_ne_false _ (λ no_lt. let l : b ≤ a = ltb-false a b no_lt in absurd (omega arith))
 
-same_order : (a b c d n : ℕ) → c ≡ a + n → d ≡ n + b → nat_lt a b ≡ nat_lt c d
-same_order a b c d n e f =
+-- something is left exactly where less than all is taken
+pub left_over : (taken : ℕ) (text : List ℕ) → nat_lt 0 (length (drop taken text)) ≡ nat_lt taken (length text)
+left_over taken text =
+    let size = length-drop taken text in
     ⊎_elim
-    (λ lt. let l : a < b = ltb-true a b lt in lt ∙ sym (is_below c d (omega arith)))
-    (λ no_lt. let l : b ≤ a = ltb-false a b no_lt in no_lt ∙ sym (not_below c d (omega arith)))
-    (cases_Bool (nat_lt a b))
-
--- there is a line left exactly where there are bytes left
-pub queued-left : (lines : List (List ℕ)) (taken : ℕ) → taken ≤ length (text_bytes lines) → nat_lt 0 (length (queued lines taken).lines) ≡ nat_lt taken (length (text_bytes lines))
-queued-left [] taken le = sym (not_below taken 0 (omega arith))
-queued-left (line ∷ lines) taken le =
-    let size = text_size line lines in
-    ⊎_elim
-    (λ over.
-    let at_least : length line + 2 ≤ taken = leb-true (length line + 2) taken over in
-    rw over (queued-left lines (taken - (length line + 2)) (omega arith)
-    ∙ same_order (taken - (length line + 2)) (length (text_bytes lines)) taken (length (text_bytes (line ∷ lines))) (length line + 2) (omega arith) size))
-    (λ under.
-    let below : taken < length line + 2 = leb-false (length line + 2) taken under in
-    rw under (is_below 0 (length (line ∷ lines)) (omega arith) ∙ sym (is_below taken (length (text_bytes (line ∷ lines))) (omega arith))))
-    (cases_Bool (nat_le (length line + 2) taken))
+    (λ lt. let l : taken < length text = ltb-true taken (length text) lt in is_below 0 (length (drop taken text)) (omega arith) ∙ sym lt)
+    (λ no_lt. let l : length text ≤ taken = ltb-false taken (length text) no_lt in not_below 0 (length (drop taken text)) (omega arith) ∙ sym no_lt)
+    (cases_Bool (nat_lt taken (length text)))
 
 and_true : (a b c : Bool) → (a && true && b && c) ≡ (a && b && c)
 and_true true b c = refl
@@ -180,6 +168,23 @@ text_number line link =
     (λ (over : link.over ≡ true). rw over refl)
     (λ (open' : link.over ≡ false). ⊎_elim (λ (full : (length link.queue.lines == most_waiting) ≡ true). rw (open', full) refl) (λ (room : (length link.queue.lines == most_waiting) ≡ false). rw (open', room) refl) (cases_Bool (length link.queue.lines == most_waiting)))
     (cases_Bool link.over)
+
+-- what a line more is where the link is overfull, where it becomes so, and where the line fits
+pub text_after : (line : List ℕ) (link : LinkSeen) → link.over ≡ true → link ≡ with_text line link
+unfolding with_text
+text_after line link over = rw over refl
+
+pub text_over : (line : List ℕ) (link : LinkSeen) → link.over ≡ false → length link.queue.lines ≡ most_waiting → record link { over = true } ≡ with_text line link
+unfolding with_text
+text_over line link open' full =
+    let is_full : (length link.queue.lines == most_waiting) ≡ true = eq-eqb (length link.queue.lines) most_waiting full in
+    rw (open', is_full) refl
+
+pub text_fits : (line : List ℕ) (link : LinkSeen) → link.over ≡ false → (length link.queue.lines ≡ most_waiting → ⊥) → record link { queue = with_line link.queue line } ≡ with_text line link
+unfolding with_text
+text_fits line link open' room =
+    let has_room : (length link.queue.lines == most_waiting) ≡ false = false_from_ne_true _ (λ full. room (eqb-true (length link.queue.lines) most_waiting full)) in
+    rw (open', has_room) refl
 
 -- another filter and a line more, in either order
 filter_then_text : (terms : List TermSeen) (friends : List (Option Seen)) (line : List ℕ) (link : LinkSeen)

@@ -1,11 +1,11 @@
 -- A step at the link of one number, among links whose numbers rise.
-use Rattle.std.proofs.Common.{◌≡◌, ℕ, zero, suc, ◌+◌, ◌≤◌, ◌<◌, Bool, true, false, List, [], ◌∷◌, length, get_or, map, refl, sym, ap, ◌∙◌, subst, arith, eq-eqb, Some, None, slice_set, ⊎_elim, cond, nat_lt, ◌||◌, ◌++◌, take, drop, add-one, filter, le_refl, take_all, append-nil, ◌==◌}
-use Rattle.std.specs.List.{position, position_or_len, list_any, zip}
+use Rattle.std.proofs.Common.{◌≡◌, ℕ, zero, suc, ◌+◌, ◌≤◌, ◌<◌, Bool, true, false, List, [], ◌∷◌, length, get_or, map, refl, sym, ap, ◌∙◌, subst, arith, eq-eqb, Some, None, slice_set, ⊎_elim, cond, nat_le, nat_lt, ◌||◌, ◌++◌, take, drop, add-one, filter, le_refl, take_all, append-nil, ◌==◌}
+use Rattle.std.specs.List.{insert, position, position_or_len, prefix_len, list_any, zip}
 use Rattle.std.proofs.lemmas.Bool.{ltb-true, ltb-false, cases_Bool, false_from_ne_true, eqb-true, true≢false}
 use Rattle.std.proofs.lemmas.List.Sums.{passes_at_first, fails_before_first}
 use Rattle.std.proofs.lemmas.List.Folds.{list_any_none}
 use Rattle.std.proofs.lemmas.List.{drop_all}
-use Rattle.aprs_history.specs.Trace.{is_member}
+use Rattle.aprs_history.specs.Trace.{is_member, placed}
 use Rattle.aprs_history.specs.Stands.{LinkSeen}
 use Rattle.server_core.specs.LinkSteps.{AreServed, Rises, at_link, has_that, picked_at, has_number, numbers}
 
@@ -228,3 +228,14 @@ served_filter p (x ∷ links) n member =
 pub served_numbers : (n : ℕ) (links : List LinkSeen) → has_number n links ≡ is_member n (numbers links)
 served_numbers n [] = refl
 served_numbers n (x ∷ links) = ap (λ b. (x.link == n) || b) (served_numbers n links)
+
+-- a number in its place is a number put after those that aren't above it
+pub placed_after : (n : ℕ) (ms : List ℕ) → insert ms (prefix_len (λ m. nat_le m n) ms) n ≡ placed n ms
+placed_after n [] = refl
+placed_after n (m ∷ ms) =
+    ⊎_elim
+    (λ (below : nat_le m n ≡ true).
+    let one_more : 1 + prefix_len (λ x. nat_le x n) ms ≡ suc (prefix_len (λ x. nat_le x n) ms) = omega arith in
+    rw (below, one_more) (ap (λ ns. m ∷ ns) (placed_after n ms)))
+    (λ (above : nat_le m n ≡ false). rw above refl)
+    (cases_Bool (nat_le m n))

@@ -1,7 +1,7 @@
 -- Parts of lists, and the first bytes of lines one after another.
 use Rattle.std.proofs.Common.{◌≡◌, ℕ, zero, suc, ◌+◌, ◌-◌, ◌≤◌, ◌<◌, List, [], ◌∷◌, ◌++◌, length, take, drop, min, refl, sym, ap, ◌∙◌, arith, append_assoc, length-append, length-drop, map, get_or, add-one, subst, length-take, append-nil}
 use Rattle.std.proofs.lemmas.List.{drop-append-le}
-use Rattle.aprs_history.specs.Texts.{ended_line, text_bytes}
+use Rattle.link_queue.specs.Lines.{ended_line, text_bytes}
 use Rattle.server_core.specs.Pending.{IsBegun}
 
 pub take-append : (n : ℕ) (xs ys : List ℕ) → take n (xs ++ ys) ≡ take n xs ++ take (n - length xs) ys

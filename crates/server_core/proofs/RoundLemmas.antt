@@ -1,5 +1,5 @@
 -- Whole rounds: the history with a round's events, its trace, and the acts that are due after it.
-use Rattle.std.proofs.Common.{◌≡◌, ℕ, ◌+◌, ◌/◌, ◌==◌, nat_lt, Bool, true, false, not, ◌&&◌, ◌||◌, List, [], ◌∷◌, ◌++◌, map, filter, refl, sym, ap, ◌∙◌, arith, append-nil, if◌then◌else◌}
+use Rattle.std.proofs.Common.{◌≡◌, ℕ, ◌+◌, ◌/◌, ◌==◌, nat_lt, length, Bool, true, false, not, ◌&&◌, ◌||◌, List, [], ◌∷◌, ◌++◌, map, filter, refl, sym, ap, ◌∙◌, arith, append-nil, if◌then◌else◌}
 use Rattle.std.proofs.lemmas.Bool.{eqb-true, false_from_ne_true, true≢false, false≢true}
 use Rattle.std.proofs.lemmas.Bool.{and_parts}
 use Rattle.aprs_base.specs.Cuts.{cuts_by}
@@ -13,13 +13,14 @@ use Rattle.aprs_history.specs.Scenes.{scene_of}
 use Rattle.aprs_history.specs.Verdicts.{verdict_of}
 use Rattle.aprs_history.specs.Trace.{Trace, Dated, FoundGone, RoundBegan, Said, Ticked, Brought, Roomed, Ended, ByPeer, moment_of, stopped_links, served_links, is_live}
 use Rattle.aprs_history.specs.Links.{brought_by, gone_links, is_blocked, late_links, late_reason, taken_by}
+use Rattle.link_queue.specs.Lines.{text_bytes}
 use Rattle.aprs_history.specs.Texts.{lines_of}
 use Rattle.aprs_history.specs.History.{History, open_events, ends_round, is_stop, is_stopped, greatest_link, trace_of, with_event, begun, begin_round, bring, comment_seconds, dated, end_each, end_round, ended, refused_links, refused_reason, say_all}
 use Rattle.aprs_history.specs.Rounds.{is_whole, with_events, events_trace, greatest_after, stopped_after}
 use Rattle.aprs_history.specs.Acts.{acts_after, due, is_offered, offered_links}
 use Rattle.aprs_history.specs.Stands.{CoreSeen, link_seen, Follows}
 use Rattle.server_core.specs.LinkSteps.{is_ready, number_of, numbers}
-use Rattle.server_core.proofs.FollowLemmas.{queued-left}
+use Rattle.server_core.proofs.FollowLemmas.{left_over, queued-bytes}
 use Rattle.server_core.proofs.WalkLemmas.{filter_seen, going_after, late_goes, numbers_seen, refused_goes}
 
 pub ends_not : (n : ℕ) (e next : Event) (events : List Event) → is_whole n (e ∷ next ∷ events) ≡ true → (ends_round n e ≡ false) × (is_whole (n + 1) (next ∷ events) ≡ true)
@@ -160,7 +161,8 @@ history_going s (did.Cast peer bytes ∷ h) no_stop = history_going s h no_stop
 module _ (s : Setting) (core : CoreSeen) (t : Trace) (follows : Follows s core t) where
   ready_seen : (k : ℕ) → is_ready (link_seen s t k) ≡ is_offered s t k
   unfolding link_seen
-  ready_seen k = ap (λ b. not (is_blocked t k) && b) (queued-left (lines_of s t k) (taken_by t k) (follows.took k))
+  ready_seen k = ap (λ b. not (is_blocked t k) && b)
+      (ap (λ bytes. nat_lt 0 (length bytes)) (queued-bytes (lines_of s t k) (taken_by t k) (follows.took k)) ∙ left_over (taken_by t k) (text_bytes (lines_of s t k)))
 
   pub offers_are : map number_of (filter is_ready core.links) ≡ offered_links s t
   offers_are =

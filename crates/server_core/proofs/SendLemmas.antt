@@ -12,7 +12,8 @@ use Rattle.station_table.proofs.LastSeen.{new_agrees}
 use Rattle.aprs_history.specs.Setting.{Setting}
 use Rattle.aprs_history.specs.Trace.{Trace, served_links, is_member}
 use Rattle.aprs_history.specs.Links.{taken_by}
-use Rattle.aprs_history.specs.Texts.{lines_of, text_bytes, untaken}
+use Rattle.link_queue.specs.Lines.{text_bytes}
+use Rattle.aprs_history.specs.Texts.{lines_of, untaken}
 use Rattle.aprs_history.specs.History.{History, trace_of}
 use Rattle.aprs_history.specs.Rounds.{listens_after}
 use Rattle.aprs_history.specs.Stands.{LinkSeen, CoreSeen, link_seen, Follows, StandsFor, Remembers}

@@ -14,6 +14,9 @@ use Rattle.filter_lang.specs.declared.errors.FilterError.TheVariants as error
 use Rattle.filter_lang.proofs.ReadBounds.{few_terms}
 use Rattle.server_core.specs.LinkSteps.{all_few, has_few}
 use Rattle.aprs_history.specs.declared.verdicts.Verdict.{Verdict}
+use Rattle.comment_date.specs.Dates.{date_at}
+use Rattle.comment_date.proofs.TextLemmas.{date_prints, is_printed}
+use Rattle.aprs_history.specs.Dates.{comment_text}
 use Rattle.aprs_history.specs.declared.verdicts.Session.{Session}
 use Rattle.aprs_history.specs.Texts.{login_reply, verified_word}
 use Rattle.aprs_base.specs.Bytes.{IsCall, is_digit, is_inner, is_station, IsInner, IsLine}
@@ -46,6 +49,20 @@ reply_is_line server session h k =
     let size : length (login_reply server session) ≤ 510 = omega (arith, length-append session.call rest, length-append (verified_word session.verified) server, word.1, call_short server h, call_short session.call k) in
     let some : 1 ≤ length (login_reply server session) = omega arith in
     rw (le-leb 1 (length (login_reply server session)) some, le-leb (length (login_reply server session)) 510 size) inner
+
+printed_inner : (b : ℕ) → is_printed b ≡ true → is_inner b ≡ true
+printed_inner b printed = grind (arith, nat_tests)
+
+-- the line that tells the date is one
+pub comment_is_line : (server : List ℕ) (moment : ℕ) → IsCall server → IsLine (comment_text server moment)
+comment_is_line server moment h =
+    let date = date_prints moment in
+    let rest = codes " " ++ server in
+    let rest_inner : IsInner rest = rw list_all-append (rw (call_inner server h) refl) in
+    let inner : IsInner (date_at moment ++ rest) = rw list_all-append (rw (each_weaker is_printed is_inner printed_inner (date_at moment) date.printed, rest_inner) refl) in
+    let size : length (comment_text server moment) ≤ 510 = omega (arith, length-append (date_at moment) rest, date.size, call_short server h) in
+    let some : 1 ≤ length (comment_text server moment) = omega arith in
+    rw (le-leb 1 (length (comment_text server moment)) some, le-leb (length (comment_text server moment)) 510 size) inner
 
 -- what is said of a term has no line end
 no_line_end : (b : ℕ) → is_digit b ≡ true → is_inner b ≡ true

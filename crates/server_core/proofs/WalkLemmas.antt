@@ -22,7 +22,8 @@ use Rattle.aprs_history.specs.Links.{brought_by, opening_of, taken_by, is_gone, 
 use Rattle.aprs_history.specs.Scenes.{accepted_of, has_filters, packet_of}
 use Rattle.aprs_history.specs.Messages.{heard_of, promise_of}
 use Rattle.aprs_history.specs.Sights.{friend_in, is_gate_at, sighting}
-use Rattle.aprs_history.specs.Texts.{comment_line, lines_of, over_links, text_bytes, text_to, added_by, login_reply, refusal_reply}
+use Rattle.link_queue.specs.Lines.{text_bytes}
+use Rattle.aprs_history.specs.Texts.{comment_line, lines_of, over_links, text_to, added_by, login_reply, refusal_reply}
 use Rattle.aprs_history.specs.Stands.{LinkSeen, CoreSeen, link_seen, TookNoMore, Follows, Keeps, Remembers}
 use Rattle.aprs_history.specs.Dates.{comment_text}
 use Rattle.aprs_history.specs.History.{end_all, end_each, end_gone, refused_links, refused_reason}

@@ -179,9 +179,9 @@ new_link_seen number opening = record {
 abbrev pub is_lost : LinkSeen → Bool
 is_lost link = link.gone
 
--- it isn't blocked, and has lines to take
+-- it isn't blocked, and has bytes to take
 abbrev pub is_ready : LinkSeen → Bool
-is_ready link = not link.blocked && nat_lt 0 (length link.queue.lines)
+is_ready link = not link.blocked && nat_lt 0 (length (pending_bytes link.queue))
 
 abbrev pub is_there : LinkSeen → Bool
 is_there link = not link.gone

@@ -1,6 +1,6 @@
 -- The bytes that a queue still has to give.
 use Rattle.std.specs.Prelude.{ℕ, ◌+◌, ◌<◌, ◌≡◌, List, [], ◌∷◌, ◌++◌, length, drop}
-use Rattle.aprs_history.specs.Texts.{Queued, text_bytes, queued}
+use Rattle.link_queue.specs.Lines.{Queued, text_bytes, queued}
 
 -- what is left of the first line, and the lines after it
 abbrev pub pending_bytes : Queued → List ℕ

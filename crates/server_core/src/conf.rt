@@ -20,6 +20,13 @@ pub(crate) fn most_clients(conf: &Conf) -> usize
     conf.max_clients as usize
 }
 
+/// The seconds that a client may be silent.
+pub(crate) fn client_timeout(conf: &Conf) -> u32
+    ensures { result ≡ conf.now.client_timeout }
+{
+    conf.client_timeout
+}
+
 /// The listener of that number, among those that aren't idle.
 fn numbered_at(listens: &[Listen], number: usize) -> Option<ListenSpec>
     ensures { result ≡ slice_get (numbered listens.now) number }

@@ -8,7 +8,6 @@ mod link;
 mod links;
 mod messages;
 mod places;
-mod queue;
 mod replies;
 mod server;
 

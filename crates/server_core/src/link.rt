@@ -4,28 +4,32 @@ ghost use Rattle.std.specs.Arc.{arc_value};
 ghost use Rattle.aprs_base.specs.Held.{held_after};
 ghost use Rattle.server_core.specs.LinkSteps.{at_moment, is_asked_at, is_in_time, is_late_link, is_none_of, is_lost, is_nameless_link, is_ready, list_of, new_link_seen, number_of, passes_packet, wants_packet, when_gone, with_bytes, with_copy, with_filter, with_packet, with_room, with_seen, with_session, with_taken, with_text};
 ghost use Rattle.aprs_base.specs.Bytes.{IsLine, is_station};
+ghost use Rattle.aprs_history.specs.Trace.{is_member};
 ghost use Rattle.aprs_history.specs.Verdicts.{client_origin};
 ghost use Rattle.aprs_history.specs.Scenes.{has_filters, is_only, is_only_kind, verified_login};
 ghost use Rattle.q_construct.specs.Rule.{has_station};
 ghost use Rattle.aprs_base.specs.Cuts.{cuts_by};
 ghost use Rattle.aprs_history.specs.Messages.{is_to_login};
-ghost use Rattle.aprs_history.specs.Texts.{port_wants};
+ghost use Rattle.aprs_history.specs.Texts.{most_waiting, port_wants};
 ghost use Rattle.filter_eval.specs.Passes.{is_some_and, is_text};
 ghost use Rattle.server_core.specs.Pending.{pending_bytes};
 
 use crate::messages::{is_among, is_message_to};
 use crate::places::{forget_friends, see_friend, still_seen};
-use crate::queue::Queue;
 use aprs_base::{Addr, Call, Cut, Cutter, Line, Memory, Packet, PortKind, copy_call};
 use aprs_history::Session;
 use arrayvec::ArrayVec;
 use filter_eval::{Friends, Seen, passes};
 use filter_lang::FilterSet;
+use link_queue::{Overfull, Queue};
 use q_construct::Origin;
 use station_table::seen_in;
 use std::alloc::Global;
 use std::marker::Model;
 use std::sync::Arc;
+
+/// The most lines that a link hasn't wholly taken.
+const MOST_LINES: usize = 1000;
 
 /// The seconds that a link has for its login.
 const LOGIN_SECONDS: u64 = 30;
@@ -62,6 +66,7 @@ impl Model for Link {
     ghost use Rattle.std.specs.Prelude.{Some};
     ghost use Rattle.std.specs.Prelude.{◌≡◌, IsTrue, length};
     ghost use Rattle.aprs_history.specs.Stands.{LinkSeen};
+    ghost use Rattle.aprs_history.specs.Texts.{most_waiting};
     ghost use Rattle.server_core.specs.LinkSteps.{is_login};
 
     ghost Value = { LinkSeen };
@@ -75,13 +80,13 @@ impl Model for Link {
       filter = l.filter;
       friends = l.friends;
       mine = l.mine;
-      queue = l.queue;
+      queue = record { lines = l.queue.lines; offset = l.queue.offset };
       over = l.over;
       blocked = l.blocked;
       gone = l.gone;
     } };
 
-    ghost invariant = { λ l. IsTrue (is_login l.session) × (length l.friends ≡ length l.filter) };
+    ghost invariant = { λ l. IsTrue (is_login l.session) × (length l.friends ≡ length l.filter) × (l.queue.limit ≡ most_waiting) };
 }
 
 impl Link {
@@ -95,8 +100,10 @@ impl Link {
     ) -> Result<Link, Memory>
         ensures { IfOk result (λ l. l ≡ new_link_seen number (record { kind = kind; from = from; moment = moment })) }
     {
-        let mut queue = Queue::new(alloc);
-        queue.push(Arc::new(alloc, known_line(b"# aprsc 1.0"))?)?;
+        let mut queue = Queue::with_limit(alloc, MOST_LINES)?;
+        queue
+            .push(Arc::new(alloc, known_line(b"# aprsc 1.0"))?)
+            .unwrap();
         Ok(Link {
             number,
             kind,
@@ -142,14 +149,14 @@ impl Link {
         session: Session,
         mine: Option<Seen>,
         reply: Arc<Line>,
-    ) -> Result<(), Memory>
+    )
         requires { IsTrue (is_station session.call) }
         ensures number { self.new.link ≡ self.old.link }
-        ensures ok { OnOk result (self.new ≡ with_session session mine (arc_value reply) self.old) }
+        ensures exact { self.new ≡ with_session session mine (arc_value reply) self.old }
     {
         self.session = Some(session);
         self.mine = mine;
-        self.push(reply)
+        self.push(reply);
     }
 
     /// The link has another filter, and is told so. The calls of its terms were last seen there.
@@ -158,14 +165,14 @@ impl Link {
         filter: FilterSet,
         friends: Friends,
         reply: Arc<Line>,
-    ) -> Result<(), Memory>
+    )
         requires { length friends ≡ length filter }
         ensures number { self.new.link ≡ self.old.link }
-        ensures ok { OnOk result (self.new ≡ with_filter filter friends (arc_value reply) self.old) }
+        ensures exact { self.new ≡ with_filter filter friends (arc_value reply) self.old }
     {
         self.filter = filter;
         self.friends = friends;
-        self.push(reply)
+        self.push(reply);
     }
 
     /// Whether it has logged in.
@@ -286,7 +293,7 @@ impl Link {
         ensures ok { OnOk result (self.new ≡ with_copy from packet.now source.now hearers.now owed.now self.old) }
     {
         if self.wants(from, packet, source, hearers, owed) {
-            self.push(packet.line.clone()?)?;
+            self.push(packet.line.clone()?);
         }
         Ok(())
     }
@@ -353,18 +360,17 @@ impl Link {
     }
 
     /// Takes a line, which it is sent after those before. Where it doesn't fit the link is overfull, and takes none any more.
-    pub fn push(&mut self, line: Arc<Line>) -> Result<(), Memory>
+    pub fn push(&mut self, line: Arc<Line>)
         ensures number { self.new.link ≡ self.old.link }
-        ensures ok { OnOk result (self.new ≡ with_text (arc_value line) self.old) }
+        ensures exact { self.new ≡ with_text (arc_value line) self.old }
     {
         if self.over {
-            return Ok(());
+            return;
         }
-        if self.queue.is_full() {
-            self.over = true;
-            return Ok(());
+        match self.queue.push(line) {
+            Ok(()) => {}
+            Err(Overfull) => self.over = true,
         }
-        self.queue.push(line)
     }
 
     /// Whether it has not logged in for half a minute, or has brought no bytes for so many seconds.
@@ -384,7 +390,7 @@ impl Link {
     pub fn is_none_of(&self, numbers: &[u32]) -> bool
         ensures { result ≡ is_none_of numbers.now self.now }
     {
-        !numbers.iter().any(|number| *number == self.number)
+        !has_member(numbers, self.number)
     }
 
     fn is_nameless(&self, now: u64) -> bool
@@ -407,7 +413,6 @@ impl Link {
 
     pub fn take(&mut self, offered: usize, count: usize)
         requires pending { count ≤ length (pending_bytes self.old.queue) }
-        requires small { count ≤ 65536 }
         ensures { self.new ≡ with_taken offered count self.old }
     {
         self.queue.taken(count);
@@ -425,8 +430,14 @@ impl Link {
     pub fn is_ready(&self) -> bool
         ensures { result ≡ is_ready self.now }
     {
-        !self.blocked && !self.queue.is_empty()
+        !self.blocked && self.queue.pending() > 0
     }
+}
+
+fn has_member(numbers: &[u32], number: u32) -> bool
+    ensures { result ≡ is_member number numbers.now }
+{
+    numbers.iter().any(|other| *other == number)
 }
 
 /// Whether a port of this kind serves clients alone.

@@ -1,5 +1,6 @@
 //! The links of the core, in the order of their numbers.
-ghost use Rattle.std.specs.Prelude.{◌≡◌, ℕ, ◌≤◌, ◌<◌, ◌^◌, ◌++◌, [], IsTrue, List, None, Some, OnOk, IfOk, is_some, min, take, IfSome, length, map, option_map, position, filter};
+ghost use Rattle.std.specs.Prelude.{◌≡◌, ℕ, ◌≤◌, ◌<◌, ◌^◌, ◌++◌, [], IsTrue, List, None, Some, OnOk, IfOk, is_some, min, take, IfSome, length, map, option_map, position, filter, nat_le};
+ghost use Rattle.std.specs.List.{prefix_len};
 ghost use Rattle.std.specs.Arc.{arc_value};
 ghost use Rattle.server_core.specs.LinkSteps.{Rises, at_link, at_moment, filters_at, list_of, only_at, other_login, others_at, number_of, has_that, held_at, is_another, is_in_time, is_late_link, is_none_of, is_overfull, is_ready, is_there, numbers, pending_at, session_at, when_gone, with_bytes, with_filter, with_packet, with_room, with_session, with_taken, with_text};
 ghost use Rattle.aprs_base.specs.Bytes.{is_station};
@@ -51,7 +52,6 @@ pub(crate) fn lose(links: &mut Vec<Link>, number: u32)
 pub(crate) fn take(links: &mut Vec<Link>, number: u32, offered: usize, count: usize)
     requires rises { Rises 0 (numbers links.old.items) (2 ^ 32) }
     requires pending { count ≤ length (pending_at number links.old.items) }
-    requires small { count ≤ 65536 }
     ensures { links.new.items ≡ map (at_link number (with_taken offered count)) links.old.items }
 {
     match place_of(links.as_slice(), number) {
@@ -131,7 +131,7 @@ pub(crate) fn tell_all(links: &mut Vec<Link>, line: &Arc<Line>) -> Result<(), Me
     ensures ok { OnOk result (links.new.items ≡ map (with_text (arc_value line.now)) links.old.items) }
 {
     for link in links.iter_mut() {
-        link.push(line.clone()?)?;
+        link.push(line.clone()?);
     }
     Ok(())
 }
@@ -185,12 +185,15 @@ pub(crate) fn drop_these(links: &mut Vec<Link>, numbers: &[u32])
 pub(crate) fn place(numbers: &mut Vec<u32>, number: u32) -> Result<(), Memory>
     ensures { OnOk result (numbers.new.items ≡ placed number numbers.old.items) }
 {
-    let place = numbers
-        .iter()
-        .position(|other| number < *other)
-        .unwrap_or(numbers.len());
-    numbers.insert(place, number)?;
+    numbers.insert(place_for(numbers.as_slice(), number), number)?;
     Ok(())
+}
+
+/// How many numbers come before the first that is above this one.
+fn place_for(numbers: &[u32], number: u32) -> usize
+    ensures { result ≡ prefix_len (λ n. nat_le n number) numbers.now }
+{
+    numbers.iter().take_while(|other| **other <= number).count()
 }
 
 /// The same for several, one after another.
@@ -269,17 +272,16 @@ pub(crate) fn others(alloc: Global, links: &[Link], number: u32) -> Result<Vec<C
 }
 
 /// A line for the link of that number.
-pub(crate) fn reply(links: &mut Vec<Link>, number: u32, line: Arc<Line>) -> Result<(), Memory>
+pub(crate) fn reply(links: &mut Vec<Link>, number: u32, line: Arc<Line>)
     requires { Rises 0 (numbers links.old.items) (2 ^ 32) }
     ensures numbers { numbers links.new.items ≡ numbers links.old.items }
-    ensures ok { OnOk result (links.new.items ≡ map (at_link number (with_text (arc_value line))) links.old.items) }
+    ensures exact { links.new.items ≡ map (at_link number (with_text (arc_value line))) links.old.items }
 {
     match place_of(links.as_slice(), number) {
         Some(place) => {
-            links[place].push(line)?;
-            Ok(())
+            links[place].push(line);
         }
-        None => Ok(()),
+        None => {}
     }
 }
 
@@ -290,18 +292,17 @@ pub(crate) fn log_in(
     session: Session,
     mine: Option<Seen>,
     reply: Arc<Line>,
-) -> Result<(), Memory>
+)
     requires rises { Rises 0 (numbers links.old.items) (2 ^ 32) }
     requires station { IsTrue (is_station session.call) }
     ensures numbers { numbers links.new.items ≡ numbers links.old.items }
-    ensures ok { OnOk result (links.new.items ≡ map (at_link number (with_session session mine (arc_value reply))) links.old.items) }
+    ensures exact { links.new.items ≡ map (at_link number (with_session session mine (arc_value reply))) links.old.items }
 {
     match place_of(links.as_slice(), number) {
         Some(place) => {
-            links[place].log_in(session, mine, reply)?;
-            Ok(())
+            links[place].log_in(session, mine, reply);
         }
-        None => Ok(()),
+        None => {}
     }
 }
 
@@ -312,18 +313,17 @@ pub(crate) fn set_filter(
     filter: FilterSet,
     friends: Friends,
     reply: Arc<Line>,
-) -> Result<(), Memory>
+)
     requires rises { Rises 0 (numbers links.old.items) (2 ^ 32) }
     requires many { length friends ≡ length filter }
     ensures numbers { numbers links.new.items ≡ numbers links.old.items }
-    ensures ok { OnOk result (links.new.items ≡ map (at_link number (with_filter filter friends (arc_value reply))) links.old.items) }
+    ensures exact { links.new.items ≡ map (at_link number (with_filter filter friends (arc_value reply))) links.old.items }
 {
     match place_of(links.as_slice(), number) {
         Some(place) => {
-            links[place].set_filter(filter, friends, reply)?;
-            Ok(())
+            links[place].set_filter(filter, friends, reply);
         }
-        None => Ok(()),
+        None => {}
     }
 }
 

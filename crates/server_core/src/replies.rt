@@ -11,6 +11,7 @@ use crate::link::known_line;
 use aprs_base::{Call, Line, Memory};
 use aprs_history::{FilterFault, Refusal, Session};
 use arrayvec::ArrayVec;
+use comment_date::date_at;
 use filter_lang::FilterSet;
 use login_pass::LoginFault;
 use std::alloc::Global;
@@ -33,6 +34,7 @@ pub(crate) fn comment_of(server: &Call, moment: u64) -> Line
 {
     let mut text = ArrayVec::new();
     append(&mut text, b"# aprsc 1.0 ");
+    append(&mut text, &date_at(moment));
     append(&mut text, b" ");
     append(&mut text, server.bytes());
     known_line(text.as_slice())

@@ -26,7 +26,7 @@ ghost use Rattle.server_core.specs.Steps.{AfterEvent, SameRest, Walks, saying, s
 mod tests;
 
 use crate::acts::Acts;
-use crate::conf::{most_clients, served_by, server_of};
+use crate::conf::{client_timeout, most_clients, served_by, server_of};
 use crate::judging::{is_comment_line, judge_command, judge_login, judge_packet};
 use crate::link::{Link, SourcePlace};
 use crate::links::{
@@ -161,7 +161,10 @@ impl Core {
         ensures { OnOk result (self.new ≡ with_verdict number (Verdict.Refused refusal.now) self.old) }
     {
         match refusal_line(refusal) {
-            Some(line) => reply(&mut self.links, number, Arc::new(alloc, line)?),
+            Some(line) => {
+                reply(&mut self.links, number, Arc::new(alloc, line)?);
+                Ok(())
+            }
             None => Ok(()),
         }
     }
@@ -173,7 +176,8 @@ impl Core {
     {
         let mine = self.stations.place_of(&session.call, self.moment);
         let line = Arc::new(alloc, login_line(server_of(&self.conf), &session))?;
-        log_in(&mut self.links, number, session, mine, line)
+        log_in(&mut self.links, number, session, mine, line);
+        Ok(())
     }
 
     /// The link of that number has another filter, and is told so.
@@ -189,7 +193,8 @@ impl Core {
     {
         let friends = friends_found(&self.stations, self.moment, &filter);
         let line = Arc::new(alloc, line)?;
-        set_filter(&mut self.links, number, filter, friends, line)
+        set_filter(&mut self.links, number, filter, friends, line);
+        Ok(())
     }
 
     /// The answer to a filter.
@@ -201,7 +206,8 @@ impl Core {
             FilterAnswer::Active(filter, line) => self.set_filter(alloc, number, filter, line),
             FilterAnswer::Denied(fault) => {
                 let line = Arc::new(alloc, denied_line(alloc, fault)?)?;
-                reply(&mut self.links, number, line)
+                reply(&mut self.links, number, line);
+                Ok(())
             }
         }
     }
@@ -427,7 +433,7 @@ impl Core {
         late(
             alloc,
             self.links.as_slice(),
-            self.conf.client_timeout,
+            client_timeout(&self.conf),
             self.moment,
         )
     }
@@ -438,8 +444,9 @@ impl Core {
             → OnOk result (Walks self.new (end_each (late_reason t) (late_links self.old.conf.client_timeout t) t)) }
         ensures rest { OnOk result (SameRest self.old self.new) }
     {
+        let timeout = client_timeout(&self.conf);
         forget_all(&mut self.heard, ends);
-        drop_late(&mut self.links, self.conf.client_timeout, self.moment);
+        drop_late(&mut self.links, timeout, self.moment);
         place_all(&mut self.closing, ends)
     }
 

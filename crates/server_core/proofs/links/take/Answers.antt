@@ -4,11 +4,11 @@ use Rattle.server_core.specs.LinkSteps.{has_that, with_taken, pending_of}
 use Rattle.server_core.proofs.LinkLemmas.{changed_by, changed_nowhere, picked_found}
 use Rattle.server_core.proofs.links.take.Goals as goal
 
-pub take-requires-clause-pending : goal.take-requires-clause-pending
-take-requires-clause-pending c =
+pub take-requires : goal.take-requires
+take-requires c =
     let found = c.in-Some.ensures ∙ ap (position (has_that c.args.number)) c.as_slice.ensures.value in
     let here = picked_found pending_of [] c.args.number c.args.links.now.items c.in-Some.place c.index_mut.result.now found c.index_mut.ensures.value in
-    subst (λ bytes. c.args.count ≤ length bytes) here c.requires.pending
+    record { pending = subst (λ bytes. c.args.count ≤ length bytes) here c.requires.pending }
 
 pub returns-in-Some : goal.returns-in-Some
 returns-in-Some c =

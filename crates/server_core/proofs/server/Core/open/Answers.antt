@@ -4,7 +4,7 @@ use Rattle.aprs_history.specs.Setting.{kind_at}
 use Rattle.server_core.specs.LinkSteps.{number_of}
 use Rattle.server_core.specs.Meaning.{CoreMeaning, setting_of}
 use Rattle.server_core.specs.Steps.{Walks}
-use Rattle.server_core.proofs.CoreLemmas.{walks_served, walks_turned, walks_unserved, kept_above, kept_links, kept_pushed}
+use Rattle.server_core.proofs.CoreLemmas.{walks_served, walks_turned, walks_unserved, kept_above, kept_links, kept_pushed, kept_turned}
 use Rattle.server_core.proofs.server.Core.open.Goals as goal
 
 pub invariant_of-self : goal.invariant_of-self
@@ -22,10 +22,10 @@ invariant_of-self-in-Served c =
     (ap number_of c.in_ok-open-in-Served.ensures) c.in_ok-push-in-Served.ensures.items
 
 pub invariant_of-self-in_err-push-in-TurnedAway : goal.invariant_of-self-in_err-push-in-TurnedAway
-invariant_of-self-in_err-push-in-TurnedAway c = kept_above _ c.args.number c.self.invariant (subst (λ n. n < c.args.number) (sym (ap (λ (core : CoreMeaning). core.seen.greatest) c.self.view_is)) c.requires) (omega (arith, c.ranges.number.fits))
+invariant_of-self-in_err-push-in-TurnedAway c = kept_turned _ c.push-in-TurnedAway.new.self.items (kept_above _ c.args.number c.self.invariant (subst (λ n. n < c.args.number) (sym (ap (λ (core : CoreMeaning). core.seen.greatest) c.self.view_is)) c.requires) (omega (arith, c.ranges.number.fits)))
 
 pub invariant_of-self-in-TurnedAway : goal.invariant_of-self-in-TurnedAway
-invariant_of-self-in-TurnedAway c = kept_above _ c.args.number c.self.invariant (subst (λ n. n < c.args.number) (sym (ap (λ (core : CoreMeaning). core.seen.greatest) c.self.view_is)) c.requires) (omega (arith, c.ranges.number.fits))
+invariant_of-self-in-TurnedAway c = kept_turned _ c.push-in-TurnedAway.new.self.items (kept_above _ c.args.number c.self.invariant (subst (λ n. n < c.args.number) (sym (ap (λ (core : CoreMeaning). core.seen.greatest) c.self.view_is)) c.requires) (omega (arith, c.ranges.number.fits)))
 
 pub invariant_of-self-in-NoPort : goal.invariant_of-self-in-NoPort
 invariant_of-self-in-NoPort c = kept_above _ c.args.number c.self.invariant (subst (λ n. n < c.args.number) (sym (ap (λ (core : CoreMeaning). core.seen.greatest) c.self.view_is)) c.requires) (omega (arith, c.ranges.number.fits))

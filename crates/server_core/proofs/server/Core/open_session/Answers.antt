@@ -1,5 +1,4 @@
 use Rattle.std.proofs.Common.{◌≡◌, ◌^◌, arith, ap, ◌∙◌, map}
-use Rattle.std.proofs.lemmas.Result.{on_ok_weaker}
 use Rattle.std.specs.Arc.{arc_value}
 use Rattle.filter_eval.specs.Passes.{fresh}
 use Rattle.station_table.specs.Stations.{place_at}
@@ -19,9 +18,7 @@ returns c =
     let core : CoreMeaning = record { conf = inside.conf; seen = record { moment = inside.moment; links = inside.links.items; turned = inside.turned.items; closing = inside.closing.items; accepted = inside.accepted.items; stations = inside.stations; heard = inside.heard; greatest = inside.greatest; stopped = inside.stopped } } in
     let reply : arc_value c.in_ok-line.line ≡ login_reply inside.conf.server c.args.session =
     c.in_ok-line.ensures.ok ∙ c.login_line.ensures ∙ ap (λ server. login_reply server c.args.session) c.server_of.ensures in
-    on_ok_weaker c.log_in.result
-    (λ is. ap (λ links. relinked links core) (is
+    ap (λ links. relinked links core) (c.log_in.ensures.exact
     ∙ ap (λ mine. map (at_link c.args.number (with_session c.args.session mine (arc_value c.in_ok-line.line))) inside.links.items) c.place_of-mine.ensures.exact
     ∙ ap (λ line. map (at_link c.args.number (with_session c.args.session (fresh inside.moment (place_at inside.stations c.args.session.call)) line)) inside.links.items) reply)
-    ∙ ap (λ (core : CoreMeaning). record core { seen = after_login core.conf.server c.args.number c.args.session core.seen }) c.self.view_is)
-    c.log_in.ensures.ok
+    ∙ ap (λ (core : CoreMeaning). record core { seen = after_login core.conf.server c.args.number c.args.session core.seen }) c.self.view_is
