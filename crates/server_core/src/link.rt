@@ -144,12 +144,7 @@ impl Link {
     }
 
     /// The link has logged in, and is told so. Its login was last seen there.
-    pub fn log_in(
-        &mut self,
-        session: Session,
-        mine: Option<Seen>,
-        reply: Arc<Line>,
-    )
+    pub fn log_in(&mut self, session: Session, mine: Option<Seen>, reply: Arc<Line>)
         requires { IsTrue (is_station session.call) }
         ensures number { self.new.link ≡ self.old.link }
         ensures exact { self.new ≡ with_session session mine (arc_value reply) self.old }
@@ -160,12 +155,7 @@ impl Link {
     }
 
     /// The link has another filter, and is told so. The calls of its terms were last seen there.
-    pub fn set_filter(
-        &mut self,
-        filter: FilterSet,
-        friends: Friends,
-        reply: Arc<Line>,
-    )
+    pub fn set_filter(&mut self, filter: FilterSet, friends: Friends, reply: Arc<Line>)
         requires { length friends ≡ length filter }
         ensures number { self.new.link ≡ self.old.link }
         ensures exact { self.new ≡ with_filter filter friends (arc_value reply) self.old }

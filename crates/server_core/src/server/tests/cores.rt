@@ -36,8 +36,15 @@ fn listen(alloc: Global, kind: PortKind) -> Listen {
     }
 }
 
+/// How many seconds a client may be silent, and how many clients may be there.
+#[derive(Clone, Copy)]
+pub(super) struct Limits {
+    pub silence: u32,
+    pub clients: u32,
+}
+
 /// A full port, an igate port and one for clients alone.
-fn conf_of<R: Abort>(rt: &R, alloc: Global, server: Call) -> Conf
+fn conf_of<R: Abort>(rt: &R, alloc: Global, server: Call, limits: Limits) -> Conf
     ensures server { result.server ≡ server }
     ensures listens { length (numbered result.listens) ≤ 16 }
 {
@@ -56,17 +63,22 @@ fn conf_of<R: Abort>(rt: &R, alloc: Global, server: Call) -> Conf
         group: None,
         peers: Vec::new(alloc),
         up_timeout: 15,
-        client_timeout: 172_800,
-        max_clients: 500,
+        client_timeout: limits.silence,
+        max_clients: limits.clients,
     }
 }
 
 /// A core with this call and those ports.
-pub(super) fn core_of<R: RandomSource + Abort>(rt: &R, alloc: Global, server: &[u8]) -> Core {
+pub(super) fn core_of<R: RandomSource + Abort>(
+    rt: &R,
+    alloc: Global,
+    server: &[u8],
+    limits: Limits,
+) -> Core {
     let server = Call::read(server).expect(rt, "a call");
     assert!(rt; server.is_station());
     let hasher = RandomState::new(rt).expect(rt, "a hasher");
-    Core::new(alloc, &hasher, conf_of(rt, alloc, server), 1).expect(rt, "memory")
+    Core::new(alloc, &hasher, conf_of(rt, alloc, server, limits), 1).expect(rt, "memory")
 }
 
 pub(super) fn opened(link: u32, listener: u16) -> Event {

@@ -182,7 +182,7 @@ fn filters_by_the_last_filter(rt: HostRuntime) {
 }
 
 /// OH7LZB is seen at 1000, and K1ABC logs in on the full port nearly two days later.
-const SEEN: [Row<'static>; 15] = [
+const SEEN: [Row<'static>; 17] = [
     Row::Opens(1, 1),
     Row::Opens(2, 0),
     Row::Says(1, b"user K1XYZ pass 14986\r\n"),
@@ -194,7 +194,9 @@ const SEEN: [Row<'static>; 15] = [
     Row::Gets(1, b""),
     Row::Tick(100_000),
     Row::Says(1, b"#k\r\n"),
+    Row::Drains(1),
     Row::Tick(173_799),
+    Row::Drains(1),
     Row::Opens(3, 0),
     Row::Says(3, b"user K1ABC pass 14993\r\n"),
     Row::Drains(3),
@@ -214,6 +216,7 @@ fn knows_places_for_two_days(rt: HostRuntime) {
     for (moment, heard) in &NEAR {
         let rows = [
             Row::Tick(*moment),
+            Row::Drains(1),
             Row::Says(3, b"K1ABC>APRS:!4903.50N/07201.75W-a\r\n"),
             Row::Gets(1, heard),
         ];

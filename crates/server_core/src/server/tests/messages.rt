@@ -26,11 +26,13 @@ const PLACED: &[u8] = b"OH7LZB>APRS,TCPIP*,qAC,T2TEST:!4903.50N/07201.75W-\r\n";
 const NEXT_PLACE: &[u8] = b"OH7LZB>APRS:!4903.50N/07201.76W-\r\n";
 
 /// Three hours after the station was heard, and half an hour after the message.
-const IN_TIME: [Row<'static>; 8] = [
+const IN_TIME: [Row<'static>; 10] = [
     Row::Tick(11800),
+    Row::Drains(1),
     Row::Says(2, SAID),
     Row::Gets(1, TOLD),
     Row::Tick(13600),
+    Row::Drains(1),
     Row::Says(2, PLACE),
     Row::Gets(1, PLACED),
     Row::Says(2, NEXT_PLACE),
@@ -43,7 +45,12 @@ fn sends_messages_for_heard_stations(rt: HostRuntime) {
 }
 
 /// A second later than three hours.
-const MESSAGE_LATE: [Row<'static>; 3] = [Row::Tick(11801), Row::Says(2, SAID), Row::Gets(1, b"")];
+const MESSAGE_LATE: [Row<'static>; 4] = [
+    Row::Tick(11801),
+    Row::Drains(1),
+    Row::Says(2, SAID),
+    Row::Gets(1, b""),
+];
 
 #[test]
 fn sends_no_message_after_three_hours(rt: HostRuntime) {
@@ -51,11 +58,13 @@ fn sends_no_message_after_three_hours(rt: HostRuntime) {
 }
 
 /// A second later than half an hour.
-const POSITION_LATE: [Row<'static>; 6] = [
+const POSITION_LATE: [Row<'static>; 8] = [
     Row::Tick(11800),
+    Row::Drains(1),
     Row::Says(2, SAID),
     Row::Gets(1, TOLD),
     Row::Tick(13601),
+    Row::Drains(1),
     Row::Says(2, PLACE),
     Row::Gets(1, b""),
 ];
@@ -109,7 +118,7 @@ const GATEWAY: [Row<'static>; 6] = [
     Row::Drains(2),
 ];
 
-const GATED: [Row<'static>; 12] = [
+const GATED: [Row<'static>; 15] = [
     Row::Gets(
         1,
         b"# aprsc 1.0\r\n# logresp K1XYZ verified, server T2TEST\r\n# filter m/50 active\r\n",
@@ -125,6 +134,9 @@ const GATED: [Row<'static>; 12] = [
     Row::Says(2, b"K1ABC>APRS::N1ABC    :hello{1\r\n"),
     Row::Gets(1, b"K1ABC>APRS,TCPIP*,qAC,T2TEST::N1ABC    :hello{1\r\n"),
     Row::Gets(2, b""),
+    Row::Tick(784111780),
+    Row::Gets(1, b"# aprsc 1.0 06 Nov 1994 08:49:40 GMT T2TEST\r\n"),
+    Row::Gets(2, b"# aprsc 1.0 06 Nov 1994 08:49:40 GMT T2TEST\r\n"),
 ];
 
 #[test]

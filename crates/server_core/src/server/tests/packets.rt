@@ -68,7 +68,7 @@ fn sends_packets_to_the_others(rt: HostRuntime) {
 }
 
 /// What N0CALL says at some moments, and what K1ABC-9 hears of it.
-const REPEATS: [Row<'static>; 20] = [
+const REPEATS: [Row<'static>; 21] = [
     Row::Says(1, b"N0CALL>APRS,WIDE1-1:>hi\r\n"),
     Row::Gets(2, HI),
     Row::Tick(1005),
@@ -81,6 +81,7 @@ const REPEATS: [Row<'static>; 20] = [
     Row::Says(1, b"N0CALL>APRS:>hi there\r\n"),
     Row::Gets(2, b"N0CALL>APRS,TCPIP*,qAC,T2TEST:>hi there\r\n"),
     Row::Tick(1029),
+    Row::Drains(2),
     Row::Says(1, b"N0CALL>APRS,WIDE1-1:>hi\r\n"),
     Row::Gets(2, b""),
     Row::Tick(1030),

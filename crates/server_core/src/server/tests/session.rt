@@ -1,6 +1,6 @@
 //! Sessions as tables of rows.
 use super::super::Core;
-use super::cores::{bytes, core_of, is_served, opened, round, take_next};
+use super::cores::{Limits, bytes, core_of, is_served, opened, round, take_next};
 use crate::acts::Acts;
 use aprs_base::Event;
 use std::alloc::Global;
@@ -43,6 +43,12 @@ pub(super) enum Row<'a> {
     /// The accepted packet at this place, from 0, came at this moment, and its body has these classes.
     Keeps(usize, u64, u16),
 }
+
+/// The limits of a configuration that names none.
+pub(super) const USUAL: Limits = Limits {
+    silence: 172_800,
+    clients: 500,
+};
 
 /// A core, the events of the round that goes on, and what was to be done after the last.
 #[derive(Drop)]
@@ -144,9 +150,14 @@ fn no_acts(alloc: Global) -> Acts {
     }
 }
 
-fn new_session<R: RandomSource + Abort>(rt: &R, alloc: Global, server: &[u8]) -> Session {
+fn new_session<R: RandomSource + Abort>(
+    rt: &R,
+    alloc: Global,
+    server: &[u8],
+    limits: Limits,
+) -> Session {
     Session {
-        core: core_of(rt, alloc, server),
+        core: core_of(rt, alloc, server, limits),
         events: Vec::new(alloc),
         acts: no_acts(alloc),
     }
@@ -160,10 +171,22 @@ pub(super) fn run<R: Threads + Sync + RandomSource + Abort>(
     first: &[Row],
     more: &[Row],
 ) {
-    let mut session = new_session(rt, alloc, server);
+    let mut session = new_session(rt, alloc, server, USUAL);
     play(rt, alloc, &mut session, &[Row::Tick(1000)]);
     play(rt, alloc, &mut session, first);
     play(rt, alloc, &mut session, more);
+}
+
+/// The same for a server with these limits.
+pub(super) fn run_within<R: Threads + Sync + RandomSource + Abort>(
+    rt: &R,
+    alloc: Global,
+    limits: Limits,
+    rows: &[Row],
+) {
+    let mut session = new_session(rt, alloc, b"T2TEST", limits);
+    play(rt, alloc, &mut session, &[Row::Tick(1000)]);
+    play(rt, alloc, &mut session, rows);
 }
 
 /// The head, so many times the piece, and the end.
