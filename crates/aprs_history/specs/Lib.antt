@@ -1,4 +1,5 @@
 pub mod Acts
+pub mod Headline
 pub mod History
 pub mod Keys
 pub mod Links

@@ -1,0 +1,51 @@
+-- What every run keeps: the bytes that links take, whose packets their texts have, and which links are closed.
+use Rattle.std.specs.Prelude.{◌≡◌, ◌≢◌, ℕ, ◌==◌, ◌<◌, List, [], ◌∷◌, ◌++◌, take, IfSome, IsTrue, if◌then◌else◌, ⊤}
+use Rattle.std.specs.List.{All}
+use Rattle.aprs_base.specs.Outside.{new_link}
+use Rattle.aprs_base.specs.PacketSeen.{PacketSeen}
+use Rattle.aprs_base.specs.declared.packets.Source.TheVariants as source
+use Rattle.aprs_base.specs.declared.events.Sent.{Sent}
+use Rattle.aprs_base.specs.declared.events.Sent.TheVariants as sent
+use Rattle.aprs_base.specs.declared.events.Happening.TheVariants as did
+use Rattle.aprs_history.specs.Setting.{Setting}
+use Rattle.aprs_history.specs.Trace.{Trace, closed_links, is_member}
+use Rattle.aprs_history.specs.Texts.{TextLine, Relayed, lines_of, text_bytes, text_to, untaken}
+use Rattle.aprs_history.specs.History.{History, greatest_link, trace_of}
+use Rattle.aprs_history.specs.Acts.{IsRun}
+
+-- each link that an event brings has a number above all before it
+abbrev pub HasFreshLinks : History → Type 0
+HasFreshLinks [] = ⊤
+HasFreshLinks (did.Event e ∷ earlier) = HasFreshLinks earlier × IfSome (new_link e) (λ link. greatest_link earlier < link)
+HasFreshLinks (x ∷ earlier) = HasFreshLinks earlier
+
+-- the bytes that were taken of those that were sent
+abbrev pub taken_of : List ℕ → Sent → List ℕ
+taken_of bytes (sent.Took n) = take n bytes
+taken_of bytes sent.Gone = []
+
+-- the bytes that a link took, in order
+abbrev pub taken_bytes : History → ℕ → List ℕ
+taken_bytes [] link = []
+taken_bytes (did.Sent to bytes outcome ∷ earlier) link = if link == to then taken_bytes earlier link ++ taken_of bytes outcome else taken_bytes earlier link
+taken_bytes (x ∷ earlier) link = taken_bytes earlier link
+
+-- the bytes that a link took are a prefix of its text, and the rest is what it is offered next
+abbrev pub TakesPrefix : Setting → History → ℕ → Type 0
+TakesPrefix setting history link =
+    text_bytes (lines_of setting (trace_of setting history) link) ≡ taken_bytes history link ++ untaken setting (trace_of setting history) link
+
+abbrev pub LinksTakePrefixes : Type 0
+LinksTakePrefixes = (setting : Setting) (history : History) → IsRun setting history → HasFreshLinks history → (link : ℕ) → TakesPrefix setting history link
+
+-- a line isn't a packet that the link sent itself
+abbrev pub IsOfAnother : ℕ → TextLine → Type 0
+IsOfAnother link line = (packet : PacketSeen) → line.kind ≡ Relayed packet → packet.from ≢ source.Link link
+
+abbrev pub NoneHearThemselves : Type 0
+NoneHearThemselves = (setting : Setting) (trace : Trace) (link : ℕ) → All (IsOfAnother link) (text_to setting trace link).lines
+
+-- a link is closed only where it ended in that round by a reason that closes
+abbrev pub ClosesHaveReasons : Type 0
+ClosesHaveReasons = (setting : Setting) (later earlier : History) (link : ℕ) → IsRun setting (later ++ did.Closed link ∷ earlier)
+    → IsTrue (is_member link (closed_links (trace_of setting earlier)))
