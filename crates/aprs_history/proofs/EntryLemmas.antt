@@ -66,7 +66,7 @@ module _ (s : Setting) (Opens : ℕ → Type 0) (R : Trace → Type 0) (adds : (
     kept_stopped [] t r = r
     kept_stopped (k ∷ ks) t r = kept_stopped ks (Ended k ByStop ∷ t) (stops t k r)
 
-    kept_ended : (ends : Bool) (e : Event) (t : Trace) → R t → R (ended ends e t)
+    pub kept_ended : (ends : Bool) (e : Event) (t : Trace) → R t → R (ended ends e t)
     kept_ended false e t r = r
     kept_ended true e t r = kept_stop (is_stop e) t r
       where

@@ -3,6 +3,7 @@ pub mod Headline
 pub mod History
 pub mod Keys
 pub mod Links
+pub mod MessageRule
 pub mod Messages
 pub mod Rounds
 pub mod Runs

@@ -1,5 +1,6 @@
 //! What every run of the server keeps, as laws of the definitions.
 ghost use Rattle.aprs_history.specs.Headline.{ClosesHaveReasons, LinksTakePrefixes, NoneHearThemselves};
+ghost use Rattle.aprs_history.specs.MessageRule.{HeardIsLastAccepted, PromisesAreOwed};
 
 /// The bytes that each link takes are a prefix of its text, no line of its text is a packet that it sent itself, and a link is
 /// closed only where it ended by a reason that closes.
@@ -7,4 +8,12 @@ pub fn runs_keep_the_promise()
     ensures takes { LinksTakePrefixes }
     ensures others { NoneHearThemselves }
     ensures closes { ClosesHaveReasons }
+{}
+
+/// A link heard a call where a packet of that source was accepted from it, at the last one's moment. A link is owed the next
+/// position of a sender exactly where a message of that sender went to it for what it heard, with no position of the sender
+/// since.
+pub fn messages_follow_the_rule()
+    ensures heard { HeardIsLastAccepted }
+    ensures owed { PromisesAreOwed }
 {}

@@ -4,5 +4,5 @@
 mod laws;
 mod verdicts;
 
-pub use laws::runs_keep_the_promise;
+pub use laws::{messages_follow_the_rule, runs_keep_the_promise};
 pub use verdicts::{FilterAnswer, FilterFault, Refusal, Session, Verdict, copy_session};
