@@ -1,5 +1,5 @@
 -- What links take is a prefix of their texts, no text has its link's own packets, and closes have reasons.
-use Rattle.std.proofs.Common.{◌≡◌, ◌≢◌, ℕ, ◌+◌, ◌-◌, ◌≤◌, ◌<◌, ◌==◌, Bool, true, false, List, [], ◌∷◌, ◌++◌, take, drop, length, min, refl, sym, ap, ◌∙◌, subst, arith, IfSome, Option, Some, None, ⊎_elim, ◌⊎◌, inl, inr, append-nil, append_assoc, length-append, length-take, length-drop, eq-eqb, if◌then◌else◌}
+use Rattle.std.proofs.Common.{◌≡◌, ◌≢◌, ℕ, ◌+◌, ◌-◌, ◌≤◌, ◌<◌, ◌==◌, Bool, true, false, List, [], ◌∷◌, ◌++◌, take, drop, length, min, refl, sym, ap, ◌∙◌, subst, arith, IfSome, Option, Some, None, ⊎_elim, ◌⊎◌, inl, inr, append-nil, append_assoc, length-append, length-take, length-drop, eq-eqb, cond, nat_lt, ◌||◌, if◌then◌else◌}
 use Rattle.std.specs.Bool.{⊤}
 use Rattle.std.specs.List.{All}
 use Rattle.std.proofs.lemmas.Bool.{eqb-true, cases_Bool, true≢false}
@@ -18,13 +18,13 @@ use Rattle.aprs_history.specs.declared.verdicts.FilterAnswer.{FilterAnswer}
 use Rattle.aprs_history.specs.declared.verdicts.Verdict.{Verdict}
 use Rattle.aprs_history.specs.declared.verdicts.Verdict.TheVariants.{PassedOver, Refused, LoggedIn, Filtered, Accepted}
 use Rattle.aprs_history.specs.Setting.{Setting}
-use Rattle.aprs_history.specs.Trace.{Trace, Admission, NoPort, Served, Entry, RoundBegan, Ticked, Opened, Brought, Said, Roomed, Took, Lost, Ended, closed_links, moment_of}
+use Rattle.aprs_history.specs.Trace.{Trace, Admission, NoPort, Served, Entry, RoundBegan, Ticked, Opened, Brought, Said, Roomed, Took, Lost, Ended, is_closing, is_member, closed_links, moment_of, placed}
 use Rattle.aprs_history.specs.Links.{taken_by}
 use Rattle.aprs_history.specs.Scenes.{packet_of}
 use Rattle.aprs_history.specs.Texts.{Banner, Relayed, TextLine, added_by, banner, banner_of, ended_line, filter_reply, lines_of, login_filter_reply, login_reply, plain, plain_line, refusal_reply, relayed, reply_lines, reply_of, text_bytes, text_to, untaken, wants}
 use Rattle.aprs_history.specs.History.{History, ends_round, greater_link, greatest_link, is_stopped, open_events, trace_of}
 use Rattle.aprs_history.specs.Acts.{IsRun, but_first, due}
-use Rattle.aprs_history.specs.Headline.{HasFreshLinks, IsOfAnother, LinksTakePrefixes, NoneHearThemselves, ClosesHaveReasons, taken_bytes}
+use Rattle.aprs_history.specs.Headline.{HasEnded, is_round_start, HasFreshLinks, IsOfAnother, LinksTakePrefixes, NoneHearThemselves, ClosesHaveReasons, taken_bytes}
 use Rattle.aprs_history.proofs.EntryLemmas.{MayAdd, kept_after}
 use Rattle.aprs_history.proofs.DueLemmas.{OffersStand, closed_due, closes_stand, offers_after, offers_listens, offers_lower, offers_next, offers_same, offers_within, sent_due, serves}
 use Rattle.aprs_history.proofs.RisingLemmas.{differs_above}
@@ -290,6 +290,55 @@ none_hear_themselves s t link = text_all s link t
 
 -- ---- closes
 
+member_placed : (link n : ℕ) (ns : List ℕ) → is_member link (placed n ns) ≡ true → ((n == link) || is_member link ns) ≡ true
+member_placed link n [] member = member
+member_placed link n (m ∷ ns) member = of (nat_lt n m) member (member_placed link n ns)
+  where
+    turned : (a b c : Bool) → (b || (a || c)) ≡ true → (a || (b || c)) ≡ true
+    turned true b c is = refl
+    turned false b c is = is
+
+    of : (b : Bool) → is_member link (if b then n ∷ m ∷ ns else m ∷ placed n ns) ≡ true → (is_member link (placed n ns) ≡ true → ((n == link) || is_member link ns) ≡ true)
+        → ((n == link) || ((m == link) || is_member link ns)) ≡ true
+    of true is later = is
+    of false is later =
+        turned (n == link) (m == link) (is_member link ns)
+        (⊎_elim (λ here. rw here refl) (λ other. rw other (later (sym (ap (λ b. b || is_member link (placed n ns)) other) ∙ is))) (cases_Bool (m == link)))
+
+ended_before : (t : Trace) (link : ℕ) (entry : Entry) → is_round_start entry ≡ false → HasEnded t link → HasEnded (entry ∷ t) link
+ended_before t link entry same ended = record {
+  later = entry ∷ ended.later;
+  earlier = ended.earlier;
+  reason = ended.reason;
+  split = ap (λ u. entry ∷ u) ended.split;
+  same_round = rw same ended.same_round;
+  closing = ended.closing;
+}
+
+-- the links to be closed have ended by such a reason
+has_ended : (t : Trace) (link : ℕ) → is_member link (closed_links t) ≡ true → HasEnded t link
+has_ended [] link member = absurd (true≢false (sym member))
+has_ended (RoundBegan ∷ t) link member = absurd (true≢false (sym member))
+has_ended (Ended ended reason ∷ t) link member =
+    ⊎_elim
+    (λ closes.
+    let placed_member : is_member link (placed ended (closed_links t)) ≡ true = sym (ap (λ b. is_member link (cond b (placed ended (closed_links t)) (closed_links t))) closes) ∙ member in
+    let either = member_placed link ended (closed_links t) placed_member in
+    ⊎_elim
+    (λ here. let same : ended ≡ link = eqb-true ended link here in
+    record { later = []; earlier = t; reason = reason; split = ap (λ k. Ended k reason ∷ t) same; same_round = refl; closing = closes })
+    (λ other. ended_before t link (Ended ended reason) refl (has_ended t link (sym (ap (λ b. b || is_member link (closed_links t)) other) ∙ either)))
+    (cases_Bool (ended == link)))
+    (λ stays. ended_before t link (Ended ended reason) refl (has_ended t link (sym (ap (λ b. is_member link (cond b (placed ended (closed_links t)) (closed_links t))) stays) ∙ member)))
+    (cases_Bool (is_closing reason))
+has_ended (Ticked moment ∷ t) link member = ended_before t link (Ticked moment) refl (has_ended t link member)
+has_ended (Opened listener admission opened from ∷ t) link member = ended_before t link (Opened listener admission opened from) refl (has_ended t link member)
+has_ended (Brought from bytes ∷ t) link member = ended_before t link (Brought from bytes) refl (has_ended t link member)
+has_ended (Said from cut verdict ∷ t) link member = ended_before t link (Said from cut verdict) refl (has_ended t link member)
+has_ended (Roomed roomed ∷ t) link member = ended_before t link (Roomed roomed) refl (has_ended t link member)
+has_ended (Took by offered taken ∷ t) link member = ended_before t link (Took by offered taken) refl (has_ended t link member)
+has_ended (Lost lost ∷ t) link member = ended_before t link (Lost lost) refl (has_ended t link member)
+
 run_before : (s : Setting) (later earlier : History) → IsRun s (later ++ earlier) → IsRun s earlier
 run_before s [] earlier run = run
 run_before s (x ∷ later) earlier run = run_before s later earlier run.0
@@ -297,4 +346,4 @@ run_before s (x ∷ later) earlier run = run_before s later earlier run.0
 pub closes_have_reasons : ClosesHaveReasons
 closes_have_reasons s later earlier link run =
     let came = run_before s later (did.Closed link ∷ earlier) run in
-    closed_due (closed_links (trace_of s earlier)) (due s earlier) (is_stopped earlier) link came.1 (closes_stand s earlier)
+    has_ended (trace_of s earlier) link (closed_due (closed_links (trace_of s earlier)) (due s earlier) (is_stopped earlier) link came.1 (closes_stand s earlier))

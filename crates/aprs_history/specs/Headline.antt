@@ -1,6 +1,6 @@
 -- What every run keeps: the bytes that links take, whose packets their texts have, and which links are closed.
-use Rattle.std.specs.Prelude.{◌≡◌, ◌≢◌, ℕ, ◌==◌, ◌<◌, List, [], ◌∷◌, ◌++◌, take, IfSome, IsTrue, if◌then◌else◌, ⊤}
-use Rattle.std.specs.List.{All}
+use Rattle.std.specs.Prelude.{◌≡◌, ◌≢◌, ℕ, ◌==◌, ◌<◌, List, [], ◌∷◌, ◌++◌, take, Bool, true, false, IfSome, IsTrue, IsFalse, if◌then◌else◌, ⊤}
+use Rattle.std.specs.List.{All, list_any}
 use Rattle.aprs_base.specs.Outside.{new_link}
 use Rattle.aprs_base.specs.PacketSeen.{PacketSeen}
 use Rattle.aprs_base.specs.declared.packets.Source.TheVariants as source
@@ -8,7 +8,7 @@ use Rattle.aprs_base.specs.declared.events.Sent.{Sent}
 use Rattle.aprs_base.specs.declared.events.Sent.TheVariants as sent
 use Rattle.aprs_base.specs.declared.events.Happening.TheVariants as did
 use Rattle.aprs_history.specs.Setting.{Setting}
-use Rattle.aprs_history.specs.Trace.{Trace, closed_links, is_member}
+use Rattle.aprs_history.specs.Trace.{Trace, Entry, EndReason, RoundBegan, Ended, is_closing}
 use Rattle.aprs_history.specs.Texts.{TextLine, Relayed, lines_of, text_bytes, text_to, untaken}
 use Rattle.aprs_history.specs.History.{History, greatest_link, trace_of}
 use Rattle.aprs_history.specs.Acts.{IsRun}
@@ -45,7 +45,19 @@ IsOfAnother link line = (packet : PacketSeen) → line.kind ≡ Relayed packet �
 abbrev pub NoneHearThemselves : Type 0
 NoneHearThemselves = (setting : Setting) (trace : Trace) (link : ℕ) → All (IsOfAnother link) (text_to setting trace link).lines
 
--- a link is closed only where it ended in that round by a reason that closes
+abbrev pub is_round_start : Entry → Bool
+is_round_start RoundBegan = true
+is_round_start entry = false
+
+-- the link ended in the round at which a trace stands, by a reason for which the server closes it
+pub record HasEnded (trace : Trace) (link : ℕ) : Type 0 where
+  pub later : Trace
+  pub earlier : Trace
+  pub reason : EndReason
+  pub split : trace ≡ later ++ Ended link reason ∷ earlier
+  pub same_round : IsFalse (list_any is_round_start later)
+  pub closing : IsTrue (is_closing reason)
+
+-- a link is closed only where it has ended so
 abbrev pub ClosesHaveReasons : Type 0
-ClosesHaveReasons = (setting : Setting) (later earlier : History) (link : ℕ) → IsRun setting (later ++ did.Closed link ∷ earlier)
-    → IsTrue (is_member link (closed_links (trace_of setting earlier)))
+ClosesHaveReasons = (setting : Setting) (later earlier : History) (link : ℕ) → IsRun setting (later ++ did.Closed link ∷ earlier) → HasEnded (trace_of setting earlier) link
