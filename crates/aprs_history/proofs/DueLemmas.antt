@@ -9,13 +9,13 @@ use Rattle.aprs_base.specs.declared.events.Event.TheVariants as event
 use Rattle.aprs_base.specs.declared.events.Sent.{Sent}
 use Rattle.aprs_base.specs.declared.events.Sent.TheVariants as sent
 use Rattle.aprs_base.specs.declared.events.Happening.TheVariants as did
-use Rattle.aprs_history.specs.Setting.{Setting, kind_at}
-use Rattle.aprs_history.specs.Trace.{Trace, Admission, NoPort, Served, Entry, RoundBegan, Ticked, Opened, Brought, Said, Roomed, Took, Lost, Ended, ByStop, closed_links, is_member, is_other, live_links, opened_link, stopped_link, served_links, stopped_links}
+use Rattle.aprs_history.specs.Setting.{Setting}
+use Rattle.aprs_history.specs.Trace.{Trace, Admission, NoPort, TurnedAway, Served, Entry, RoundBegan, Dated, Ticked, Opened, Brought, Said, Roomed, Took, Lost, Ended, ByStop, closed_links, is_member, is_other, live_links, opened_link, stopped_link, served_links, stopped_links}
 use Rattle.aprs_history.specs.Texts.{untaken}
-use Rattle.aprs_history.specs.History.{History, admitted, begun, end_all, end_round, ended, ends_round, greater_link, greatest_link, is_stop, is_stopped, open_events, trace_of, with_event}
+use Rattle.aprs_history.specs.History.{History, admission, begun, end_all, end_each, end_stopped, ended, ends_round, greater_link, greatest_link, is_stop, is_stopped, open_events, refused_links, refused_reason, trace_of, with_event}
 use Rattle.aprs_history.specs.Acts.{Act, Listens, Offers, Closes, IsRun, MayCome, acts_after, but_first, due, is_offered, listens_from, offer_to, offered_links}
 use Rattle.aprs_history.specs.Headline.{HasFreshLinks}
-use Rattle.aprs_history.proofs.EntryLemmas.{MayAdd, kept_begun, kept_event}
+use Rattle.aprs_history.proofs.EntryLemmas.{MayAdd, kept_begun, kept_event, kept_refused}
 use Rattle.aprs_history.proofs.RisingLemmas.{Rises, first_left, rises_filtered, rises_higher, rises_pushed}
 
 -- ---- the links that are served rise
@@ -27,6 +27,7 @@ Goes high t = (stopped_links t ≡ []) × Rises 0 (live_links t) high
 goes_on : (high : ℕ) (t : Trace) (entry : Entry) → MayAdd (λ link. ⊥) t entry → Goes high t → Goes high (entry ∷ t)
 goes_on high t RoundBegan may goes = goes
 goes_on high t (Ticked moment) may goes = goes
+goes_on high t (Dated moment) may goes = goes
 goes_on high t (Opened listener admission link from) may goes = absurd may
 goes_on high t (Brought link bytes) may goes = goes
 goes_on high t (Said link cut verdict) may goes = goes
@@ -37,10 +38,11 @@ goes_on high t (Ended link reason) may goes = (ap (λ ks. ks ++ stopped_link rea
 
 goes_opened : (high k : ℕ) (admission : Admission) (ks : List ℕ) → high < k → Rises 0 ks high → Rises 0 (ks ++ opened_link admission k) (greater_link (Some k) high)
 goes_opened high k NoPort ks above rises = subst (λ ns. Rises 0 ns (max k high)) (sym (append-nil ks)) (rises_higher 0 high (max k high) ks (omega arith) rises)
+goes_opened high k TurnedAway ks above rises = subst (λ ns. Rises 0 ns (max k high)) (sym (append-nil ks)) (rises_higher 0 high (max k high) ks (omega arith) rises)
 goes_opened high k (Served kind) ks above rises = rises_higher 0 k (max k high) (ks ++ k ∷ []) (omega arith) (rises_pushed 0 high k ks above rises)
 
 goes_event : (s : Setting) (high : ℕ) (e : Event) (t : Trace) → IfSome (new_link e) (λ link. high < link) → Goes high t → Goes (greater_link (new_link e) high) (with_event s e t)
-goes_event s high (event.Opened listener link from) t fresh goes = (goes.0, goes_opened high link (admitted (kind_at s listener)) (live_links t) fresh goes.1)
+goes_event s high (event.Opened listener link from) t fresh goes = (goes.0, goes_opened high link (admission s t listener) (live_links t) fresh goes.1)
 goes_event s high (event.Joined uplink link at) t fresh goes = (goes.0, rises_higher 0 high (max link high) (live_links t) (omega arith) goes.1)
 goes_event s high (event.Tick moment) t fresh goes = kept_event s (λ link. ⊥) (Goes high) (goes_on high) (event.Tick moment) t tt goes
 goes_event s high (event.Bytes link bytes) t fresh goes = kept_event s (λ link. ⊥) (Goes high) (goes_on high) (event.Bytes link bytes) t tt goes
@@ -63,13 +65,13 @@ Serves stopped high t = (stopped ≡ false → stopped_links t ≡ []) × Rises 
 serves_going : (stopped : Bool) (high : ℕ) (t : Trace) → Goes high t → Serves stopped high t
 serves_going stopped high t goes = (λ is. goes.0, subst (λ ks. Rises 0 (ks ++ live_links t) high) (sym goes.0) goes.1)
 
-serves_ended : (ends : Bool) (high : ℕ) (e : Event) (t : Trace) → Goes high t → Serves (is_stop e) high (ended ends e t)
-serves_ended false high e t goes = serves_going (is_stop e) high t goes
-serves_ended true high e t goes = of (is_stop e)
+serves_ended : (s : Setting) (ends : Bool) (high : ℕ) (e : Event) (t : Trace) → Goes high t → Serves (is_stop e) high (ended s ends e t)
+serves_ended s false high e t goes = serves_going (is_stop e) high t goes
+serves_ended s true high e t goes = of (is_stop e) (end_each (refused_reason t) (refused_links s t) t) (kept_refused s (λ link. ⊥) (Goes high) (goes_on high) t goes)
   where
-    of : (stop : Bool) → Serves stop high (end_round stop t)
-    of false = serves_going false high t goes
-    of true = (
+    of : (stop : Bool) (t : Trace) → Goes high t → Serves stop high (end_stopped stop t)
+    of false t goes = serves_going false high t goes
+    of true t goes = (
       λ is. absurd (true≢false is),
       subst (λ ks. Rises 0 ks high) (sym (stopped_all 0 high (live_links t) t goes.1 refl ∙ ap (λ ks. ks ++ live_links t) goes.0)) goes.1,
     )
@@ -96,7 +98,7 @@ serves s (did.Event e ∷ h) run fresh =
     let n = open_events h in
     let goes = kept_begun s (λ link. ⊥) (Goes (greatest_link h)) (goes_on (greatest_link h)) n (trace_of s h) (none, subst (λ ks. Rises 0 (ks ++ live_links (trace_of s h)) (greatest_link h)) none before.1) in
     subst (λ stopped. Serves stopped (greatest_link (did.Event e ∷ h)) (trace_of s (did.Event e ∷ h))) (sym (or_none (is_stop e) (is_stopped h) going))
-    (serves_ended (ends_round n e) (greatest_link (did.Event e ∷ h)) e (with_event s e (begun n (trace_of s h))) (goes_event s (greatest_link h) e (begun n (trace_of s h)) fresh.1 goes))
+    (serves_ended s (ends_round n e) (greatest_link (did.Event e ∷ h)) e (with_event s e (begun n (trace_of s h))) (goes_event s (greatest_link h) e (begun n (trace_of s h)) fresh.1 goes))
 serves s (did.Sent link bytes (sent.Took n) ∷ h) run fresh = serves s h run.0 fresh
 serves s (did.Sent link bytes sent.Gone ∷ h) run fresh = serves s h run.0 fresh
 serves s (did.Listen n ∷ h) run fresh = serves s h run.0 fresh

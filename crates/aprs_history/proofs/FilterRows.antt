@@ -22,12 +22,12 @@ use Rattle.q_construct.specs.Rule.{process_of, given_drops, built_drops, built_r
 use Rattle.tnc2_line.specs.Packet.{parts_of, text_of, via_of, head_of}
 use Rattle.aprs_history.specs.Setting.{Setting}
 use Rattle.aprs_history.specs.History.{History, trace_of}
-use Rattle.aprs_history.specs.Texts.{added_by, banner, lines_of, plain}
+use Rattle.aprs_history.specs.Texts.{added_by, banner, plain}
 use Rattle.aprs_history.specs.Verdicts.{Scene}
 use Rattle.aprs_history.specs.declared.verdicts.FilterAnswer.TheVariants.{Denied}
 use Rattle.aprs_history.specs.declared.verdicts.FilterFault.TheVariants as filter_fault
 use Rattle.aprs_history.specs.declared.verdicts.Verdict.TheVariants.{PassedOver, Filtered}
-use Rattle.aprs_history.proofs.Rows.{client, crlf, link_of, listen, server_on, stranger, verdict_on}
+use Rattle.aprs_history.proofs.Rows.{client, crlf, link_of, listen, server_on, stranger, told_in, verdict_on}
 
 -- a full port and an igate port
 setting : Setting
@@ -160,7 +160,7 @@ changed =
     ∷ says 2 (codes "user OH7LZB pass 20900")
     ∷ opened
 
-changed_filter : lines_of setting (trace_of setting changed) 1
+changed_filter : told_in setting changed 1
     ≡ greeting ++ codes "# filter b/N* active" ∷ codes "# filter b/O* active" ∷ codes "OH7LZB>APRS,TCPIP*,qAC,T2TEST:>two" ∷ []
 unfolding setting changed opened client crlf trace_of parts_of text_of via_of head_of login_of passcode_of process_of given_drops built_drops built_row rows body_of terms_of term_of what_of other_of named_of name_of excess_of canonical term_text passes_of fits
 changed_filter = refl
@@ -169,12 +169,12 @@ changed_filter = refl
 refused_later : History
 refused_later = says 2 (codes "OH7LZB>APRS:>three") ∷ says 1 (codes "#filter r/x") ∷ changed
 
-filter_left : lines_of setting (trace_of setting refused_later) 1
+filter_left : told_in setting refused_later 1
     ≡ greeting ++ codes "# filter b/N* active" ∷ codes "# filter b/O* active" ∷ codes "OH7LZB>APRS,TCPIP*,qAC,T2TEST:>two"
     ∷ codes "# filter refused, term 1" ∷ codes "OH7LZB>APRS,TCPIP*,qAC,T2TEST:>three" ∷ []
 unfolding setting refused_later changed opened client crlf trace_of parts_of text_of via_of head_of login_of passcode_of process_of given_drops built_drops built_row rows body_of terms_of term_of what_of other_of named_of range_of name_of excess_of canonical term_text passes_of fits
 filter_left = subst
-    (λ digits. lines_of setting (trace_of setting refused_later) 1
+    (λ digits. told_in setting refused_later 1
     ≡ greeting ++ codes "# filter b/N* active" ∷ codes "# filter b/O* active" ∷ codes "OH7LZB>APRS,TCPIP*,qAC,T2TEST:>two"
     ∷ (codes "# filter refused, term " ++ digits) ∷ codes "OH7LZB>APRS,TCPIP*,qAC,T2TEST:>three" ∷ [])
     one refl
@@ -199,31 +199,31 @@ near_friend moment = after_friend moment (codes "K1ABC>APRS:!4903.50N/07201.75W-
 abbrev active_friend : List ℕ → List ℕ
 active_friend km = codes "# filter f/OH7LZB/" ++ ((km ++ []) ++ codes " active")
 
-friend_of_two_days_less_a_second : lines_of setting (trace_of setting (near_friend 173799)) 1
+friend_of_two_days_less_a_second : told_in setting (near_friend 173799) 1
     ≡ greeting ++ codes "# filter f/OH7LZB/10 active" ∷ codes "K1ABC>APRS,TCPIP*,qAC,T2TEST:!4903.50N/07201.75W-a" ∷ []
 unfolding setting opened client crlf trace_of parts_of text_of via_of head_of login_of passcode_of process_of given_drops built_drops built_row rows body_of either_place plain_place terms_of term_of what_of other_of friend_of near_of dotted_of kilometres_of excess_of canonical term_text passes_of fits is_within haversine_of half_sine_of cosine_of
 friend_of_two_days_less_a_second = subst
-    (λ digits. lines_of setting (trace_of setting (near_friend 173799)) 1
+    (λ digits. told_in setting (near_friend 173799) 1
     ≡ greeting ++ active_friend digits ∷ codes "K1ABC>APRS,TCPIP*,qAC,T2TEST:!4903.50N/07201.75W-a" ∷ [])
     ten refl
 
-friend_of_two_days : lines_of setting (trace_of setting (near_friend 173800)) 1 ≡ greeting ++ codes "# filter f/OH7LZB/10 active" ∷ []
+friend_of_two_days : told_in setting (near_friend 173800) 1 ≡ greeting ++ codes "# filter f/OH7LZB/10 active" ∷ []
 unfolding setting opened client crlf trace_of parts_of text_of via_of head_of login_of passcode_of process_of given_drops built_drops built_row rows body_of either_place plain_place terms_of term_of what_of other_of friend_of near_of dotted_of kilometres_of excess_of canonical term_text passes_of fits is_within haversine_of half_sine_of cosine_of
-friend_of_two_days = subst (λ digits. lines_of setting (trace_of setting (near_friend 173800)) 1 ≡ greeting ++ active_friend digits ∷ []) ten refl
+friend_of_two_days = subst (λ digits. told_in setting (near_friend 173800) 1 ≡ greeting ++ active_friend digits ∷ []) ten refl
 
 -- six minutes of latitude are more than 10 km, and five are less
-far_from_friend : lines_of setting (trace_of setting (after_friend 100001 (codes "K1ABC>APRS:!4909.50N/07201.75W-"))) 1
+far_from_friend : told_in setting (after_friend 100001 (codes "K1ABC>APRS:!4909.50N/07201.75W-")) 1
     ≡ greeting ++ codes "# filter f/OH7LZB/10 active" ∷ []
 unfolding setting opened client crlf trace_of parts_of text_of via_of head_of login_of passcode_of process_of given_drops built_drops built_row rows body_of either_place plain_place terms_of term_of what_of other_of friend_of near_of dotted_of kilometres_of excess_of canonical term_text passes_of fits is_within haversine_of half_sine_of cosine_of
 far_from_friend = subst
-    (λ digits. lines_of setting (trace_of setting (after_friend 100001 (codes "K1ABC>APRS:!4909.50N/07201.75W-"))) 1 ≡ greeting ++ active_friend digits ∷ [])
+    (λ digits. told_in setting (after_friend 100001 (codes "K1ABC>APRS:!4909.50N/07201.75W-")) 1 ≡ greeting ++ active_friend digits ∷ [])
     ten refl
 
-by_friend : lines_of setting (trace_of setting (after_friend 100001 (codes "K1ABC>APRS:!4908.50N/07201.75W-"))) 1
+by_friend : told_in setting (after_friend 100001 (codes "K1ABC>APRS:!4908.50N/07201.75W-")) 1
     ≡ greeting ++ codes "# filter f/OH7LZB/10 active" ∷ codes "K1ABC>APRS,TCPIP*,qAC,T2TEST:!4908.50N/07201.75W-" ∷ []
 unfolding setting opened client crlf trace_of parts_of text_of via_of head_of login_of passcode_of process_of given_drops built_drops built_row rows body_of either_place plain_place terms_of term_of what_of other_of friend_of near_of dotted_of kilometres_of excess_of canonical term_text passes_of fits is_within haversine_of half_sine_of cosine_of
 by_friend = subst
-    (λ digits. lines_of setting (trace_of setting (after_friend 100001 (codes "K1ABC>APRS:!4908.50N/07201.75W-"))) 1
+    (λ digits. told_in setting (after_friend 100001 (codes "K1ABC>APRS:!4908.50N/07201.75W-")) 1
     ≡ greeting ++ active_friend digits ∷ codes "K1ABC>APRS,TCPIP*,qAC,T2TEST:!4908.50N/07201.75W-" ∷ [])
     ten refl
 
@@ -237,11 +237,11 @@ own_position =
     ∷ says 2 (codes "user K1ABC pass 14993")
     ∷ opened
 
-by_own_position : lines_of setting (trace_of setting own_position) 1
+by_own_position : told_in setting own_position 1
     ≡ greeting ++ codes "# filter m/10 active" ∷ codes "K1ABC>APRS,TCPIP*,qAC,T2TEST:!4903.50N/07201.75W-two" ∷ []
 unfolding setting own_position opened client crlf trace_of parts_of text_of via_of head_of login_of passcode_of process_of given_drops built_drops built_row rows body_of either_place plain_place terms_of term_of what_of other_of mine_of dotted_of kilometres_of excess_of canonical term_text passes_of fits is_within haversine_of half_sine_of cosine_of
 by_own_position = subst
-    (λ digits. lines_of setting (trace_of setting own_position) 1
+    (λ digits. told_in setting own_position 1
     ≡ greeting ++ (codes "# filter m/" ++ ((digits ++ []) ++ codes " active")) ∷ codes "K1ABC>APRS,TCPIP*,qAC,T2TEST:!4903.50N/07201.75W-two" ∷ [])
     ten refl
 
@@ -252,11 +252,11 @@ gate_position earlier = says 2 (codes "K1ABC>APRS:!4903.50N/07201.75W-") ∷ ear
 for_gates : History
 for_gates = says 2 (codes "user K1ABC pass 14993") ∷ says 1 (codes "#filter q//I") ∷ opened
 
-position_of_a_gate : lines_of setting (trace_of setting (gate_position (says 2 (codes "N1ABC>APRS,K1ABC,I:>x") ∷ for_gates))) 1
+position_of_a_gate : told_in setting (gate_position (says 2 (codes "N1ABC>APRS,K1ABC,I:>x") ∷ for_gates)) 1
     ≡ greeting ++ codes "# filter q//I active" ∷ codes "K1ABC>APRS,TCPIP*,qAC,T2TEST:!4903.50N/07201.75W-" ∷ []
 unfolding setting for_gates opened client crlf trace_of parts_of text_of via_of head_of login_of passcode_of process_of given_drops built_drops built_row rows body_of either_place plain_place terms_of term_of what_of other_of construct_if construct_of set_of excess_of canonical term_text passes_of fits
 position_of_a_gate = refl
 
-position_of_no_gate : lines_of setting (trace_of setting (gate_position for_gates)) 1 ≡ greeting ++ codes "# filter q//I active" ∷ []
+position_of_no_gate : told_in setting (gate_position for_gates) 1 ≡ greeting ++ codes "# filter q//I active" ∷ []
 unfolding setting for_gates opened client crlf trace_of parts_of text_of via_of head_of login_of passcode_of process_of given_drops built_drops built_row rows body_of either_place plain_place terms_of term_of what_of other_of construct_if construct_of set_of excess_of canonical term_text passes_of fits
 position_of_no_gate = refl

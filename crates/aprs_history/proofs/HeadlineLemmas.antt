@@ -4,12 +4,11 @@ use Rattle.std.specs.Bool.{⊤}
 use Rattle.std.specs.List.{All}
 use Rattle.std.proofs.lemmas.Bool.{eqb-true, cases_Bool, true≢false}
 use Rattle.std.proofs.lemmas.List.{map-append, take-append-le, take-append-drop, take-take, drop-take}
-use Rattle.std.proofs.lemmas.List.Elements.{All-nil, All-cons, All-append}
+use Rattle.std.proofs.lemmas.List.Elements.{All-from_recursion, recursion_from_All, All-nil, All-cons, All-append}
 use Rattle.std.proofs.lemmas.Grind.{flat_map-append}
 use Rattle.aprs_base.specs.Outside.{new_link}
 use Rattle.aprs_base.specs.PacketSeen.{PacketSeen}
 use Rattle.aprs_base.specs.declared.packets.Source.TheVariants as source
-use Rattle.aprs_base.specs.declared.cutting.Cut.{Cut}
 use Rattle.aprs_base.specs.declared.events.Event.{Event}
 use Rattle.aprs_base.specs.declared.events.Sent.{Sent}
 use Rattle.aprs_base.specs.declared.events.Sent.TheVariants as sent
@@ -18,10 +17,10 @@ use Rattle.aprs_history.specs.declared.verdicts.FilterAnswer.{FilterAnswer}
 use Rattle.aprs_history.specs.declared.verdicts.Verdict.{Verdict}
 use Rattle.aprs_history.specs.declared.verdicts.Verdict.TheVariants.{PassedOver, Refused, LoggedIn, Filtered, Accepted}
 use Rattle.aprs_history.specs.Setting.{Setting}
-use Rattle.aprs_history.specs.Trace.{Trace, Admission, NoPort, Served, Entry, RoundBegan, Ticked, Opened, Brought, Said, Roomed, Took, Lost, Ended, is_closing, is_member, closed_links, moment_of, placed}
+use Rattle.aprs_history.specs.Trace.{Trace, Admission, NoPort, TurnedAway, Served, Entry, RoundBegan, Dated, Ticked, Opened, Brought, Said, Roomed, Took, Lost, Ended, is_closing, is_live, is_member, closed_links, moment_of, placed}
 use Rattle.aprs_history.specs.Links.{taken_by}
 use Rattle.aprs_history.specs.Scenes.{packet_of}
-use Rattle.aprs_history.specs.Texts.{Banner, Relayed, TextLine, added_by, banner, banner_of, ended_line, filter_reply, lines_of, login_filter_reply, login_reply, plain, plain_line, refusal_reply, relayed, reply_lines, reply_of, text_bytes, text_to, untaken, wants}
+use Rattle.aprs_history.specs.Texts.{Banner, Relayed, Text, TextLine, added_by, banner, banner_of, comment_line, most_waiting, waiting_lines, with_text_line, with_text_lines, ended_line, filter_reply, lines_of, login_filter_reply, login_reply, plain, plain_line, refusal_reply, relayed, reply_lines, reply_of, text_bytes, text_to, untaken, wants}
 use Rattle.aprs_history.specs.History.{History, ends_round, greater_link, greatest_link, is_stopped, open_events, trace_of}
 use Rattle.aprs_history.specs.Acts.{IsRun, but_first, due}
 use Rattle.aprs_history.specs.Headline.{HasEnded, is_round_start, HasFreshLinks, IsOfAnother, LinksTakePrefixes, NoneHearThemselves, ClosesHaveReasons, taken_bytes}
@@ -67,16 +66,31 @@ takes_sent bytes given n m lines takes is some =
 
 -- ---- a text only grows, but where its link is opened anew
 
+-- the lines that fit are added
+lines_added : (taken : ℕ) (lines : List TextLine) (text : Text) → (more : List TextLine) × ((with_text_lines taken lines text).lines ≡ text.lines ++ more)
+lines_added taken [] text = ([], sym (append-nil text.lines))
+lines_added taken (line ∷ lines) text =
+    let first = line_added text.over (waiting_lines text taken == most_waiting) in
+    let later = lines_added taken lines (with_text_line taken line text) in
+    (first.0 ++ later.0, later.1 ∙ ap (λ before. before ++ later.0) first.1 ∙ append_assoc text.lines first.0 later.0)
+  where
+    line_added : (over full : Bool) → (more : List TextLine) × ((if over then text else if full then record text { over = true } else record text { lines = text.lines ++ line ∷ [] }).lines ≡ text.lines ++ more)
+    line_added true full = ([], sym (append-nil text.lines))
+    line_added false true = ([], sym (append-nil text.lines))
+    line_added false false = (line ∷ [], refl)
+
 abbrev Grown : Setting → Trace → ℕ → Trace → Type 0
 Grown s t link u = (more : List (List ℕ)) × (lines_of s u link ≡ lines_of s t link ++ more) × (taken_by u link ≡ taken_by t link)
 
 module _ (s : Setting) (t : Trace) (link : ℕ) where
-  grown_said : (from : ℕ) (cut : Cut) (verdict : Verdict) (u : Trace) → Grown s t link u → Grown s t link (Said from cut verdict ∷ u)
-  grown_said from cut verdict u grown =
-      let added = added_by s u from verdict link in (
-        grown.0 ++ plain added,
-        map-append plain_line (text_to s u link).lines added ∙ ap (λ lines. lines ++ plain added) grown.1 ∙ append_assoc (lines_of s t link) grown.0 (plain added),
-        grown.2,
+  grown_lines : (u : Trace) (taken : ℕ) (lines : List TextLine) (entry : Entry) → text_to s (entry ∷ u) link ≡ with_text_lines taken lines (text_to s u link) → taken_by (entry ∷ u) link ≡ taken_by u link
+      → Grown s t link u → Grown s t link (entry ∷ u)
+  grown_lines u taken lines entry text same grown =
+      let added = lines_added taken lines (text_to s u link) in (
+        grown.0 ++ plain added.0,
+        ap (λ (x : Text). plain x.lines) text ∙ ap plain added.1 ∙ map-append plain_line (text_to s u link).lines added.0 ∙ ap (λ lines. lines ++ plain added.0) grown.1
+            ∙ append_assoc (lines_of s t link) grown.0 (plain added.0),
+        same ∙ grown.2,
       )
 
   grown_by : (u : Trace) (entry : Entry) → MayAdd (λ k. (link == k) ≡ false) u entry → Grown s t link u → Grown s t link (entry ∷ u)
@@ -84,7 +98,8 @@ module _ (s : Setting) (t : Trace) (link : ℕ) where
   grown_by u (Ticked moment) may grown = grown
   grown_by u (Opened listener admission opened from) may grown = rw may grown
   grown_by u (Brought from bytes) may grown = grown
-  grown_by u (Said from cut verdict) may grown = grown_said from cut verdict u grown
+  grown_by u (Said from cut verdict) may grown = grown_lines u (taken_by u link) (added_by s u from verdict link) (Said from cut verdict) refl refl grown
+  grown_by u (Dated moment) may grown = grown_lines u (taken_by u link) (if is_live u link then comment_line s.server moment ∷ [] else []) (Dated moment) refl refl grown
   grown_by u (Roomed roomed) may grown = grown
   grown_by u (Took by offered taken) may grown = absurd may
   grown_by u (Lost lost) may grown = absurd may
@@ -100,6 +115,7 @@ HasNone link t = taken_by t link ≡ 0
 none_by : (link : ℕ) (u : Trace) (entry : Entry) → MayAdd (λ k. ⊤) u entry → HasNone link u → HasNone link (entry ∷ u)
 none_by link u RoundBegan may none = none
 none_by link u (Ticked moment) may none = none
+none_by link u (Dated moment) may none = none
 none_by link u (Opened listener admission opened from) may none = of (link == opened)
   where
     of : (b : Bool) → (if b then 0 else taken_by u link) ≡ 0
@@ -246,6 +262,7 @@ module _ (s : Setting) (link : ℕ) where
 
   banner_all : (admission : Admission) → All (IsOfAnother link) (banner_of admission)
   banner_all NoPort = All-nil (IsOfAnother link)
+  banner_all TurnedAway = All-nil (IsOfAnother link)
   banner_all (Served kind) = All-cons (IsOfAnother link) (record { kind = Banner; line = banner }) [] (λ packet is. cc) (All-nil (IsOfAnother link))
 
   not_own : (t : Trace) (from : ℕ) (packet other : PacketSeen) → packet.from ≡ source.Link from → wants t from packet link ≡ true → Relayed packet ≡ Relayed other → other.from ≢ source.Link link
@@ -269,14 +286,29 @@ module _ (s : Setting) (link : ℕ) where
       if_all (wants t from packet link) (relayed packet ∷ [])
       (λ wanted. All-cons (IsOfAnother link) (relayed packet) [] (λ other is own. not_own t from packet other refl wanted is own) (All-nil (IsOfAnother link)))
 
+  lines_all : (taken : ℕ) (lines : List TextLine) (text : Text) → All (IsOfAnother link) lines → All (IsOfAnother link) text.lines → All (IsOfAnother link) (with_text_lines taken lines text).lines
+  lines_all taken [] text all before = before
+  lines_all taken (line ∷ lines) text all before =
+      let parts = recursion_from_All (IsOfAnother link) (line ∷ lines) all in
+      lines_all taken lines (with_text_line taken line text) (All-from_recursion (IsOfAnother link) lines parts.1) (of text.over (waiting_lines text taken == most_waiting) parts.0)
+    where
+      of : (over full : Bool) → IsOfAnother link line → All (IsOfAnother link) (if over then text else if full then record text { over = true } else record text { lines = text.lines ++ line ∷ [] }).lines
+      of true full first = before
+      of false true first = before
+      of false false first = All-append (IsOfAnother link) text.lines (line ∷ []) before (All-cons (IsOfAnother link) line [] first (All-nil (IsOfAnother link)))
+
   text_all : (t : Trace) → All (IsOfAnother link) (text_to s t link).lines
   text_all [] = All-nil (IsOfAnother link)
   text_all (Opened listener admission opened from ∷ t) = of (link == opened) (text_all t)
     where
-      of : (b : Bool) → All (IsOfAnother link) (text_to s t link).lines → All (IsOfAnother link) (if b then record { lines = banner_of admission } else text_to s t link).lines
+      of : (b : Bool) → All (IsOfAnother link) (text_to s t link).lines → All (IsOfAnother link) (if b then record { lines = banner_of admission; over = false } else text_to s t link).lines
       of true before = banner_all admission
       of false before = before
-  text_all (Said from cut verdict ∷ t) = All-append (IsOfAnother link) (text_to s t link).lines (added_by s t from verdict link) (text_all t) (added_all t from verdict)
+  text_all (Said from cut verdict ∷ t) = lines_all (taken_by t link) (added_by s t from verdict link) (text_to s t link) (added_all t from verdict) (text_all t)
+  text_all (Dated moment ∷ t) =
+      let comment = comment_line s.server moment in
+      lines_all (taken_by t link) (if is_live t link then comment ∷ [] else []) (text_to s t link)
+      (if_all (is_live t link) (comment ∷ []) (λ is. All-cons (IsOfAnother link) comment [] (λ packet is. cc) (All-nil (IsOfAnother link)))) (text_all t)
   text_all (RoundBegan ∷ t) = text_all t
   text_all (Ticked moment ∷ t) = text_all t
   text_all (Brought from bytes ∷ t) = text_all t
@@ -331,6 +363,7 @@ has_ended (Ended ended reason ∷ t) link member =
     (cases_Bool (ended == link)))
     (λ stays. ended_before t link (Ended ended reason) refl (has_ended t link (sym (ap (λ b. is_member link (cond b (placed ended (closed_links t)) (closed_links t))) stays) ∙ member)))
     (cases_Bool (is_closing reason))
+has_ended (Dated moment ∷ t) link member = ended_before t link (Dated moment) refl (has_ended t link member)
 has_ended (Ticked moment ∷ t) link member = ended_before t link (Ticked moment) refl (has_ended t link member)
 has_ended (Opened listener admission opened from ∷ t) link member = ended_before t link (Opened listener admission opened from) refl (has_ended t link member)
 has_ended (Brought from bytes ∷ t) link member = ended_before t link (Brought from bytes) refl (has_ended t link member)

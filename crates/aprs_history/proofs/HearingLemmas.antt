@@ -15,11 +15,11 @@ use Rattle.station_table.proofs.LastSeen.{told_more}
 use Rattle.heard_routing.specs.LastHeard.{heard_by, last_heard}
 use Rattle.aprs_history.specs.declared.verdicts.Verdict.{Verdict}
 use Rattle.aprs_history.specs.declared.verdicts.Verdict.TheVariants.{PassedOver, Refused, LoggedIn, Filtered, Accepted}
-use Rattle.aprs_history.specs.Setting.{Setting, kind_at}
-use Rattle.aprs_history.specs.Trace.{Trace, Admission, NoPort, Served, Entry, RoundBegan, Ticked, Opened, Brought, Said, Roomed, Took, Lost, Ended, ByStop, is_live, is_member, is_other, live_links, moment_of, opened_link}
+use Rattle.aprs_history.specs.Setting.{Setting}
+use Rattle.aprs_history.specs.Trace.{Trace, Admission, NoPort, TurnedAway, Served, Entry, RoundBegan, Dated, Ticked, Opened, Brought, Said, Roomed, Took, Lost, Ended, ByStop, is_live, is_member, is_other, live_links, moment_of, opened_link}
 use Rattle.aprs_history.specs.Scenes.{accepted_of, packet_of}
 use Rattle.aprs_history.specs.Messages.{heard_after, heard_of}
-use Rattle.aprs_history.specs.History.{History, admitted, begun, ends_round, greater_link, greatest_link, open_events, trace_of, with_event}
+use Rattle.aprs_history.specs.History.{History, admission, begun, ends_round, greater_link, greatest_link, open_events, trace_of, with_event}
 use Rattle.aprs_history.specs.Headline.{HasFreshLinks}
 use Rattle.aprs_history.specs.MessageRule.{HeardIsLastAccepted}
 use Rattle.aprs_history.proofs.EntryLemmas.{MayAdd, kept_begun, kept_ended, kept_event}
@@ -126,6 +126,7 @@ hears_said high t from cut verdict live hears =
 hears_by : (high : ℕ) (t : Trace) (entry : Entry) → MayAdd (λ link. ⊥) t entry → Hears high t → Hears high (entry ∷ t)
 hears_by high t RoundBegan may hears = hears_same high t RoundBegan hears.live refl (λ link call. refl) hears
 hears_by high t (Ticked moment) may hears = hears_same high t (Ticked moment) hears.live refl (λ link call. refl) hears
+hears_by high t (Dated moment) may hears = hears_same high t (Dated moment) hears.live refl (λ link call. refl) hears
 hears_by high t (Opened listener admission link from) may hears = absurd may
 hears_by high t (Brought link bytes) may hears = hears_same high t (Brought link bytes) hears.live refl (λ link call. refl) hears
 hears_by high t (Said link cut verdict) may hears = hears_said high t link cut verdict may hears
@@ -143,6 +144,7 @@ hears_opened high k t listener admission from above hears = record {
   where
     opened : (admission : Admission) → AreWithin (opened_link admission k) (max k high)
     opened NoPort = tt
+    opened TurnedAway = tt
     opened (Served kind) = (omega arith, tt)
 
     agrees : (link : ℕ) (call : List ℕ) → (if link == k then None else heard_of t link call) ≡ last_heard (accepted_of t) link call
@@ -155,7 +157,7 @@ hears_higher : (high more : ℕ) (t : Trace) → high ≤ more → Hears high t 
 hears_higher high more t le hears = record { live = within_higher (live_links t) high more le hears.live; none = λ link call above. hears.none link call (omega arith); agree = hears.agree }
 
 hears_event : (s : Setting) (high : ℕ) (e : Event) (t : Trace) → IfSome (new_link e) (λ link. high < link) → Hears high t → Hears (greater_link (new_link e) high) (with_event s e t)
-hears_event s high (event.Opened listener link from) t fresh hears = hears_opened high link t listener (admitted (kind_at s listener)) from fresh hears
+hears_event s high (event.Opened listener link from) t fresh hears = hears_opened high link t listener (admission s t listener) from fresh hears
 hears_event s high (event.Joined uplink link at) t fresh hears = hears_higher high (max link high) t (omega arith) hears
 hears_event s high (event.Tick moment) t fresh hears = kept_event s (λ link. ⊥) (Hears high) (hears_by high) (event.Tick moment) t tt hears
 hears_event s high (event.Bytes link bytes) t fresh hears = kept_event s (λ link. ⊥) (Hears high) (hears_by high) (event.Bytes link bytes) t tt hears

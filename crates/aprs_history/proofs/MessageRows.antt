@@ -14,8 +14,8 @@ use Rattle.q_construct.specs.Rule.{process_of, given_drops, built_drops, built_r
 use Rattle.tnc2_line.specs.Packet.{parts_of, text_of, via_of, head_of}
 use Rattle.aprs_history.specs.Setting.{Setting}
 use Rattle.aprs_history.specs.History.{History, trace_of}
-use Rattle.aprs_history.specs.Texts.{lines_of, banner}
-use Rattle.aprs_history.proofs.Rows.{client, listen, server_on}
+use Rattle.aprs_history.specs.Texts.{banner}
+use Rattle.aprs_history.proofs.Rows.{client, listen, server_on, told_in}
 
 setting : Setting
 setting = server_on (listen kind.Full 10152 ∷ listen kind.Igate 14580 ∷ [])
@@ -50,37 +50,37 @@ placed : List (List ℕ)
 placed = codes "OH7LZB>APRS,TCPIP*,qAC,T2TEST:!4903.50N/07201.75W-" ∷ []
 
 -- a message to a station that was heard three hours before goes to the link, and a second later it doesn't
-message_to_heard : lines_of setting (trace_of setting hello) 1 ≡ greeted ++ told
+message_to_heard : told_in setting hello 1 ≡ greeted ++ told
 unfolding trace_of setting hello heard greeted told client parts_of text_of via_of head_of login_of passcode_of process_of given_drops built_drops built_row rows body_of either_place plain_place fits passes_of
 message_to_heard = refl
 
-message_too_late : lines_of setting (trace_of setting (said 2 (codes "OH7LZB>APRS::K1ABC    :hello") ∷ at_moment 11801 ∷ heard)) 1 ≡ greeted
+message_too_late : told_in setting (said 2 (codes "OH7LZB>APRS::K1ABC    :hello") ∷ at_moment 11801 ∷ heard) 1 ≡ greeted
 unfolding trace_of setting heard greeted client parts_of text_of via_of head_of login_of passcode_of process_of given_drops built_drops built_row rows body_of either_place plain_place fits passes_of
 message_too_late = refl
 
 -- the sender's next position goes along half an hour later, and no other
-next_position : lines_of setting (trace_of setting (said 2 (codes "OH7LZB>APRS:!4903.50N/07201.76W-") ∷ said 2 (codes "OH7LZB>APRS:!4903.50N/07201.75W-") ∷ at_moment 13600 ∷ hello)) 1
+next_position : told_in setting (said 2 (codes "OH7LZB>APRS:!4903.50N/07201.76W-") ∷ said 2 (codes "OH7LZB>APRS:!4903.50N/07201.75W-") ∷ at_moment 13600 ∷ hello) 1
     ≡ greeted ++ told ++ placed
 unfolding trace_of setting hello heard greeted told placed client parts_of text_of via_of head_of login_of passcode_of process_of given_drops built_drops built_row rows body_of either_place plain_place fits passes_of
 next_position = refl
 
-position_too_late : lines_of setting (trace_of setting (said 2 (codes "OH7LZB>APRS:!4903.50N/07201.75W-") ∷ at_moment 13601 ∷ hello)) 1 ≡ greeted ++ told
+position_too_late : told_in setting (said 2 (codes "OH7LZB>APRS:!4903.50N/07201.75W-") ∷ at_moment 13601 ∷ hello) 1 ≡ greeted ++ told
 unfolding trace_of setting hello heard greeted told client parts_of text_of via_of head_of login_of passcode_of process_of given_drops built_drops built_row rows body_of either_place plain_place fits passes_of
 position_too_late = refl
 
 -- a message to the link's own login goes there, and its sender's next position doesn't
-message_to_login : lines_of setting (trace_of setting (said 2 (codes "OH7LZB>APRS:!4903.50N/07201.75W-") ∷ said 2 (codes "OH7LZB>APRS::K1XYZ    :hello") ∷ heard)) 1
+message_to_login : told_in setting (said 2 (codes "OH7LZB>APRS:!4903.50N/07201.75W-") ∷ said 2 (codes "OH7LZB>APRS::K1XYZ    :hello") ∷ heard) 1
     ≡ greeted ++ codes "OH7LZB>APRS,TCPIP*,qAC,T2TEST::K1XYZ    :hello" ∷ []
 unfolding trace_of setting heard greeted client parts_of text_of via_of head_of login_of passcode_of process_of given_drops built_drops built_row rows body_of either_place plain_place fits passes_of
 message_to_login = refl
 
 -- nothing is kept for a link that has ended
-position_after_the_end : lines_of setting (trace_of setting (said 2 (codes "OH7LZB>APRS:!4903.50N/07201.75W-") ∷ at_moment 13600 ∷ did.Event (event.Ended 1) ∷ hello)) 1 ≡ greeted ++ told
+position_after_the_end : told_in setting (said 2 (codes "OH7LZB>APRS:!4903.50N/07201.75W-") ∷ at_moment 13600 ∷ did.Event (event.Ended 1) ∷ hello) 1 ≡ greeted ++ told
 unfolding trace_of setting hello heard greeted told client parts_of text_of via_of head_of login_of passcode_of process_of given_drops built_drops built_row rows body_of either_place plain_place fits passes_of
 position_after_the_end = refl
 
 -- a position of the sender that the link itself brings spends the promise
-position_of_the_link : lines_of setting (trace_of setting (said 2 (codes "OH7LZB>APRS:!4903.50N/07201.75W-") ∷ said 1 (codes "OH7LZB>APRS,K1XYZ,I:!4903.50N/07201.76W-") ∷ hello)) 1
+position_of_the_link : told_in setting (said 2 (codes "OH7LZB>APRS:!4903.50N/07201.75W-") ∷ said 1 (codes "OH7LZB>APRS,K1XYZ,I:!4903.50N/07201.76W-") ∷ hello) 1
     ≡ greeted ++ told
 unfolding trace_of setting hello heard greeted told client parts_of text_of via_of head_of login_of passcode_of process_of given_drops built_drops built_row rows body_of either_place plain_place fits passes_of
 position_of_the_link = refl
@@ -89,7 +89,7 @@ position_of_the_link = refl
 again : History
 again = said 2 (codes "OH7LZB>APRS::K1ABC    :again") ∷ hello
 
-two_messages : lines_of setting (trace_of setting (said 2 (codes "OH7LZB>APRS:!4903.50N/07201.76W-") ∷ said 2 (codes "OH7LZB>APRS:!4903.50N/07201.75W-") ∷ again)) 1
+two_messages : told_in setting (said 2 (codes "OH7LZB>APRS:!4903.50N/07201.76W-") ∷ said 2 (codes "OH7LZB>APRS:!4903.50N/07201.75W-") ∷ again) 1
     ≡ greeted ++ told ++ codes "OH7LZB>APRS,TCPIP*,qAC,T2TEST::K1ABC    :again" ∷ placed
 unfolding trace_of setting again hello heard greeted told placed client parts_of text_of via_of head_of login_of passcode_of process_of given_drops built_drops built_row rows body_of either_place plain_place fits passes_of
 two_messages = refl

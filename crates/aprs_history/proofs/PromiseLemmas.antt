@@ -3,7 +3,7 @@ use Rattle.std.proofs.Common.{◌≡◌, ℕ, ◌&&◌, Bool, true, false, List,
 use Rattle.std.proofs.lemmas.Bool.{cases_Bool}
 use Rattle.aprs_history.specs.declared.verdicts.Verdict.TheVariants.{PassedOver, Refused, LoggedIn, Filtered, Accepted}
 use Rattle.aprs_history.specs.Keys.{is_text}
-use Rattle.aprs_history.specs.Trace.{Trace, Entry, RoundBegan, Ticked, Opened, Brought, Said, Roomed, Took, Lost, Ended, moment_of}
+use Rattle.aprs_history.specs.Trace.{Trace, Entry, RoundBegan, Dated, Ticked, Opened, Brought, Said, Roomed, Took, Lost, Ended, moment_of}
 use Rattle.aprs_history.specs.Scenes.{packet_of}
 use Rattle.aprs_history.specs.Messages.{is_position, promise_after, promise_of, promises}
 use Rattle.aprs_history.specs.MessageRule.{IsPromised, LeavesPromise, PromisesAreOwed, ends_promise, is_routed_message}
@@ -26,6 +26,7 @@ promise_by_entry t (Said from cut (Filtered answer)) link sender = refl
 promise_by_entry t (Opened listener admission opened from) link sender = refl
 promise_by_entry t RoundBegan link sender = refl
 promise_by_entry t (Ticked moment) link sender = refl
+promise_by_entry t (Dated moment) link sender = refl
 promise_by_entry t (Brought from bytes) link sender = refl
 promise_by_entry t (Roomed roomed) link sender = refl
 promise_by_entry t (Took by offered taken) link sender = refl

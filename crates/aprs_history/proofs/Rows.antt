@@ -1,5 +1,6 @@
 -- Small histories, and what the definitions say of them.
 use Rattle.std.proofs.Common.{◌≡◌, refl, ℕ, List, [], ◌∷◌, ◌++◌, ◌+◌, codes, map, Bool, true, false, Option, Some, None}
+use Rattle.std.specs.List.{flat_map}
 use Rattle.aprs_base.specs.PacketSeen.{PacketSeen}
 use Rattle.aprs_base.specs.declared.packets.ListenSpec.{ListenSpec}
 use Rattle.aprs_base.specs.declared.packets.PortKind.{PortKind}
@@ -10,7 +11,7 @@ use Rattle.aprs_base.specs.declared.events.Sent.TheVariants as sent
 use Rattle.aprs_base.specs.declared.events.Happening.TheVariants as did
 use Rattle.aprs_history.specs.Setting.{Setting}
 use Rattle.aprs_history.specs.History.{History, trace_of}
-use Rattle.aprs_history.specs.Texts.{lines_of, banner}
+use Rattle.aprs_history.specs.Texts.{Comment, LineKind, lines_of, banner, text_to}
 use Rattle.aprs_history.specs.Acts.{Offers, Closes, Listens, due}
 use Rattle.tnc2_line.specs.Packet.{parts_of, text_of, via_of, head_of}
 use Rattle.login_pass.specs.Login.{login_of}
@@ -50,6 +51,14 @@ crlf = 13 ∷ 10 ∷ []
 
 unfoldable pub client : Addr
 client = record { ip = 10 ∷ 0 ∷ 0 ∷ 7 ∷ []; port = 4000 }
+
+-- what a link is told beside the date
+abbrev told_beside : LineKind → List ℕ → List (List ℕ)
+told_beside Comment line = []
+told_beside kind line = line ∷ []
+
+abbrev pub told_in : Setting → History → ℕ → List (List ℕ)
+told_in setting history link = flat_map (λ text. told_beside text.kind text.line) (text_to setting (trace_of setting history) link).lines
 
 listening : History
 listening = did.Listen 0 ∷ []

@@ -1,5 +1,5 @@
 -- Histories: what happened on a wire, the newest first; their rounds, and their traces.
-use Rattle.std.specs.Prelude.{ℕ, ◌==◌, ◌+◌, ◌||◌, Bool, true, false, max, List, [], ◌∷◌, ◌++◌, length, Option, Some, None, if◌then◌else◌}
+use Rattle.std.specs.Prelude.{ℕ, ◌==◌, ◌+◌, ◌/◌, ◌||◌, Bool, true, false, nat_lt, max, List, [], ◌∷◌, ◌++◌, length, Option, Some, None, if◌then◌else◌}
 use Rattle.aprs_base.specs.Cuts.{cuts_by}
 use Rattle.aprs_base.specs.Outside.{new_link}
 use Rattle.aprs_base.specs.declared.cutting.Cut.{Cut}
@@ -12,9 +12,10 @@ use Rattle.aprs_base.specs.declared.events.Happening.TheVariants as did
 use Rattle.aprs_base.specs.declared.packets.PortKind.{PortKind}
 use Rattle.aprs_history.specs.Setting.{Setting, kind_at}
 use Rattle.aprs_history.specs.Verdicts.{verdict_of}
-use Rattle.aprs_history.specs.Trace.{Trace, Entry, Admission, NoPort, Served, EndReason, ByPeer, FoundGone, ByStop, RoundBegan, Ticked, Opened, Brought, Said, Roomed, Took, Lost, Ended, live_links, is_live}
-use Rattle.aprs_history.specs.Links.{brought_by, gone_links}
+use Rattle.aprs_history.specs.Trace.{Trace, Entry, Admission, NoPort, TurnedAway, Served, EndReason, ByPeer, FoundGone, Overfull, Full, ByStop, RoundBegan, Dated, Ticked, Opened, Brought, Said, Roomed, Took, Lost, Ended, live_links, is_live, is_member, moment_of, placed_all, turned_links}
+use Rattle.aprs_history.specs.Links.{brought_by, gone_links, late_links, late_reason}
 use Rattle.aprs_history.specs.Scenes.{scene_of}
+use Rattle.aprs_history.specs.Texts.{over_links}
 
 abbrev pub History : Type 0
 History = List Happening
@@ -72,10 +73,13 @@ greatest_link [] = 0
 greatest_link (did.Event e ∷ earlier) = greater_link (new_link e) (greatest_link earlier)
 greatest_link (x ∷ earlier) = greatest_link earlier
 
--- these links end, one after another
+-- these links end, one after another, each for its reason
+abbrev pub end_each : (ℕ → EndReason) → List ℕ → Trace → Trace
+end_each reason [] trace = trace
+end_each reason (link ∷ links) trace = end_each reason links (Ended link (reason link) ∷ trace)
+
 abbrev pub end_all : EndReason → List ℕ → Trace → Trace
-end_all reason [] trace = trace
-end_all reason (link ∷ links) trace = end_all reason links (Ended link reason ∷ trace)
+end_all reason links trace = end_each (λ link. reason) links trace
 
 -- a link says these lines, one after another; each is judged by what came before it
 abbrev pub say_all : Setting → ℕ → List Cut → Trace → Trace
@@ -90,15 +94,43 @@ end_gone trace = end_all FoundGone (gone_links trace) trace
 abbrev pub begin_round : Trace → Trace
 begin_round trace = end_gone (RoundBegan ∷ trace)
 
--- what ends a round: after a stop all links that live end
-abbrev pub end_round : Bool → Trace → Trace
-end_round false trace = trace
-end_round true trace = end_all ByStop (live_links trace) trace
+-- the links that end with a round: the overfull ones and those that were turned away, rising
+abbrev pub refused_links : Setting → Trace → List ℕ
+refused_links setting trace = placed_all (turned_links trace) (over_links setting trace)
 
--- a connection is served where the listener is one for clients
-abbrev pub admitted : Option PortKind → Admission
-admitted None = NoPort
-admitted (Some kind) = Served kind
+abbrev pub refused_reason : Trace → ℕ → EndReason
+refused_reason trace link = if is_member link (turned_links trace) then Full else Overfull
+
+-- after a stop all links that live end
+abbrev pub end_stopped : Bool → Trace → Trace
+end_stopped false trace = trace
+end_stopped true trace = end_all ByStop (live_links trace) trace
+
+-- what ends a round, with a stop or not
+abbrev pub end_round : Setting → Bool → Trace → Trace
+end_round setting stop trace = end_stopped stop (end_each (refused_reason trace) (refused_links setting trace) trace)
+
+-- a connection is served where the listener is one for clients, and fewer are there than may be
+abbrev pub admitted : ℕ → ℕ → Option PortKind → Admission
+admitted most there None = NoPort
+admitted most there (Some kind) = if nat_lt there most then Served kind else TurnedAway
+
+abbrev pub admission : Setting → Trace → ℕ → Admission
+admission setting trace listener = admitted setting.max_clients (length (live_links trace)) (kind_at setting listener)
+
+-- the seconds between two comment lines
+abbrev pub comment_seconds : ℕ
+comment_seconds = 20
+
+-- the links that live are told the date where the moment has passed a border since
+abbrev pub dated : ℕ → Trace → Trace
+dated before trace = if nat_lt (before / comment_seconds) (moment_of trace / comment_seconds) then Dated (moment_of trace) ∷ trace else trace
+
+-- a tick: the moment goes on, links end by time, and the others are told the date
+abbrev pub with_tick : Setting → ℕ → Trace → Trace
+with_tick setting moment trace =
+    let now = Ticked moment ∷ trace in
+    dated (moment_of trace) (end_each (late_reason now) (late_links setting.client_timeout now) now)
 
 abbrev pub bring : Setting → ℕ → List ℕ → Trace → Trace
 bring setting link bytes trace = say_all setting link (cuts_by (brought_by trace link) bytes) (Brought link bytes ∷ trace)
@@ -108,8 +140,8 @@ with_bytes_of setting link bytes trace = if is_live trace link then bring settin
 
 -- what an event adds; one that names a link that doesn't live adds nothing
 abbrev pub with_event : Setting → Event → Trace → Trace
-with_event setting (event.Tick moment) trace = Ticked moment ∷ trace
-with_event setting (event.Opened listener link from) trace = Opened listener (admitted (kind_at setting listener)) link from ∷ trace
+with_event setting (event.Tick moment) trace = with_tick setting moment trace
+with_event setting (event.Opened listener link from) trace = Opened listener (admission setting trace listener) link from ∷ trace
 with_event setting (event.Bytes link bytes) trace = with_bytes_of setting link bytes trace
 with_event setting (event.Ended link) trace = if is_live trace link then Ended link ByPeer ∷ trace else trace
 with_event setting (event.Room link) trace = if is_live trace link then Roomed link ∷ trace else trace
@@ -123,9 +155,9 @@ abbrev pub begun : ℕ → Trace → Trace
 begun before trace = if before == 0 then begin_round trace else trace
 
 -- and once the event is there, which ends the round or doesn't
-abbrev pub ended : Bool → Event → Trace → Trace
-ended false e trace = trace
-ended true e trace = end_round (is_stop e) trace
+abbrev pub ended : Setting → Bool → Event → Trace → Trace
+ended setting false e trace = trace
+ended setting true e trace = end_round setting (is_stop e) trace
 
 abbrev pub sent_entry : ℕ → List ℕ → Sent → Entry
 sent_entry link bytes (sent.Took n) = Took link (length bytes) n
@@ -134,7 +166,7 @@ sent_entry link bytes sent.Gone = Lost link
 unfoldable pub trace_of : Setting → History → Trace
 trace_of setting [] = []
 trace_of setting (did.Event e ∷ earlier) =
-    ended (ends_round (open_events earlier) e) e (with_event setting e (begun (open_events earlier) (trace_of setting earlier)))
+    ended setting (ends_round (open_events earlier) e) e (with_event setting e (begun (open_events earlier) (trace_of setting earlier)))
 trace_of setting (did.Sent link bytes outcome ∷ earlier) = sent_entry link bytes outcome ∷ trace_of setting earlier
 trace_of setting (did.Listen n ∷ earlier) = trace_of setting earlier
 trace_of setting (did.Closed link ∷ earlier) = trace_of setting earlier

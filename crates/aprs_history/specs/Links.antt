@@ -1,5 +1,5 @@
 -- What is known of one link: each is the last fitting entry of the trace, back to the link's opening.
-use Rattle.std.specs.Prelude.{ℕ, ◌==◌, ◌+◌, Bool, true, false, nat_lt, List, [], ◌∷◌, ◌++◌, Option, Some, None, filter, if◌then◌else◌}
+use Rattle.std.specs.Prelude.{ℕ, ◌==◌, ◌+◌, ◌-◌, ◌&&◌, ◌||◌, Bool, true, false, is_none, nat_le, nat_lt, List, [], ◌∷◌, ◌++◌, Option, Some, None, filter, if◌then◌else◌}
 use Rattle.aprs_base.specs.declared.packets.PortKind.{PortKind}
 use Rattle.aprs_base.specs.declared.texts.Addr.{Addr}
 use Rattle.filter_lang.specs.Terms.{TermSeen}
@@ -8,7 +8,7 @@ use Rattle.aprs_history.specs.declared.verdicts.FilterAnswer.TheVariants.{Active
 use Rattle.aprs_history.specs.declared.verdicts.Session.{Session}
 use Rattle.aprs_history.specs.declared.verdicts.Verdict.{Verdict}
 use Rattle.aprs_history.specs.declared.verdicts.Verdict.TheVariants.{PassedOver, Refused, LoggedIn, Filtered, Accepted}
-use Rattle.aprs_history.specs.Trace.{Trace, Admission, NoPort, Served, Opened, Brought, Said, Roomed, Took, Lost, moment_of, live_links}
+use Rattle.aprs_history.specs.Trace.{Trace, Admission, NoPort, TurnedAway, Served, Opened, Brought, Said, Roomed, Took, Lost, EndReason, NoLogin, Silent, moment_of, live_links}
 
 -- a link's opening: what it serves, where it came from, and when
 pub record Opening : Type 0 where
@@ -18,6 +18,7 @@ pub record Opening : Type 0 where
 
 abbrev pub opening_by : Admission → Addr → ℕ → Option Opening
 opening_by NoPort from moment = None
+opening_by TurnedAway from moment = None
 opening_by (Served kind) from moment = Some (record { kind = kind; from = from; moment = moment })
 
 abbrev pub opening_of : Trace → ℕ → Option Opening
@@ -97,3 +98,31 @@ is_gone (entry ∷ earlier) link = is_gone earlier link
 
 abbrev pub gone_links : Trace → List ℕ
 gone_links trace = filter (is_gone trace) (live_links trace)
+
+-- ---- ends by time
+
+-- the most seconds from a link's opening to its login, less one
+abbrev pub login_seconds : ℕ
+login_seconds = 30
+
+abbrev pub opened_at : Option Opening → ℕ
+opened_at None = 0
+opened_at (Some opening) = opening.moment
+
+-- it has not logged in for half a minute
+abbrev pub is_nameless : Trace → ℕ → Bool
+is_nameless trace link = is_none (session_of trace link) && nat_le login_seconds (moment_of trace - opened_at (opening_of trace link))
+
+-- it has brought no bytes for so many seconds
+abbrev pub is_silent : ℕ → Trace → ℕ → Bool
+is_silent timeout trace link = nat_le timeout (moment_of trace - last_heard trace link)
+
+-- whether a link ends by time, and why: where both rules apply it is for want of a login
+abbrev pub is_late : ℕ → Trace → ℕ → Bool
+is_late timeout trace link = is_nameless trace link || is_silent timeout trace link
+
+abbrev pub late_reason : Trace → ℕ → EndReason
+late_reason trace link = if is_nameless trace link then NoLogin else Silent
+
+abbrev pub late_links : ℕ → Trace → List ℕ
+late_links timeout trace = filter (is_late timeout trace) (live_links trace)

@@ -10,12 +10,12 @@ use Rattle.heard_routing.specs.Entries.{HasEachOnce}
 use Rattle.heard_routing.specs.Heard.{HeardSeen, heard_at, promised_at}
 use Rattle.aprs_history.specs.Setting.{Setting}
 use Rattle.aprs_history.specs.declared.verdicts.Session.{Session}
-use Rattle.aprs_history.specs.Trace.{Trace, is_live, moment_of, served_links}
+use Rattle.aprs_history.specs.Trace.{Trace, closed_links, is_live, moment_of, served_links, turned_links}
 use Rattle.aprs_history.specs.Links.{Opening, opening_of, last_heard, brought_by, session_of, filter_of, taken_by, is_blocked, is_gone}
 use Rattle.aprs_history.specs.Scenes.{accepted_of}
 use Rattle.aprs_history.specs.Sights.{friends_of, own_place}
 use Rattle.aprs_history.specs.Messages.{heard_of, promise_of}
-use Rattle.aprs_history.specs.Texts.{Queued, queued, lines_of, text_bytes}
+use Rattle.aprs_history.specs.Texts.{Queued, queued, lines_of, text_bytes, text_to}
 use Rattle.aprs_history.specs.History.{History, open_events, is_stopped, greatest_link, trace_of}
 
 -- what a core keeps of a link
@@ -29,6 +29,7 @@ pub record LinkSeen : Type 0 where
   pub friends : List (Option Seen)
   pub mine : Option Seen
   pub queue : Queued
+  pub over : Bool
   pub blocked : Bool
   pub gone : Bool
 
@@ -36,6 +37,9 @@ pub record LinkSeen : Type 0 where
 pub record CoreSeen : Type 0 where
   pub moment : ℕ
   pub links : List LinkSeen
+  -- the links that were turned away in this round, and those that ended in it and are to be closed
+  pub turned : List ℕ
+  pub closing : List ℕ
   pub accepted : List PacketSeen
   pub stations : StationsSeen
   pub heard : HeardSeen
@@ -44,7 +48,7 @@ pub record CoreSeen : Type 0 where
 
 -- what there is to keep of a link: its opening, its last bytes' moment, the rest of its bytes, its login, its filter with where
 -- the calls that it names were last seen, where its own login was, the lines that it hasn't wholly taken, and whether it is
--- blocked or was found gone
+-- overfull, is blocked or was found gone
 unfoldable pub link_seen : Setting → Trace → ℕ → LinkSeen
 link_seen setting trace link = record {
   link = link;
@@ -56,6 +60,7 @@ link_seen setting trace link = record {
   friends = friends_of trace link;
   mine = own_place trace link;
   queue = queued (lines_of setting trace link) (taken_by trace link);
+  over = (text_to setting trace link).over;
   blocked = is_blocked trace link;
   gone = is_gone trace link;
 }
@@ -80,6 +85,8 @@ pub record Keeps (packets : List PacketSeen) (sights : StationsSeen) (routes : H
 -- the points of a core that hold after each entry of a trace
 pub record Follows (setting : Setting) (core : CoreSeen) (trace : Trace) : Type 0 where
   pub moment : core.moment ≡ moment_of trace
+  pub turned : core.turned ≡ turned_links trace
+  pub closing : core.closing ≡ closed_links trace
   pub links : core.links ≡ map (link_seen setting trace) (served_links trace)
   pub tables : Keeps core.accepted core.stations core.heard trace
   pub took : TookNoMore setting trace

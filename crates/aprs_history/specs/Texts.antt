@@ -1,10 +1,11 @@
 -- The text that each link is to take, line by line, and what of it is still to be taken.
-use Rattle.std.specs.Prelude.{ℕ, ◌==◌, ◌+◌, ◌-◌, ◌&&◌, ◌||◌, Bool, true, false, not, nat_le, is_some, List, [], ◌∷◌, ◌++◌, length, map, drop, codes, Option, Some, None, if◌then◌else◌}
+use Rattle.std.specs.Prelude.{ℕ, ◌==◌, ◌+◌, ◌-◌, ◌&&◌, ◌||◌, Bool, true, false, not, nat_le, is_some, List, [], ◌∷◌, ◌++◌, length, map, filter, drop, codes, Option, Some, None, if◌then◌else◌}
 use Rattle.std.specs.List.{flat_map}
 use Rattle.std.specs.Fmt.{decimal}
 use Rattle.aprs_base.specs.PacketSeen.{PacketSeen}
 use Rattle.aprs_base.specs.declared.packets.PortKind.{PortKind}
 use Rattle.aprs_base.specs.declared.packets.PortKind.TheVariants as kind
+use Rattle.aprs_history.specs.Dates.{comment_text}
 use Rattle.aprs_history.specs.Setting.{Setting}
 use Rattle.login_pass.specs.declared.login_line.LoginFault.{LoginFault}
 use Rattle.login_pass.specs.declared.login_line.LoginFault.TheVariants as fault
@@ -17,7 +18,7 @@ use Rattle.aprs_history.specs.declared.verdicts.Refusal.{Refusal}
 use Rattle.aprs_history.specs.declared.verdicts.Refusal.TheVariants as refusal
 use Rattle.aprs_history.specs.declared.verdicts.Verdict.{Verdict}
 use Rattle.aprs_history.specs.declared.verdicts.Verdict.TheVariants.{PassedOver, Refused, LoggedIn, Filtered, Accepted}
-use Rattle.aprs_history.specs.Trace.{Trace, Admission, NoPort, Served, Opened, Said, is_live, moment_of}
+use Rattle.aprs_history.specs.Trace.{Trace, Admission, NoPort, TurnedAway, Served, Opened, Said, Dated, is_live, live_links, moment_of}
 use Rattle.aprs_history.specs.Links.{Opening, opening_of, session_of, taken_by}
 use Rattle.aprs_history.specs.Scenes.{packet_of}
 use Rattle.aprs_history.specs.Messages.{is_asked}
@@ -87,6 +88,7 @@ filter_reply (Denied why) = refused_filter (filter_words why)
 pub data LineKind : Type 0 where
   Banner : LineKind
   Reply : LineKind
+  Comment : LineKind
   Relayed : (packet : PacketSeen) → LineKind
 
 pub record TextLine : Type 0 where
@@ -109,6 +111,7 @@ reply_lines (Some line) = reply_of line ∷ []
 
 abbrev pub banner_of : Admission → List TextLine
 banner_of NoPort = []
+banner_of TurnedAway = []
 banner_of (Served kind) = record { kind = Banner; line = banner } ∷ []
 
 -- whether a port of that kind sends an accepted packet of another link, as the link's filter or the message rule asks for it or not
@@ -140,33 +143,9 @@ added_by setting earlier from (Accepted parts line) link =
     let packet = packet_of from (moment_of earlier) parts line in
     if wants earlier from packet link then relayed packet ∷ [] else []
 
--- the text of a link: its lines, in order, from its opening on
-pub record Text : Type 0 where
-  pub lines : List TextLine
-
-abbrev pub with_lines : Text → List TextLine → Text
-with_lines text more = record { lines = text.lines ++ more }
-
-abbrev pub text_to : Setting → Trace → ℕ → Text
-text_to setting [] link = record { lines = [] }
-text_to setting (Opened listener admission opened from ∷ earlier) link =
-    if link == opened then record { lines = banner_of admission } else text_to setting earlier link
-text_to setting (Said from cut verdict ∷ earlier) link = with_lines (text_to setting earlier link) (added_by setting earlier from verdict link)
-text_to setting (entry ∷ earlier) link = text_to setting earlier link
-
-abbrev pub plain_line : TextLine → List ℕ
-plain_line text = text.line
-
-abbrev pub plain : List TextLine → List (List ℕ)
-plain lines = map plain_line lines
-
--- its lines, wherever they come from
-abbrev pub lines_of : Setting → Trace → ℕ → List (List ℕ)
-lines_of setting trace link = plain (text_to setting trace link).lines
-
--- the bytes of the text that the link has not taken yet
-abbrev pub untaken : Setting → Trace → ℕ → List ℕ
-untaken setting trace link = drop (taken_by trace link) (text_bytes (lines_of setting trace link))
+-- the comment line that tells the date
+abbrev pub comment_line : List ℕ → ℕ → TextLine
+comment_line server moment = record { kind = Comment; line = comment_text server moment }
 
 -- lines of which some bytes are taken: those that are not wholly taken, and how much of the first is
 pub record Queued : Type 0 where
@@ -176,3 +155,55 @@ pub record Queued : Type 0 where
 abbrev pub queued : List (List ℕ) → ℕ → Queued
 queued [] taken = record { lines = []; offset = taken }
 queued (line ∷ lines) taken = if nat_le (length line + 2) taken then queued lines (taken - (length line + 2)) else record { lines = line ∷ lines; offset = taken }
+
+-- the text of a link: its lines, in order, from its opening on; and whether a line didn't fit any more
+pub record Text : Type 0 where
+  pub lines : List TextLine
+  pub over : Bool
+
+abbrev pub plain_line : TextLine → List ℕ
+plain_line text = text.line
+
+abbrev pub plain : List TextLine → List (List ℕ)
+plain lines = map plain_line lines
+
+-- the most lines that a link hasn't wholly taken
+abbrev pub most_waiting : ℕ
+most_waiting = 1000
+
+-- how many lines of a text, of which so many bytes are taken, aren't wholly taken
+abbrev pub waiting_lines : Text → ℕ → ℕ
+waiting_lines text taken = length (queued (plain text.lines) taken).lines
+
+-- a line more, where it fits; from the first on that doesn't, none is added
+abbrev pub with_text_line : ℕ → TextLine → Text → Text
+with_text_line taken line text =
+    if text.over then text
+    else if waiting_lines text taken == most_waiting then record text { over = true }
+    else record text { lines = text.lines ++ line ∷ [] }
+
+abbrev pub with_text_lines : ℕ → List TextLine → Text → Text
+with_text_lines taken [] text = text
+with_text_lines taken (line ∷ lines) text = with_text_lines taken lines (with_text_line taken line text)
+
+abbrev pub text_to : Setting → Trace → ℕ → Text
+text_to setting [] link = record { lines = []; over = false }
+text_to setting (Opened listener admission opened from ∷ earlier) link =
+    if link == opened then record { lines = banner_of admission; over = false } else text_to setting earlier link
+text_to setting (Said from cut verdict ∷ earlier) link =
+    with_text_lines (taken_by earlier link) (added_by setting earlier from verdict link) (text_to setting earlier link)
+text_to setting (Dated moment ∷ earlier) link =
+    with_text_lines (taken_by earlier link) (if is_live earlier link then comment_line setting.server moment ∷ [] else []) (text_to setting earlier link)
+text_to setting (entry ∷ earlier) link = text_to setting earlier link
+
+-- the links that are overfull
+abbrev pub over_links : Setting → Trace → List ℕ
+over_links setting trace = filter (λ link. (text_to setting trace link).over) (live_links trace)
+
+-- its lines, wherever they come from
+abbrev pub lines_of : Setting → Trace → ℕ → List (List ℕ)
+lines_of setting trace link = plain (text_to setting trace link).lines
+
+-- the bytes of the text that the link has not taken yet
+abbrev pub untaken : Setting → Trace → ℕ → List ℕ
+untaken setting trace link = drop (taken_by trace link) (text_bytes (lines_of setting trace link))

@@ -10,12 +10,21 @@ use Rattle.aprs_history.specs.declared.verdicts.Verdict.{Verdict}
 pub data EndReason : Type 0 where
   ByPeer : EndReason
   FoundGone : EndReason
+  -- it hasn't logged in for too long, or brought no bytes
+  NoLogin : EndReason
+  Silent : EndReason
+  -- it takes its text too slowly
+  Overfull : EndReason
+  -- it was turned away
+  Full : EndReason
   ByStop : EndReason
 
 -- what becomes of a connection
 pub data Admission : Type 0 where
   -- the listener isn't one for clients
   NoPort : Admission
+  -- as many clients as may are there
+  TurnedAway : Admission
   Served : (kind : PortKind) → Admission
 
 pub data Entry : Type 0 where
@@ -29,6 +38,8 @@ pub data Entry : Type 0 where
   Took : (link : ℕ) → (offered taken : ℕ) → Entry
   Lost : (link : ℕ) → Entry
   Ended : (link : ℕ) → (reason : EndReason) → Entry
+  -- the links that live are told the date of this moment
+  Dated : (moment : ℕ) → Entry
 
 abbrev pub Trace : Type 0
 Trace = List Entry
@@ -48,6 +59,7 @@ is_other link other = not (other == link)
 
 abbrev pub opened_link : Admission → ℕ → List ℕ
 opened_link NoPort link = []
+opened_link TurnedAway link = []
 opened_link (Served kind) link = link ∷ []
 
 -- the links that live, in the order of their opening, which is that of their numbers
@@ -66,6 +78,10 @@ is_live trace link = is_member link (live_links trace)
 abbrev pub stopped_link : EndReason → ℕ → List ℕ
 stopped_link ByPeer link = []
 stopped_link FoundGone link = []
+stopped_link NoLogin link = []
+stopped_link Silent link = []
+stopped_link Overfull link = []
+stopped_link Full link = []
 stopped_link ByStop link = link ∷ []
 
 -- the links that a stop ended, in order
@@ -82,6 +98,10 @@ served_links trace = stopped_links trace ++ live_links trace
 abbrev pub is_closing : EndReason → Bool
 is_closing ByPeer = false
 is_closing FoundGone = false
+is_closing NoLogin = true
+is_closing Silent = true
+is_closing Overfull = true
+is_closing Full = true
 is_closing ByStop = true
 
 -- a number in its place among rising ones
@@ -89,9 +109,25 @@ abbrev pub placed : ℕ → List ℕ → List ℕ
 placed n [] = n ∷ []
 placed n (m ∷ ms) = if nat_lt n m then n ∷ m ∷ ms else m ∷ placed n ms
 
+abbrev pub placed_all : List ℕ → List ℕ → List ℕ
+placed_all [] ms = ms
+placed_all (n ∷ ns) ms = placed_all ns (placed n ms)
+
 -- the links that ended in the last round by such a reason, rising
 abbrev pub closed_links : Trace → List ℕ
 closed_links [] = []
 closed_links (RoundBegan ∷ earlier) = []
 closed_links (Ended link reason ∷ earlier) = if is_closing reason then placed link (closed_links earlier) else closed_links earlier
 closed_links (entry ∷ earlier) = closed_links earlier
+
+abbrev pub turned_link : Admission → ℕ → List ℕ
+turned_link NoPort link = []
+turned_link TurnedAway link = link ∷ []
+turned_link (Served kind) link = []
+
+-- the links that were turned away in this round, in order
+abbrev pub turned_links : Trace → List ℕ
+turned_links [] = []
+turned_links (RoundBegan ∷ earlier) = []
+turned_links (Opened listener admission link from ∷ earlier) = turned_links earlier ++ turned_link admission link
+turned_links (entry ∷ earlier) = turned_links earlier
