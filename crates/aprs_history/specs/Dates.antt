@@ -1,5 +1,5 @@
 -- The comment line that tells the date.
-use Rattle.std.specs.Prelude.{ℕ, List, ◌++◌, codes}
+use Rattle.std.specs.Prelude.{ℕ, List, ◌++◌, codes, take, drop}
 use Rattle.std.specs.Fmt.{decimal}
 
 abbrev pub date_text_at : ℕ → List ℕ
