@@ -1,5 +1,5 @@
 -- The acts that are due: which links are served, what they are offered, and which are closed.
-use Rattle.std.proofs.Common.{◌≡◌, ℕ, ◌+◌, ◌≤◌, ◌<◌, ◌==◌, Bool, true, false, ◌||◌, List, [], ◌∷◌, ◌++◌, map, filter, take, max, refl, sym, ap, ◌∙◌, subst, arith, IfSome, Some, append-nil, append_assoc, eq-eqb, if◌then◌else◌}
+use Rattle.std.proofs.Common.{◌≡◌, ℕ, ◌+◌, ◌≤◌, ◌<◌, ◌==◌, Bool, true, false, ◌||◌, List, [], ◌∷◌, ◌++◌, map, filter, take, max, refl, sym, ap, ◌∙◌, subst, arith, IfSome, Some, append-nil, append_assoc, if◌then◌else◌}
 use Rattle.std.proofs.lemmas.Bool.{true≢false}
 use Rattle.std.specs.Bool.{⊤}
 use Rattle.aprs_base.specs.Outside.{new_link, IsOutcome}
@@ -16,7 +16,7 @@ use Rattle.aprs_history.specs.History.{History, admission, begun, end_all, end_e
 use Rattle.aprs_history.specs.Acts.{Act, Listens, Offers, Closes, IsRun, MayCome, acts_after, but_first, due, is_offered, listens_from, offer_to, offered_links}
 use Rattle.aprs_history.specs.Headline.{HasFreshLinks}
 use Rattle.aprs_history.proofs.EntryLemmas.{MayAdd, kept_begun, kept_event, kept_refused}
-use Rattle.aprs_history.proofs.RisingLemmas.{Rises, first_left, rises_filtered, rises_higher, rises_pushed}
+use Rattle.aprs_history.proofs.NumberLemmas.{Rises, or_true, member_first, first_left, rises_filtered, rises_higher, rises_pushed}
 
 -- ---- the links that are served rise
 
@@ -24,33 +24,33 @@ use Rattle.aprs_history.proofs.RisingLemmas.{Rises, first_left, rises_filtered, 
 abbrev pub Goes : ℕ → Trace → Type 0
 Goes high t = (stopped_links t ≡ []) × Rises 0 (live_links t) high
 
-goes_on : (high : ℕ) (t : Trace) (entry : Entry) → MayAdd (λ link. ⊥) t entry → Goes high t → Goes high (entry ∷ t)
-goes_on high t RoundBegan may goes = goes
-goes_on high t (Ticked moment) may goes = goes
-goes_on high t (Dated moment) may goes = goes
-goes_on high t (Opened listener admission link from) may goes = absurd may
-goes_on high t (Brought link bytes) may goes = goes
-goes_on high t (Said link cut verdict) may goes = goes
-goes_on high t (Roomed link) may goes = goes
-goes_on high t (Took link offered taken) may goes = absurd may
-goes_on high t (Lost link) may goes = absurd may
-goes_on high t (Ended link reason) may goes = (ap (λ ks. ks ++ stopped_link reason link) goes.0 ∙ may, rises_filtered (is_other link) 0 high (live_links t) goes.1)
+goes_on : (s : Setting) (h : History) (high : ℕ) (t : Trace) (entry : Entry) → MayAdd s h (λ link. ⊥) t entry → Goes high t → Goes high (entry ∷ t)
+goes_on s h high t RoundBegan may goes = goes
+goes_on s h high t (Ticked moment) may goes = goes
+goes_on s h high t (Dated moment) may goes = goes
+goes_on s h high t (Opened listener admission link from) may goes = absurd may
+goes_on s h high t (Brought link bytes) may goes = goes
+goes_on s h high t (Said link cut verdict) may goes = goes
+goes_on s h high t (Roomed link) may goes = goes
+goes_on s h high t (Took link offered taken) may goes = absurd may
+goes_on s h high t (Lost link) may goes = absurd may
+goes_on s h high t (Ended link reason) may goes = (ap (λ ks. ks ++ stopped_link reason link) goes.0 ∙ may.0, rises_filtered (is_other link) 0 high (live_links t) goes.1)
 
 goes_opened : (high k : ℕ) (admission : Admission) (ks : List ℕ) → high < k → Rises 0 ks high → Rises 0 (ks ++ opened_link admission k) (greater_link (Some k) high)
 goes_opened high k NoPort ks above rises = subst (λ ns. Rises 0 ns (max k high)) (sym (append-nil ks)) (rises_higher 0 high (max k high) ks (omega arith) rises)
 goes_opened high k TurnedAway ks above rises = subst (λ ns. Rises 0 ns (max k high)) (sym (append-nil ks)) (rises_higher 0 high (max k high) ks (omega arith) rises)
 goes_opened high k (Served kind) ks above rises = rises_higher 0 k (max k high) (ks ++ k ∷ []) (omega arith) (rises_pushed 0 high k ks above rises)
 
-goes_event : (s : Setting) (high : ℕ) (e : Event) (t : Trace) → IfSome (new_link e) (λ link. high < link) → Goes high t → Goes (greater_link (new_link e) high) (with_event s e t)
-goes_event s high (event.Opened listener link from) t fresh goes = (goes.0, goes_opened high link (admission s t listener) (live_links t) fresh goes.1)
-goes_event s high (event.Joined uplink link at) t fresh goes = (goes.0, rises_higher 0 high (max link high) (live_links t) (omega arith) goes.1)
-goes_event s high (event.Tick moment) t fresh goes = kept_event s (λ link. ⊥) (Goes high) (goes_on high) (event.Tick moment) t tt goes
-goes_event s high (event.Bytes link bytes) t fresh goes = kept_event s (λ link. ⊥) (Goes high) (goes_on high) (event.Bytes link bytes) t tt goes
-goes_event s high (event.Ended link) t fresh goes = kept_event s (λ link. ⊥) (Goes high) (goes_on high) (event.Ended link) t tt goes
-goes_event s high (event.Room link) t fresh goes = kept_event s (λ link. ⊥) (Goes high) (goes_on high) (event.Room link) t tt goes
-goes_event s high event.Stop t fresh goes = goes
-goes_event s high (event.Unjoined uplink) t fresh goes = goes
-goes_event s high (event.Datagram listener from bytes) t fresh goes = goes
+goes_event : (s : Setting) (h : History) (high : ℕ) (e : Event) (t : Trace) → IfSome (new_link e) (λ link. high < link) → Goes high t → Goes (greater_link (new_link e) high) (with_event s e t)
+goes_event s h high (event.Opened listener link from) t fresh goes = (goes.0, goes_opened high link (admission s t listener) (live_links t) fresh goes.1)
+goes_event s h high (event.Joined uplink link at) t fresh goes = (goes.0, rises_higher 0 high (max link high) (live_links t) (omega arith) goes.1)
+goes_event s h high (event.Tick moment) t fresh goes = let all = did.Event (event.Tick moment) ∷ h in kept_event s all (λ link. ⊥) (Goes high) (goes_on s all high) h (event.Tick moment) t refl tt goes
+goes_event s h high (event.Bytes link bytes) t fresh goes = let all = did.Event (event.Bytes link bytes) ∷ h in kept_event s all (λ link. ⊥) (Goes high) (goes_on s all high) h (event.Bytes link bytes) t refl tt goes
+goes_event s h high (event.Ended link) t fresh goes = let all = did.Event (event.Ended link) ∷ h in kept_event s all (λ link. ⊥) (Goes high) (goes_on s all high) h (event.Ended link) t refl tt goes
+goes_event s h high (event.Room link) t fresh goes = let all = did.Event (event.Room link) ∷ h in kept_event s all (λ link. ⊥) (Goes high) (goes_on s all high) h (event.Room link) t refl tt goes
+goes_event s h high event.Stop t fresh goes = goes
+goes_event s h high (event.Unjoined uplink) t fresh goes = goes
+goes_event s h high (event.Datagram listener from bytes) t fresh goes = goes
 
 -- rising links are all stopped, in order
 stopped_all : (low high : ℕ) (ks : List ℕ) (t : Trace) → Rises low ks high → live_links t ≡ ks → served_links (end_all ByStop ks t) ≡ stopped_links t ++ ks
@@ -65,9 +65,9 @@ Serves stopped high t = (stopped ≡ false → stopped_links t ≡ []) × Rises 
 serves_going : (stopped : Bool) (high : ℕ) (t : Trace) → Goes high t → Serves stopped high t
 serves_going stopped high t goes = (λ is. goes.0, subst (λ ks. Rises 0 (ks ++ live_links t) high) (sym goes.0) goes.1)
 
-serves_ended : (s : Setting) (ends : Bool) (high : ℕ) (e : Event) (t : Trace) → Goes high t → Serves (is_stop e) high (ended s ends e t)
-serves_ended s false high e t goes = serves_going (is_stop e) high t goes
-serves_ended s true high e t goes = of (is_stop e) (end_each (refused_reason t) (refused_links s t) t) (kept_refused s (λ link. ⊥) (Goes high) (goes_on high) t goes)
+serves_ended : (s : Setting) (h : History) (ends : Bool) (high : ℕ) (e : Event) (t : Trace) → Goes high t → Serves (is_stop e) high (ended s ends e t)
+serves_ended s h false high e t goes = serves_going (is_stop e) high t goes
+serves_ended s h true high e t goes = of (is_stop e) (end_each (refused_reason t) (refused_links s t) t) (kept_refused s h (λ link. ⊥) (Goes high) (goes_on s h high) t goes)
   where
     of : (stop : Bool) (t : Trace) → Goes high t → Serves stop high (end_stopped stop t)
     of false t goes = serves_going false high t goes
@@ -96,9 +96,9 @@ serves s (did.Event e ∷ h) run fresh =
     let before = serves s h run.0 fresh.0 in
     let none = before.0 going in
     let n = open_events h in
-    let goes = kept_begun s (λ link. ⊥) (Goes (greatest_link h)) (goes_on (greatest_link h)) n (trace_of s h) (none, subst (λ ks. Rises 0 (ks ++ live_links (trace_of s h)) (greatest_link h)) none before.1) in
+    let goes = kept_begun s h (λ link. ⊥) (Goes (greatest_link h)) (goes_on s h (greatest_link h)) n (trace_of s h) (none, subst (λ ks. Rises 0 (ks ++ live_links (trace_of s h)) (greatest_link h)) none before.1) in
     subst (λ stopped. Serves stopped (greatest_link (did.Event e ∷ h)) (trace_of s (did.Event e ∷ h))) (sym (or_none (is_stop e) (is_stopped h) going))
-    (serves_ended s (ends_round n e) (greatest_link (did.Event e ∷ h)) e (with_event s e (begun n (trace_of s h))) (goes_event s (greatest_link h) e (begun n (trace_of s h)) fresh.1 goes))
+    (serves_ended s h (ends_round n e) (greatest_link (did.Event e ∷ h)) e (with_event s e (begun n (trace_of s h))) (goes_event s h (greatest_link h) e (begun n (trace_of s h)) fresh.1 goes))
 serves s (did.Sent link bytes (sent.Took n) ∷ h) run fresh = serves s h run.0 fresh
 serves s (did.Sent link bytes sent.Gone ∷ h) run fresh = serves s h run.0 fresh
 serves s (did.Listen n ∷ h) run fresh = serves s h run.0 fresh
@@ -187,14 +187,10 @@ closes_listens : (closed : List ℕ) (n : ℕ) (listens : List ListenSpec) → C
 closes_listens closed n [] = tt
 closes_listens closed n (spec ∷ specs) = closes_listens closed (n + 1) specs
 
-or_true : (a b : Bool) → b ≡ true → (a || b) ≡ true
-or_true true b is = refl
-or_true false b is = is
-
 closes_of : (closed ks : List ℕ) → ((k : ℕ) → is_member k ks ≡ true → is_member k closed ≡ true) → ClosesStand closed (map Closes ks)
 closes_of closed [] among = tt
 closes_of closed (k ∷ ks) among =
-    (among k (ap (λ b. b || is_member k ks) (eq-eqb k k refl)), closes_of closed ks (λ j member. among j (or_true (k == j) (is_member j ks) member)))
+    (among k (member_first k ks), closes_of closed ks (λ j member. among j (or_true (k == j) (is_member j ks) member)))
 
 closes_offers : (closed ks closes : List ℕ) (s : Setting) (t : Trace) → ClosesStand closed (map Closes closes) → ClosesStand closed (map (offer_to s t) ks ++ map Closes closes)
 closes_offers closed [] closes s t stand = stand

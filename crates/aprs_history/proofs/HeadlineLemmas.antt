@@ -1,5 +1,5 @@
 -- What links take is a prefix of their texts, no text has its link's own packets, and closes have reasons.
-use Rattle.std.proofs.Common.{◌≡◌, ◌≢◌, ℕ, ◌+◌, ◌-◌, ◌≤◌, ◌<◌, ◌==◌, Bool, true, false, List, [], ◌∷◌, ◌++◌, take, drop, length, min, refl, sym, ap, ◌∙◌, subst, arith, IfSome, Option, Some, None, ⊎_elim, ◌⊎◌, inl, inr, append-nil, append_assoc, length-append, length-take, length-drop, eq-eqb, cond, nat_lt, ◌||◌, if◌then◌else◌}
+use Rattle.std.proofs.Common.{◌≡◌, ◌≢◌, ℕ, ◌+◌, ◌-◌, ◌≤◌, ◌<◌, ◌==◌, Bool, true, false, List, [], ◌∷◌, ◌++◌, take, drop, length, min, refl, sym, ap, ◌∙◌, subst, arith, IfSome, Option, Some, None, ⊎_elim, ◌⊎◌, inl, inr, append-nil, append_assoc, length-append, length-take, length-drop, eq-eqb, cond, ◌||◌, if◌then◌else◌}
 use Rattle.std.specs.Bool.{⊤}
 use Rattle.std.specs.List.{All}
 use Rattle.std.proofs.lemmas.Bool.{eqb-true, cases_Bool, true≢false}
@@ -24,9 +24,9 @@ use Rattle.aprs_history.specs.Texts.{Banner, Relayed, Text, TextLine, added_by, 
 use Rattle.aprs_history.specs.History.{History, ends_round, greater_link, greatest_link, is_stopped, open_events, trace_of}
 use Rattle.aprs_history.specs.Acts.{IsRun, but_first, due}
 use Rattle.aprs_history.specs.Headline.{HasEnded, is_round_start, HasFreshLinks, IsOfAnother, LinksTakePrefixes, NoneHearThemselves, ClosesHaveReasons, taken_bytes}
-use Rattle.aprs_history.proofs.EntryLemmas.{MayAdd, kept_after}
+use Rattle.aprs_history.proofs.EntryLemmas.{MayAdd, any_link, kept_after}
 use Rattle.aprs_history.proofs.DueLemmas.{OffersStand, closed_due, closes_stand, offers_after, offers_listens, offers_lower, offers_next, offers_same, offers_within, sent_due, serves}
-use Rattle.aprs_history.proofs.RisingLemmas.{differs_above}
+use Rattle.aprs_history.proofs.NumberLemmas.{differs_above, member_placed}
 
 -- ---- bytes that are taken of a text
 
@@ -82,7 +82,7 @@ lines_added taken (line ∷ lines) text =
 abbrev Grown : Setting → Trace → ℕ → Trace → Type 0
 Grown s t link u = (more : List (List ℕ)) × (lines_of s u link ≡ lines_of s t link ++ more) × (taken_by u link ≡ taken_by t link)
 
-module _ (s : Setting) (t : Trace) (link : ℕ) where
+module _ (s : Setting) (h : History) (t : Trace) (link : ℕ) where
   grown_lines : (u : Trace) (taken : ℕ) (lines : List TextLine) (entry : Entry) → text_to s (entry ∷ u) link ≡ with_text_lines taken lines (text_to s u link) → taken_by (entry ∷ u) link ≡ taken_by u link
       → Grown s t link u → Grown s t link (entry ∷ u)
   grown_lines u taken lines entry text same grown =
@@ -93,7 +93,7 @@ module _ (s : Setting) (t : Trace) (link : ℕ) where
         same ∙ grown.2,
       )
 
-  grown_by : (u : Trace) (entry : Entry) → MayAdd (λ k. (link == k) ≡ false) u entry → Grown s t link u → Grown s t link (entry ∷ u)
+  grown_by : (u : Trace) (entry : Entry) → MayAdd s h (λ k. (link == k) ≡ false) u entry → Grown s t link u → Grown s t link (entry ∷ u)
   grown_by u RoundBegan may grown = grown
   grown_by u (Ticked moment) may grown = grown
   grown_by u (Opened listener admission opened from) may grown = rw may grown
@@ -112,21 +112,21 @@ module _ (s : Setting) (t : Trace) (link : ℕ) where
 abbrev HasNone : ℕ → Trace → Type 0
 HasNone link t = taken_by t link ≡ 0
 
-none_by : (link : ℕ) (u : Trace) (entry : Entry) → MayAdd (λ k. ⊤) u entry → HasNone link u → HasNone link (entry ∷ u)
-none_by link u RoundBegan may none = none
-none_by link u (Ticked moment) may none = none
-none_by link u (Dated moment) may none = none
-none_by link u (Opened listener admission opened from) may none = of (link == opened)
+none_by : (s : Setting) (h : History) (link : ℕ) (u : Trace) (entry : Entry) → MayAdd s h (λ k. ⊤) u entry → HasNone link u → HasNone link (entry ∷ u)
+none_by s h link u RoundBegan may none = none
+none_by s h link u (Ticked moment) may none = none
+none_by s h link u (Dated moment) may none = none
+none_by s h link u (Opened listener admission opened from) may none = of (link == opened)
   where
     of : (b : Bool) → (if b then 0 else taken_by u link) ≡ 0
     of true = refl
     of false = none
-none_by link u (Brought from bytes) may none = none
-none_by link u (Said from cut verdict) may none = none
-none_by link u (Roomed roomed) may none = none
-none_by link u (Took by offered taken) may none = absurd may
-none_by link u (Lost lost) may none = absurd may
-none_by link u (Ended ended reason) may none = none
+none_by s h link u (Brought from bytes) may none = none
+none_by s h link u (Said from cut verdict) may none = none
+none_by s h link u (Roomed roomed) may none = none
+none_by s h link u (Took by offered taken) may none = absurd may
+none_by s h link u (Lost lost) may none = absurd may
+none_by s h link u (Ended ended reason) may none = none
 
 -- ---- what every run keeps
 
@@ -134,10 +134,6 @@ record Kept (s : Setting) (h : History) : Type 0 where
   takes : (link : ℕ) → Takes (taken_bytes h link) (taken_by (trace_of s h) link) (lines_of s (trace_of s h) link)
   none : (link : ℕ) → greatest_link h < link → HasNone link (trace_of s h)
   offers : OffersStand s (trace_of s h) 0 (due s h) (greatest_link h)
-
-any_link : (new : Option ℕ) → IfSome new (λ link. ⊤)
-any_link None = tt
-any_link (Some link) = tt
 
 is_new : (new : Option ℕ) (high link : ℕ) → IfSome new (λ k. high < k) → IfSome new (λ k. (link == k) ≡ false) ⊎ (high < link)
 is_new None high link fresh = inl tt
@@ -149,12 +145,12 @@ still_above (Some k) high link above = omega arith
 
 module _ (s : Setting) (h : History) (e : Event) (kept : Kept s h) where
   none_after : (link : ℕ) → greatest_link h < link → HasNone link (trace_of s (did.Event e ∷ h))
-  none_after link above = kept_after s (λ k. ⊤) (HasNone link) (none_by link) (λ t k none. none) h e (any_link (new_link e)) (kept.none link above)
+  none_after link above = kept_after s h e (λ k. ⊤) (HasNone link) (none_by s (did.Event e ∷ h) link) (λ t k stopped none. none) (any_link (new_link e)) (kept.none link above)
 
   grown_after : (link : ℕ) → IfSome (new_link e) (λ k. (link == k) ≡ false) → Grown s (trace_of s h) link (trace_of s (did.Event e ∷ h))
   grown_after link other =
       let t = trace_of s h in
-      kept_after s (λ k. (link == k) ≡ false) (Grown s t link) (grown_by s t link) (λ u k grown. grown) h e other (grown_same s t link)
+      kept_after s h e (λ k. (link == k) ≡ false) (Grown s t link) (grown_by s (did.Event e ∷ h) t link) (λ u k stopped grown. grown) other (grown_same s h t link)
 
   takes_after : (link : ℕ) → IfSome (new_link e) (λ k. (link == k) ≡ false) ⊎ (greatest_link h < link)
       → Takes (taken_bytes h link) (taken_by (trace_of s (did.Event e ∷ h)) link) (lines_of s (trace_of s (did.Event e ∷ h)) link)
@@ -321,21 +317,6 @@ pub none_hear_themselves : NoneHearThemselves
 none_hear_themselves s t link = text_all s link t
 
 -- ---- closes
-
-member_placed : (link n : ℕ) (ns : List ℕ) → is_member link (placed n ns) ≡ true → ((n == link) || is_member link ns) ≡ true
-member_placed link n [] member = member
-member_placed link n (m ∷ ns) member = of (nat_lt n m) member (member_placed link n ns)
-  where
-    turned : (a b c : Bool) → (b || (a || c)) ≡ true → (a || (b || c)) ≡ true
-    turned true b c is = refl
-    turned false b c is = is
-
-    of : (b : Bool) → is_member link (if b then n ∷ m ∷ ns else m ∷ placed n ns) ≡ true → (is_member link (placed n ns) ≡ true → ((n == link) || is_member link ns) ≡ true)
-        → ((n == link) || ((m == link) || is_member link ns)) ≡ true
-    of true is later = is
-    of false is later =
-        turned (n == link) (m == link) (is_member link ns)
-        (⊎_elim (λ here. rw here refl) (λ other. rw other (later (sym (ap (λ b. b || is_member link (placed n ns)) other) ∙ is))) (cases_Bool (m == link)))
 
 ended_before : (t : Trace) (link : ℕ) (entry : Entry) → is_round_start entry ≡ false → HasEnded t link → HasEnded (entry ∷ t) link
 ended_before t link entry same ended = record {

@@ -23,7 +23,7 @@ use Rattle.aprs_history.specs.History.{History, admission, begun, ends_round, gr
 use Rattle.aprs_history.specs.Headline.{HasFreshLinks}
 use Rattle.aprs_history.specs.MessageRule.{HeardIsLastAccepted}
 use Rattle.aprs_history.proofs.EntryLemmas.{MayAdd, kept_begun, kept_ended, kept_event}
-use Rattle.aprs_history.proofs.RisingLemmas.{differs_above}
+use Rattle.aprs_history.proofs.NumberLemmas.{differs_above}
 
 -- ---- numbers that aren't above one
 
@@ -123,17 +123,17 @@ hears_said high t from cut verdict live hears =
       agree = (λ link call. ap (heard_after (moment_of t) from verdict link call) (agrees_now t hears.agree link call) ∙ sym (heard_more t from cut verdict link call), hears.agree);
     }
 
-hears_by : (high : ℕ) (t : Trace) (entry : Entry) → MayAdd (λ link. ⊥) t entry → Hears high t → Hears high (entry ∷ t)
-hears_by high t RoundBegan may hears = hears_same high t RoundBegan hears.live refl (λ link call. refl) hears
-hears_by high t (Ticked moment) may hears = hears_same high t (Ticked moment) hears.live refl (λ link call. refl) hears
-hears_by high t (Dated moment) may hears = hears_same high t (Dated moment) hears.live refl (λ link call. refl) hears
-hears_by high t (Opened listener admission link from) may hears = absurd may
-hears_by high t (Brought link bytes) may hears = hears_same high t (Brought link bytes) hears.live refl (λ link call. refl) hears
-hears_by high t (Said link cut verdict) may hears = hears_said high t link cut verdict may hears
-hears_by high t (Roomed link) may hears = hears_same high t (Roomed link) hears.live refl (λ link call. refl) hears
-hears_by high t (Took link offered taken) may hears = absurd may
-hears_by high t (Lost link) may hears = absurd may
-hears_by high t (Ended link reason) may hears = hears_same high t (Ended link reason) (within_filtered (is_other link) (live_links t) high hears.live) refl (λ link call. refl) hears
+hears_by : (s : Setting) (h : History) (high : ℕ) (t : Trace) (entry : Entry) → MayAdd s h (λ link. ⊥) t entry → Hears high t → Hears high (entry ∷ t)
+hears_by s h high t RoundBegan may hears = hears_same high t RoundBegan hears.live refl (λ link call. refl) hears
+hears_by s h high t (Ticked moment) may hears = hears_same high t (Ticked moment) hears.live refl (λ link call. refl) hears
+hears_by s h high t (Dated moment) may hears = hears_same high t (Dated moment) hears.live refl (λ link call. refl) hears
+hears_by s h high t (Opened listener admission link from) may hears = absurd may
+hears_by s h high t (Brought link bytes) may hears = hears_same high t (Brought link bytes) hears.live refl (λ link call. refl) hears
+hears_by s h high t (Said link cut verdict) may hears = hears_said high t link cut verdict may hears
+hears_by s h high t (Roomed link) may hears = hears_same high t (Roomed link) hears.live refl (λ link call. refl) hears
+hears_by s h high t (Took link offered taken) may hears = absurd may
+hears_by s h high t (Lost link) may hears = absurd may
+hears_by s h high t (Ended link reason) may hears = hears_same high t (Ended link reason) (within_filtered (is_other link) (live_links t) high hears.live) refl (λ link call. refl) hears
 
 hears_opened : (high k : ℕ) (t : Trace) (listener : ℕ) (admission : Admission) (from : Addr) → high < k → Hears high t → Hears (max k high) (Opened listener admission k from ∷ t)
 hears_opened high k t listener admission from above hears = record {
@@ -156,16 +156,16 @@ hears_opened high k t listener admission from above hears = record {
 hears_higher : (high more : ℕ) (t : Trace) → high ≤ more → Hears high t → Hears more t
 hears_higher high more t le hears = record { live = within_higher (live_links t) high more le hears.live; none = λ link call above. hears.none link call (omega arith); agree = hears.agree }
 
-hears_event : (s : Setting) (high : ℕ) (e : Event) (t : Trace) → IfSome (new_link e) (λ link. high < link) → Hears high t → Hears (greater_link (new_link e) high) (with_event s e t)
-hears_event s high (event.Opened listener link from) t fresh hears = hears_opened high link t listener (admission s t listener) from fresh hears
-hears_event s high (event.Joined uplink link at) t fresh hears = hears_higher high (max link high) t (omega arith) hears
-hears_event s high (event.Tick moment) t fresh hears = kept_event s (λ link. ⊥) (Hears high) (hears_by high) (event.Tick moment) t tt hears
-hears_event s high (event.Bytes link bytes) t fresh hears = kept_event s (λ link. ⊥) (Hears high) (hears_by high) (event.Bytes link bytes) t tt hears
-hears_event s high (event.Ended link) t fresh hears = kept_event s (λ link. ⊥) (Hears high) (hears_by high) (event.Ended link) t tt hears
-hears_event s high (event.Room link) t fresh hears = kept_event s (λ link. ⊥) (Hears high) (hears_by high) (event.Room link) t tt hears
-hears_event s high event.Stop t fresh hears = hears
-hears_event s high (event.Unjoined uplink) t fresh hears = hears
-hears_event s high (event.Datagram listener from bytes) t fresh hears = hears
+hears_event : (s : Setting) (h : History) (high : ℕ) (e : Event) (t : Trace) → IfSome (new_link e) (λ link. high < link) → Hears high t → Hears (greater_link (new_link e) high) (with_event s e t)
+hears_event s h high (event.Opened listener link from) t fresh hears = hears_opened high link t listener (admission s t listener) from fresh hears
+hears_event s h high (event.Joined uplink link at) t fresh hears = hears_higher high (max link high) t (omega arith) hears
+hears_event s h high (event.Tick moment) t fresh hears = let all = did.Event (event.Tick moment) ∷ h in kept_event s all (λ link. ⊥) (Hears high) (hears_by s all high) h (event.Tick moment) t refl tt hears
+hears_event s h high (event.Bytes link bytes) t fresh hears = let all = did.Event (event.Bytes link bytes) ∷ h in kept_event s all (λ link. ⊥) (Hears high) (hears_by s all high) h (event.Bytes link bytes) t refl tt hears
+hears_event s h high (event.Ended link) t fresh hears = let all = did.Event (event.Ended link) ∷ h in kept_event s all (λ link. ⊥) (Hears high) (hears_by s all high) h (event.Ended link) t refl tt hears
+hears_event s h high (event.Room link) t fresh hears = let all = did.Event (event.Room link) ∷ h in kept_event s all (λ link. ⊥) (Hears high) (hears_by s all high) h (event.Room link) t refl tt hears
+hears_event s h high event.Stop t fresh hears = hears
+hears_event s h high (event.Unjoined uplink) t fresh hears = hears
+hears_event s h high (event.Datagram listener from bytes) t fresh hears = hears
 
 hears : (s : Setting) (h : History) → HasFreshLinks h → Hears (greatest_link h) (trace_of s h)
 unfolding trace_of
@@ -173,10 +173,10 @@ hears s [] fresh = record { live = tt; none = λ link call above. refl; agree = 
 hears s (did.Event e ∷ h) fresh =
     let high = greatest_link h in
     let n = open_events h in
-    let begins = kept_begun s (λ link. ⊥) (Hears high) (hears_by high) n (trace_of s h) (hears s h fresh.0) in
+    let begins = kept_begun s h (λ link. ⊥) (Hears high) (hears_by s h high) n (trace_of s h) (hears s h fresh.0) in
     let more = greater_link (new_link e) high in
-    kept_ended s (λ link. ⊥) (Hears more) (hears_by more) (λ t k hears. hears_same more t (Ended k ByStop) (within_filtered (is_other k) (live_links t) more hears.live) refl (λ link call. refl) hears)
-    (ends_round n e) e (with_event s e (begun n (trace_of s h))) (hears_event s high e (begun n (trace_of s h)) fresh.1 begins)
+    kept_ended s (did.Event e ∷ h) (λ link. ⊥) (Hears more) (hears_by s (did.Event e ∷ h) more) (λ t k stopped hears. hears_same more t (Ended k ByStop) (within_filtered (is_other k) (live_links t) more hears.live) refl (λ link call. refl) hears)
+    (ends_round n e) h e (with_event s e (begun n (trace_of s h))) refl (hears_event s h high e (begun n (trace_of s h)) fresh.1 begins)
 hears s (did.Sent link bytes (sent.Took n) ∷ h) fresh =
     let before = hears s h fresh in hears_same (greatest_link h) (trace_of s h) (Took link (length bytes) n) before.live refl (λ link call. refl) before
 hears s (did.Sent link bytes sent.Gone ∷ h) fresh = let before = hears s h fresh in hears_same (greatest_link h) (trace_of s h) (Lost link) before.live refl (λ link call. refl) before

@@ -1,16 +1,19 @@
--- What every run keeps: the bytes that links take, whose packets their texts have, and which links are closed.
+-- What every run keeps: the bytes that links take, whose packets their texts have, and why links end and are closed.
 use Rattle.std.specs.Prelude.{◌≡◌, ◌≢◌, ℕ, ◌==◌, ◌<◌, List, [], ◌∷◌, ◌++◌, take, Bool, true, false, IfSome, IsTrue, IsFalse, if◌then◌else◌, ⊤}
 use Rattle.std.specs.List.{All, list_any}
 use Rattle.aprs_base.specs.Outside.{new_link}
 use Rattle.aprs_base.specs.PacketSeen.{PacketSeen}
 use Rattle.aprs_base.specs.declared.packets.Source.TheVariants as source
+use Rattle.aprs_base.specs.declared.events.Event.TheVariants as event
 use Rattle.aprs_base.specs.declared.events.Sent.{Sent}
 use Rattle.aprs_base.specs.declared.events.Sent.TheVariants as sent
+use Rattle.aprs_base.specs.declared.events.Happening.{Happening}
 use Rattle.aprs_base.specs.declared.events.Happening.TheVariants as did
 use Rattle.aprs_history.specs.Setting.{Setting}
-use Rattle.aprs_history.specs.Trace.{Trace, Entry, EndReason, RoundBegan, Ended, is_closing}
+use Rattle.aprs_history.specs.Trace.{Trace, Entry, EndReason, ByPeer, FoundGone, NoLogin, Silent, Overfull, Full, ByStop, RoundBegan, Ended, is_closing, is_member, turned_links}
+use Rattle.aprs_history.specs.Links.{is_gone, is_nameless, is_silent}
 use Rattle.aprs_history.specs.Texts.{TextLine, Relayed, lines_of, text_bytes, text_to, untaken}
-use Rattle.aprs_history.specs.History.{History, greatest_link, trace_of}
+use Rattle.aprs_history.specs.History.{History, greatest_link, is_stopped, trace_of}
 use Rattle.aprs_history.specs.Acts.{IsRun}
 
 -- each link that an event brings has a number above all before it
@@ -30,7 +33,7 @@ taken_bytes [] link = []
 taken_bytes (did.Sent to bytes outcome ∷ earlier) link = if link == to then taken_bytes earlier link ++ taken_of bytes outcome else taken_bytes earlier link
 taken_bytes (x ∷ earlier) link = taken_bytes earlier link
 
--- the bytes that a link took are a prefix of its text, and the rest is what it is offered next
+-- the bytes that a link took are a prefix of its text, and the rest is what it hasn't taken
 abbrev pub TakesPrefix : Setting → History → ℕ → Type 0
 TakesPrefix setting history link =
     text_bytes (lines_of setting (trace_of setting history) link) ≡ taken_bytes history link ++ untaken setting (trace_of setting history) link
@@ -61,3 +64,23 @@ pub record HasEnded (trace : Trace) (link : ℕ) : Type 0 where
 -- a link is closed only where it has ended so
 abbrev pub ClosesHaveReasons : Type 0
 ClosesHaveReasons = (setting : Setting) (later earlier : History) (link : ℕ) → IsRun setting (later ++ did.Closed link ∷ earlier) → HasEnded (trace_of setting earlier) link
+
+-- the peer of a link ended it
+abbrev pub is_end_by_peer : ℕ → Happening → Bool
+is_end_by_peer link (did.Event (event.Ended other)) = other == link
+is_end_by_peer link x = false
+
+-- the rule of each reason for which a link ends: by what happened, and by what came before the end
+abbrev pub EndsBy : Setting → History → Trace → ℕ → EndReason → Type 0
+EndsBy setting history earlier link ByPeer = IsTrue (list_any (is_end_by_peer link) history)
+EndsBy setting history earlier link FoundGone = IsTrue (is_gone earlier link)
+EndsBy setting history earlier link NoLogin = IsTrue (is_nameless earlier link)
+EndsBy setting history earlier link Silent = IsTrue (is_silent setting.client_timeout earlier link)
+EndsBy setting history earlier link Overfull = IsTrue (text_to setting earlier link).over
+EndsBy setting history earlier link Full = IsTrue (is_member link (turned_links earlier))
+EndsBy setting history earlier link ByStop = IsTrue (is_stopped history)
+
+-- a link ends only by its reason's rule
+abbrev pub LinksEndByRules : Type 0
+LinksEndByRules = (setting : Setting) (history : History) (later earlier : Trace) (link : ℕ) (reason : EndReason) → trace_of setting history ≡ later ++ Ended link reason ∷ earlier
+    → EndsBy setting history earlier link reason

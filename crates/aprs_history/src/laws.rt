@@ -1,12 +1,13 @@
 //! What every run of the server keeps, as laws of the definitions.
-ghost use Rattle.aprs_history.specs.Headline.{ClosesHaveReasons, LinksTakePrefixes, NoneHearThemselves};
+ghost use Rattle.aprs_history.specs.Headline.{ClosesHaveReasons, LinksEndByRules, LinksTakePrefixes, NoneHearThemselves};
 ghost use Rattle.aprs_history.specs.MessageRule.{HeardIsLastAccepted, PromisesAreOwed};
 
-/// The bytes that each link takes are a prefix of its text, no line of its text is a packet that it sent itself, and a link is
-/// closed only where it ended by a reason that closes.
+/// The bytes that each link takes are a prefix of its text, no line of its text is a packet that it sent itself, a link
+/// ends only by a rule, and it is closed only where it ended by a reason that closes.
 pub fn runs_keep_the_promise()
     ensures takes { LinksTakePrefixes }
     ensures others { NoneHearThemselves }
+    ensures ends { LinksEndByRules }
     ensures closes { ClosesHaveReasons }
 {}
 
