@@ -1,8 +1,10 @@
 pub mod Acts
 pub mod Dates
+pub mod Headline
 pub mod History
 pub mod Keys
 pub mod Links
+pub mod MessageRule
 pub mod Messages
 pub mod Rounds
 pub mod Runs

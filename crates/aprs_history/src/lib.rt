@@ -1,6 +1,8 @@
 //! The definitions of histories: rounds, verdicts, texts, ends, acts due, runs, and what it is that a core stands for a history.
 #![tactic(auto)]
 
+mod laws;
 mod verdicts;
 
+pub use laws::{messages_follow_the_rule, runs_keep_the_promise};
 pub use verdicts::{Admission, FilterAnswer, FilterFault, Refusal, Session, Verdict, copy_session};

@@ -1,0 +1,20 @@
+//! What every run of the server keeps, as laws of the definitions.
+ghost use Rattle.aprs_history.specs.Headline.{ClosesHaveReasons, LinksEndByRules, LinksTakePrefixes, NoneHearThemselves};
+ghost use Rattle.aprs_history.specs.MessageRule.{HeardIsLastAccepted, PromisesAreOwed};
+
+/// The bytes that each link takes are a prefix of its text, no line of its text is a packet that it sent itself, a link
+/// ends only by a rule, and it is closed only where it ended by a reason that closes.
+pub fn runs_keep_the_promise()
+    ensures takes { LinksTakePrefixes }
+    ensures others { NoneHearThemselves }
+    ensures ends { LinksEndByRules }
+    ensures closes { ClosesHaveReasons }
+{}
+
+/// A link heard a call where a packet of that source was accepted from it, at the last one's moment. A link is owed the next
+/// position of a sender exactly where a message of that sender went to it for what it heard, with no position of the sender
+/// since.
+pub fn messages_follow_the_rule()
+    ensures heard { HeardIsLastAccepted }
+    ensures owed { PromisesAreOwed }
+{}
