@@ -49,9 +49,9 @@ pub grew_nothing : (told : Option (List ℕ)) → told ≡ option_map (λ text. 
 grew_nothing None = refl
 grew_nothing (Some text) = ap Some (sym (append-nil text))
 
-pub words_cause : (o : Outside) (result : Status) → file_word o.words ≡ None → IsUnused o → Said o.sink o.sink_after usage_text status.BadWords result → Cause result o
-words_cause o result bad unused said =
-    said_cause o usage_text status.BadWords result said (record { bad = bad; unused = unused; line = refl }) (λ reports. reports)
+pub words_cause : (o : Outside) (text : List ℕ) (result : Status) → file_word o.words ≡ None → IsUnused o → text ≡ usage_text → Said o.sink o.sink_after text status.BadWords result → Cause result o
+words_cause o text result bad unused line said =
+    said_cause o text status.BadWords result said (record { bad = bad; unused = unused; line = line }) (λ reports. reports)
 
 pub off_cause : (o : Outside) (file bytes text : List ℕ) (result : Status) → file_word o.words ≡ Some file → Holds o.files.told file bytes → IsOff file bytes text
     → IsUnused o → Said o.sink o.sink_after text status.BadFile result → Cause result o
@@ -90,6 +90,9 @@ ended_cause o conf end result is read silent failed run = subst (λ st. Cause st
     causes ended.Memory failed run = memory_cause o silent (inr (record { conf = conf; read = read; run = run }))
 
 -- ---- files that tell their bytes
+
+at_files : (o : Outside) (files : List MemFile) (conf : ConfSeen) → o.files.told ≡ Some files → HasNamed o.words o.files.told conf → HasNamed o.words (Some files) conf
+at_files o files conf tells read = subst (λ told. HasNamed o.words told conf) tells read
 
 some_same : {X : Type 0} (r : Option X) (m n : X) → r ≡ Some m → r ≡ Some n → m ≡ n
 some_same r m n e f = cc
@@ -130,12 +133,12 @@ not_named : (words : List (List ℕ)) (file : List ℕ) → file_word words ≡ 
 not_named words file bad named = cc
 
 -- a text that is due where the files hold a configuration, and didn't fail, is the line on a listener
-due_listener : (wanted : Status) (o : Outside) (files : List MemFile) (conf : ConfSeen) (text : List ℕ) → o.files.told ≡ Some files → HasNamed o.words (Some files) conf
+due_listener : (wanted : Status) (o : Outside) (files : List MemFile) (conf : ConfSeen) (text : List ℕ) → o.files.told ≡ Some files → HasNamed o.words o.files.told conf
     → ¬ Rose o.files.faults o.files_after.faults → IsDue wanted o text → HasNoListener o text
 due_listener status.Stopped o files conf text tells read sound due = absurd due
 due_listener status.BadWords o files conf text tells read sound due = absurd (not_named o.words read.file due.bad read.named)
 due_listener status.BadFile o files conf text tells read sound due =
-    absurd (not_both o.words files conf text read (subst (λ told. HasRefused o.words told text) tells due.read))
+    absurd (not_both o.words files conf text (at_files o files conf tells read) (subst (λ told. HasRefused o.words told text) tells due.read))
 due_listener status.UnreadFile o files conf text tells read sound due = absurd (sound due.failed)
 due_listener status.NoListener o files conf text tells read sound due = due
 due_listener status.LostWire o files conf text tells read sound due = absurd due
@@ -147,14 +150,14 @@ due_listener status.LostSink o files conf text tells read sound due = absurd due
 unused_run : (o : Outside) (s : Setting) (P : History → Type 0) → P [] → IsUnused o → AppendsRun s o.wire.told o.wire_after.told P
 unused_run o s P begins unused = run_told s o.wire.told o.wire.told o.wire_after.told P unused (run_begins s o.wire.told P begins)
 
-served_run : (o : Outside) (files : List MemFile) (conf : ConfSeen) (P : Setting → History → Type 0) → o.files.told ≡ Some files → HasNamed o.words (Some files) conf → IsServed o P
+served_run : (o : Outside) (files : List MemFile) (conf : ConfSeen) (P : Setting → History → Type 0) → o.files.told ≡ Some files → HasNamed o.words o.files.told conf → IsServed o P
     → AppendsRun (setting_of conf) o.wire.told o.wire_after.told (P (setting_of conf))
 served_run o files conf P tells read served =
-    let same = same_conf o.words files served.conf conf (subst (λ told. HasNamed o.words told served.conf) tells served.read) read in
+    let same = same_conf o.words files served.conf conf (at_files o files served.conf tells served.read) (at_files o files conf tells read) in
     subst (λ c. AppendsRun (setting_of c) o.wire.told o.wire_after.told (P (setting_of c))) same served.run
 
 -- a run of which the end says nothing
-goes_on : (o : Outside) (files : List MemFile) (conf : ConfSeen) (code : ℕ) (P : Setting → History → Type 0) → o.files.told ≡ Some files → HasNamed o.words (Some files) conf
+goes_on : (o : Outside) (files : List MemFile) (conf : ConfSeen) (code : ℕ) (P : Setting → History → Type 0) → o.files.told ≡ Some files → HasNamed o.words o.files.told conf
     → ((s : Setting) (more : History) → Ended code s more) → IsUnused o ⊎ IsServed o P → AppendsRun (setting_of conf) o.wire.told o.wire_after.told (Ended code (setting_of conf))
 goes_on o files conf code P tells read any =
     ⊎_elim
@@ -183,11 +186,11 @@ due_run status.LostSink o text due = absurd due
 
 -- and so the end says nothing
 due_ended : (wanted : Status) (o : Outside) (text : List ℕ) (files : List MemFile) (conf : ConfSeen) (code : ℕ) → (code ≡ 0 → ⊥) → (code ≡ 5 → ⊥) → o.files.told ≡ Some files
-    → HasNamed o.words (Some files) conf → IsDue wanted o text → AppendsRun (setting_of conf) o.wire.told o.wire_after.told (Ended code (setting_of conf))
+    → HasNamed o.words o.files.told conf → IsDue wanted o text → AppendsRun (setting_of conf) o.wire.told o.wire_after.told (Ended code (setting_of conf))
 due_ended wanted o text files conf code not_0 not_5 tells read due =
     goes_on o files conf code Opening tells read (λ s more. record { stopped = λ e. absurd (not_0 e); lost = λ e. absurd (not_5 e) }) (due_run wanted o text due)
 
-pub headline : (o : Outside) (files : List MemFile) (conf : ConfSeen) (ending : Status) → o.files.told ≡ Some files → HasNamed o.words (Some files) conf → Cause ending o
+pub headline : (o : Outside) (files : List MemFile) (conf : ConfSeen) (ending : Status) → o.files.told ≡ Some files → HasNamed o.words o.files.told conf → Cause ending o
     → AppendsRun (setting_of conf) o.wire.told o.wire_after.told (Ended (code_of_status ending) (setting_of conf))
 headline o files conf status.Stopped tells read cause =
     served_run o files conf (Ended 0) tells read (served_weaker o Finished (Ended 0) (λ s more at. record { stopped = λ e. at; lost = λ e. absurd (omega arith) }) cause.run)
@@ -211,7 +214,7 @@ headline o files conf status.LostSink tells read cause =
 
 -- ---- the sink fails early
 
-pub early : (o : Outside) (files : List MemFile) (conf : ConfSeen) (ending : Status) → o.files.told ≡ Some files → HasNamed o.words (Some files) conf
+pub early : (o : Outside) (files : List MemFile) (conf : ConfSeen) (ending : Status) → o.files.told ≡ Some files → HasNamed o.words o.files.told conf
     → ¬ Rose o.files.faults o.files_after.faults → code_of_status ending ≡ 7 → Cause ending o
     → AppendsRun (setting_of conf) o.wire.told o.wire_after.told (Opening (setting_of conf))
 early o files conf status.Stopped tells read sound is cause = absurd (omega arith)
@@ -238,7 +241,7 @@ words_asked o status.NoMemory bad taken cause = inr refl
 words_asked o status.LostSink bad taken cause = absurd (taken cause.failed)
 
 served_not_off : (o : Outside) (files : List MemFile) (text : List ℕ) (P : Setting → History → Type 0) → o.files.told ≡ Some files → HasRefused o.words (Some files) text → IsServed o P → ⊥
-served_not_off o files text P tells refused served = not_both o.words files served.conf text (subst (λ told. HasNamed o.words told served.conf) tells served.read) refused
+served_not_off o files text P tells refused served = not_both o.words files served.conf text (at_files o files served.conf tells served.read) refused
 
 file_asked : (o : Outside) (files : List MemFile) (text : List ℕ) (ending : Status) → o.files.told ≡ Some files → HasRefused o.words (Some files) text
     → ¬ Rose o.files.faults o.files_after.faults → ¬ Rose o.sink.faults o.sink_after.faults → Cause ending o
@@ -252,7 +255,7 @@ file_asked o files text status.LostWire tells refused sound taken cause = absurd
 file_asked o files text status.NoMemory tells refused sound taken cause = inr refl
 file_asked o files text status.LostSink tells refused sound taken cause = absurd (taken cause.failed)
 
-conf_asked : (o : Outside) (files : List MemFile) (conf : ConfSeen) (ending : Status) → o.files.told ≡ Some files → HasNamed o.words (Some files) conf
+conf_asked : (o : Outside) (files : List MemFile) (conf : ConfSeen) (ending : Status) → o.files.told ≡ Some files → HasNamed o.words o.files.told conf
     → ¬ Rose o.files.faults o.files_after.faults → ¬ Rose o.wire.stops o.wire_after.stops → ¬ Rose o.sink.faults o.sink_after.faults → Cause ending o
     → (code_of_status ending ≡ 0) ⊎ (code_of_status ending ≡ 6)
 conf_asked o files conf status.Stopped tells read sound going taken cause = inl refl
@@ -264,14 +267,21 @@ conf_asked o files conf status.LostWire tells read sound going taken cause = abs
 conf_asked o files conf status.NoMemory tells read sound going taken cause = inr refl
 conf_asked o files conf status.LostSink tells read sound going taken cause = absurd (taken cause.failed)
 
-pub complete : (o : Outside) (files : List MemFile) (code : ℕ) (ending : Status) → o.files.told ≡ Some files → Asks o.words files code
+pub complete : (o : Outside) (code : ℕ) (ending : Status) → Asks o.words o.files.told code
     → ¬ Rose o.files.faults o.files_after.faults → ¬ Rose o.wire.stops o.wire_after.stops → ¬ Rose o.sink.faults o.sink_after.faults → Cause ending o
     → (code_of_status ending ≡ code) ⊎ (code_of_status ending ≡ 6)
-complete o files code ending tells asks sound going taken cause =
-    ⊎_elim
-    (λ words. subst (λ n. (code_of_status ending ≡ n) ⊎ (code_of_status ending ≡ 6)) (sym words.0) (words_asked o ending words.1 taken cause))
-    (λ good. ⊎_elim
-    (λ file. subst (λ n. (code_of_status ending ≡ n) ⊎ (code_of_status ending ≡ 6)) (sym file.0) (file_asked o files file.1 ending tells file.2 sound taken cause))
-    (λ named. subst (λ n. (code_of_status ending ≡ n) ⊎ (code_of_status ending ≡ 6)) (sym named.0) (conf_asked o files named.1 ending tells named.2 sound going taken cause))
-    good)
-    asks
+complete o code ending asks sound going taken cause = answers o.files.told refl asks
+  where
+    is_code : (wanted : ℕ) → code ≡ wanted → (code_of_status ending ≡ wanted) ⊎ (code_of_status ending ≡ 6) → (code_of_status ending ≡ code) ⊎ (code_of_status ending ≡ 6)
+    is_code wanted is asked = subst (λ n. (code_of_status ending ≡ n) ⊎ (code_of_status ending ≡ 6)) (sym is) asked
+
+    answers : (told : Option (List MemFile)) → o.files.told ≡ told → Asks o.words told code → (code_of_status ending ≡ code) ⊎ (code_of_status ending ≡ 6)
+    answers None tells words = is_code 1 words.0 (words_asked o ending words.1 taken cause)
+    answers (Some files) tells asks =
+        ⊎_elim
+        (λ words. is_code 1 words.0 (words_asked o ending words.1 taken cause))
+        (λ good. ⊎_elim
+        (λ file. is_code 2 file.0 (file_asked o files file.1 ending tells file.2 sound taken cause))
+        (λ named. is_code 0 named.0 (conf_asked o files named.1 ending tells (subst (λ told. HasNamed o.words told named.1) (sym tells) named.2) sound going taken cause))
+        good)
+        asks

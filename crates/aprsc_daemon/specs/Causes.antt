@@ -201,12 +201,14 @@ Opening setting more = listens_in more < length setting.listens
 
 -- ---- completeness
 
--- the status that the words and the file ask for: 1 for bad words, 2 for a file that is off, 0 for a configuration
-abbrev pub Asks : List (List ℕ) → List MemFile → ℕ → Type 0
-Asks words told code =
+-- the status that the words ask for, and the file where the files tell it: 1 for bad words, 2 for a file that is off, 0 for
+-- a configuration
+abbrev pub Asks : List (List ℕ) → Option (List MemFile) → ℕ → Type 0
+Asks words None code = (code ≡ 1) × (file_word words ≡ None)
+Asks words (Some files) code =
     ((code ≡ 1) × (file_word words ≡ None))
-    ⊎ ((code ≡ 2) × (text : List ℕ) × HasRefused words (Some told) text)
-    ⊎ ((code ≡ 0) × (conf : ConfSeen) × HasNamed words (Some told) conf)
+    ⊎ ((code ≡ 2) × (text : List ℕ) × HasRefused words (Some files) text)
+    ⊎ ((code ≡ 0) × (conf : ConfSeen) × HasNamed words (Some files) conf)
 
 -- ---- a text and its status
 

@@ -279,8 +279,7 @@ pub fn aprsc<R: Threads + Sync + Wait, F: Files, W: Wire, S: Sink>(
       sink_after = S.shown out.new;
     }) }
     // Where no fault was counted, the status is the one that the words and the file ask for, or 6.
-    ensures complete { (code : ℕ) (told : List MemFile) → (F.shown files.old).told ≡ Some told
-        → Asks (map string_bytes words.now) told code
+    ensures complete { (code : ℕ) → Asks (map string_bytes words.now) (F.shown files.old).told code
         → ¬ Rose (F.shown files.old).faults (F.shown files.new).faults
         → ¬ Rose (W.shown wire.old).stops (W.shown wire.new).stops
         → ¬ Rose (S.shown out.old).faults (S.shown out.new).faults

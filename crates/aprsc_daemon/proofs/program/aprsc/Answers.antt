@@ -1,22 +1,22 @@
 use Rattle.std.proofs.Common.{◌≡◌, ◌⊎◌, sym, ◌∙◌, subst}
 use Rattle.aprs_history.specs.Runs.{AppendsRun}
 use Rattle.server_core.specs.Meaning.{setting_of}
-use Rattle.aprsc_daemon.specs.Causes.{Ended, HasNamed}
+use Rattle.aprsc_daemon.specs.Causes.{Ended}
 use Rattle.aprsc_daemon.proofs.CauseLemmas.{complete, early, headline}
 use Rattle.aprsc_daemon.proofs.program.aprsc.Goals as goal
 
 pub returns-clause-run : goal.returns-clause-run
 returns-clause-run g c = λ conf told tells read.
     subst (λ n. AppendsRun (setting_of conf) (g.W.Wire.shown c.args.wire.now).told (g.W.Wire.shown c.run.new.wire).told (Ended n (setting_of conf))) (sym c.code.ensures)
-    (headline _ told conf c.run.result tells (subst (λ held. HasNamed _ held conf) tells read) c.run.ensures)
+    (headline _ told conf c.run.result tells read c.run.ensures)
 
 pub returns-clause-cause : goal.returns-clause-cause
 returns-clause-cause g c = (c.run.result, c.code.ensures, c.run.ensures)
 
 pub returns-clause-complete : goal.returns-clause-complete
-returns-clause-complete g c = λ code told tells asks sound going taken.
-    subst (λ n. (n ≡ code) ⊎ (n ≡ 6)) (sym c.code.ensures) (complete _ told code c.run.result tells asks sound going taken c.run.ensures)
+returns-clause-complete g c = λ code asks sound going taken.
+    subst (λ n. (n ≡ code) ⊎ (n ≡ 6)) (sym c.code.ensures) (complete _ code c.run.result asks sound going taken c.run.ensures)
 
 pub returns-clause-early : goal.returns-clause-early
 returns-clause-early g c = λ conf told tells read sound lost.
-    early _ told conf c.run.result tells (subst (λ held. HasNamed _ held conf) tells read) sound (sym c.code.ensures ∙ lost) c.run.ensures
+    early _ told conf c.run.result tells read sound (sym c.code.ensures ∙ lost) c.run.ensures
