@@ -8,9 +8,9 @@ returns-in-Ok g c = λ words files files_after read. ended_cause _ c.args.conf c
 
 pub returns-in-Err-Failed : goal.returns-in-Err-Failed
 returns-in-Err-Failed g c = λ words files files_after read.
-    let n = c.in-Err-Failed.n in
-    let failed = c.in-Err-Failed.ensures.listen n c.in-Err-Failed.field-0-is in
-    listener_cause _ c.args.conf n c.say_made.result read (c.in-Err-Failed.ensures.within n c.in-Err-Failed.field-0-is) failed.0 failed.1 (c.say_made.ensures (listen_failed_text n) c.listen_failed.ensures)
+    let failed = c.in-Err-Failed.ensures.listen c.in-Err-Failed.n c.in-Err-Failed.field-0-is in
+    let within = c.in-Err-Failed.ensures.within c.in-Err-Failed.n c.in-Err-Failed.field-0-is in
+    listener_cause _ c.args.conf c.in-Err-Failed.n c.say_made.result read within failed.0 failed.1 (c.say_made.ensures (listen_failed_text c.in-Err-Failed.n) c.listen_failed.ensures)
 
 pub returns-in-Err-Memory : goal.returns-in-Err-Memory
 returns-in-Err-Memory g c = λ words files files_after read. memory_cause _ refl (inr (record { conf = c.args.conf; read = read; run = c.in-Err-Memory.ensures.err }))
