@@ -1,15 +1,16 @@
 //! The class table.
 ghost use Rattle.std.specs.Prelude.{◌≡◌, ℕ};
+ghost use Rattle.aprs_base.specs.declared.packets.Body.{Body};
 ghost use Rattle.aprs_body.specs.Bodies.{body_of};
+ghost use Rattle.aprs_body.specs.Grammar.{IsBody};
 
 use crate::class::{QUERY, STATUS, USER_DEFINED, WEATHER};
 use crate::forms::{bare, item, message, object, positioned, rest_at, telemetry};
 use aprs_base::{Body, Call};
 use aprs_position::read_either;
 
-/// What a packet's destination and body say.
 #[tactic(auto, unfolding(crate::specs::Bodies::body_of))]
-pub fn classify(dest: &Call, body: &[u8]) -> Body
+fn look_up(dest: &Call, body: &[u8]) -> Body
     ensures { result ≡ body_of dest.now body.now }
 {
     match body.first() {
@@ -26,4 +27,14 @@ pub fn classify(dest: &Call, body: &[u8]) -> Body
         Some(b'?') => bare(QUERY),
         _ => bare(0),
     }
+}
+
+/// What a packet's destination and body say: the classes, the place, the name and life of an object or an item, and the
+/// receiver of a message. A body in none of the formats has no class.
+pub fn classify(dest: &Call, body: &[u8]) -> Body
+    ensures exact { result ≡ body_of dest.now body.now }
+    ensures said { IsBody dest.now body.now result }
+    ensures only { (other : Body) → IsBody dest.now body.now other → result ≡ other }
+{
+    look_up(dest, body)
 }

@@ -1,0 +1,9 @@
+//! The lines that a link has still to take: a ring of shared lines with a limit.
+#![tactic(auto)]
+
+mod queue;
+#[cfg(test)]
+mod tests;
+mod writing;
+
+pub use queue::{Overfull, Queue};

@@ -1,0 +1,117 @@
+//! A queue of lines: what is pushed is taken in order, byte by byte.
+ghost use Rattle.std.specs.Prelude.{◌≡◌, ◌+◌, ◌≤◌, ◌++◌, [], IfOk, IsErr, OnOk, OnErr, ◌↔◌, length, map, take, drop, min};
+ghost use Rattle.std.specs.Arc.{arc_value};
+ghost use Rattle.link_queue.specs.Lines.{queued};
+ghost use Rattle.link_queue.specs.Queues.{empty_queue, pending_bytes, with_line, without_bytes};
+
+use crate::writing::put_lines;
+use aprs_base::{Line, Memory};
+use circular_buffer::HeapCircularBuffer;
+use std::alloc::Global;
+use std::marker::Model;
+use std::sync::Arc;
+
+/// The queue has as many lines as its limit.
+#[derive(Clone, Copy, PartialEq, Eq, Debug)]
+pub struct Overfull;
+
+/// The lines that a link has still to take, in order, each shared with other queues. Of the first a part may be taken:
+/// some of its bytes and, after them, of its CR and LF. There are never more lines than the limit.
+#[derive(Drop)]
+pub struct Queue {
+    ring: HeapCircularBuffer<Arc<Line>>,
+    offset: usize,
+    pending: usize,
+}
+
+impl Model for Queue {
+    ghost use Rattle.std.specs.Prelude.{◌≡◌, ◌+◌, ◌*◌, ◌≤◌, map, length};
+    ghost use Rattle.std.specs.Arc.{arc_value};
+    ghost use Rattle.link_queue.specs.Lines.{text_bytes};
+    ghost use Rattle.link_queue.specs.Queues.{IsSound, QueueSeen};
+
+    ghost Value = { QueueSeen };
+
+    ghost view = { λ q. record { lines = map arc_value q.ring.items; offset = q.offset; limit = q.ring.capacity } };
+
+    ghost invariant = { λ q. IsSound (map arc_value q.ring.items) q.offset q.pending q.ring.capacity };
+}
+
+impl Queue {
+    /// A queue that holds 1 to 1,000 lines, with none in it.
+    pub fn with_limit(alloc: Global, n: usize) -> Result<Queue, Memory>
+        requires { (1 ≤ n) × (n ≤ 1000) }
+        ensures { IfOk result (λ q. q ≡ empty_queue n) }
+    {
+        Ok(Queue {
+            ring: HeapCircularBuffer::with_capacity(alloc, n)?,
+            offset: 0,
+            pending: 0,
+        })
+    }
+
+    /// Adds a line at the end. `Overfull` exactly where there are as many lines as the limit; nothing changes then.
+    pub fn push(&mut self, line: Arc<Line>) -> Result<(), Overfull>
+        ensures overfull { IsErr result ↔ (length self.old.lines ≡ self.old.limit) }
+        ensures ok { OnOk result (self.new ≡ with_line (arc_value line) self.old) }
+        ensures err { OnErr result (self.new ≡ self.old) }
+        ensures within { length self.new.lines ≤ self.new.limit }
+    {
+        let size = line.bytes().len() + 2;
+        let Ok(()) = self.ring.try_push_back(line) else {
+            return Err(Overfull);
+        };
+        self.pending += size;
+        Ok(())
+    }
+
+    /// Writes the next pending bytes, each line with its CR and LF, as many as there are and as fit, and says how many.
+    pub fn front_bytes(&self, out: &mut [u8]) -> usize
+        ensures count { result ≡ min (length out.old) (length (pending_bytes self.now)) }
+        ensures bytes { take result out.new ≡ take (length out.old) (pending_bytes self.now) }
+    {
+        let (front, back) = self.ring.as_slices();
+        let at = put_lines(out, 0, front, self.offset);
+        let skip = if front.is_empty() { self.offset } else { 0 };
+        put_lines(out, at, back, skip)
+    }
+
+    /// How many bytes are pending, each line with its CR and LF.
+    pub fn pending(&self) -> usize
+        ensures { result ≡ length (pending_bytes self.now) }
+    {
+        self.pending
+    }
+
+    /// Removes the first `n` pending bytes.
+    pub fn taken(&mut self, n: usize)
+        requires { n ≤ length (pending_bytes self.old) }
+        ensures exact { self.new ≡ without_bytes n self.old }
+        ensures rest { pending_bytes self.new ≡ drop n (pending_bytes self.old) }
+    {
+        self.pending -= n;
+        if self.pending == 0 {
+            self.ring.clear();
+            self.offset = 0;
+        } else {
+            self.offset = take_off(&mut self.ring, self.offset + n);
+        }
+    }
+}
+
+/// Takes off the lines that are wholly among the first `taken` bytes, and says how many bytes of the next one are.
+fn take_off(ring: &mut HeapCircularBuffer<Arc<Line>>, taken: usize) -> usize
+    ensures left { queued (map arc_value ring.old.items) taken ≡ record { lines = map arc_value ring.new.items; offset = result } }
+    ensures capacity { ring.new.capacity ≡ ring.old.capacity }
+{
+    let mut left = taken;
+    while let Some(line) = ring.front() {
+        let size = line.bytes().len() + 2;
+        if left < size {
+            return left;
+        }
+        left -= size;
+        ring.pop_front();
+    }
+    left
+}

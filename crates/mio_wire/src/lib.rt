@@ -1,0 +1,13 @@
+//! The network of the system: listeners and links over TCP behind the trait `Wire`.
+#![tactic(auto)]
+
+mod inbox;
+mod links;
+mod pace;
+mod sockets;
+#[cfg(test)]
+mod tests;
+mod turns;
+mod wire;
+
+pub use wire::MioWire;

@@ -1,0 +1,93 @@
+//! What was handed up since the last tick, and whether another is due before the next second.
+ghost use Rattle.std.specs.Prelude.{◌≡◌, ◌+◌, ◌-◌, ◌^◌, ◌||◌, true, false, min, length, nat_le};
+ghost use Rattle.mio_wire.specs.Pacing.{begins_end, line_ends};
+
+/// So many line ends make a tick due, so that no round brings more lines than a queue holds.
+const MOST_LINES: usize = 400;
+
+/// So many bytes make a tick due, so that no round brings more than one offer takes.
+const MOST_BYTES: usize = 48_000;
+
+/// As many bytes as an offer has at most: where they were all taken, more may be waiting.
+const WHOLE_OFFER: usize = 65_536;
+
+/// What was handed up, and sent, since the last tick.
+#[derive(Clone, Copy)]
+pub(crate) struct Pace {
+    handed: bool,
+    lines: usize,
+    bytes: usize,
+    whole: bool,
+}
+
+impl Pace {
+    pub(crate) fn rested() -> Pace
+        ensures { result ≡ record { handed = false; lines = 0; bytes = 0; whole = false } }
+    {
+        Pace {
+            handed: false,
+            lines: 0,
+            bytes: 0,
+            whole: false,
+        }
+    }
+
+    /// Whether a tick is due at once, before anything else is handed up.
+    pub(crate) fn is_full(&self) -> bool
+        ensures { result ≡ (nat_le 400 self.now.lines || nat_le 48000 self.now.bytes) }
+    {
+        self.lines >= MOST_LINES || self.bytes >= MOST_BYTES
+    }
+
+    /// Whether a tick is due where all that came is handed up.
+    pub(crate) fn is_due(&self) -> bool
+        ensures { result ≡ (self.now.handed || self.now.whole) }
+    {
+        self.handed || self.whole
+    }
+
+    pub(crate) fn note_event(&mut self)
+        ensures { self.new ≡ record self.old { handed = true } }
+    {
+        self.handed = true;
+    }
+
+    pub(crate) fn note_bytes(&mut self, bytes: &[u8])
+        ensures { self.new ≡ record self.old {
+          handed = true;
+          lines = min (self.old.lines + line_ends bytes.now) (2 ^ 64 - 1);
+          bytes = min (self.old.bytes + length bytes.now) (2 ^ 64 - 1);
+        } }
+    {
+        self.handed = true;
+        self.lines = self.lines.saturating_add(line_ends(bytes));
+        self.bytes = self.bytes.saturating_add(bytes.len());
+    }
+
+    /// A send took so many bytes.
+    pub(crate) fn note_taken(&mut self, count: usize)
+        ensures { self.new ≡ record self.old { whole = self.old.whole || nat_le 65536 count } }
+    {
+        self.whole = self.whole || count >= WHOLE_OFFER;
+    }
+}
+
+/// Whether a line end begins with `byte`, which stands after a CR or doesn't.
+fn begins_end(byte: u8, after_cr: bool) -> bool
+    ensures { result ≡ begins_end byte after_cr }
+{
+    byte == b'\r' || (byte == b'\n' && !after_cr)
+}
+
+/// How many line ends `bytes` have: CR, LF, or CR and LF together.
+fn line_ends(bytes: &[u8]) -> usize
+    ensures { result ≡ line_ends bytes.now }
+{
+    let mut ends = 0;
+    let mut after_cr = false;
+    for byte in bytes {
+        ends += usize::from(begins_end(*byte, after_cr));
+        after_cr = *byte == b'\r';
+    }
+    ends
+}

@@ -1,0 +1,108 @@
+//! What is ready and is served in turn, and what waits for another turn.
+ghost use Rattle.std.specs.Prelude.{◌≡◌, true, false};
+
+use mio::Events;
+use mio::event::Event;
+use std::alloc::{AllocError, Global};
+
+/// The tokens of listeners begin here. Those of links are their numbers, which are never used twice.
+pub(crate) const FIRST_EAR: usize = 1 << 32;
+
+/// A source that is ready.
+#[derive(Clone, Copy)]
+pub(crate) struct Ready {
+    pub(crate) token: usize,
+    pub(crate) readable: bool,
+    pub(crate) writable: bool,
+    /// Its peer will send no more.
+    pub(crate) closed: bool,
+    /// It waited for another turn.
+    pub(crate) again: bool,
+}
+
+impl Ready {
+    fn of(event: &Event) -> Ready {
+        let closed = event.is_read_closed();
+        Ready {
+            token: event.token().0,
+            readable: event.is_readable() || closed || event.is_error(),
+            writable: event.is_writable(),
+            closed,
+            again: false,
+        }
+    }
+
+    /// A source of which more can be read.
+    pub(crate) fn to_read(token: usize) -> Ready
+        ensures { result ≡ record { token = token; readable = true; writable = false; closed = false; again = true } }
+    {
+        Ready {
+            token,
+            readable: true,
+            writable: false,
+            closed: false,
+            again: true,
+        }
+    }
+
+    /// A link to which more can be written.
+    pub(crate) fn to_write(token: usize) -> Ready
+        ensures { result ≡ record { token = token; readable = false; writable = true; closed = false; again = true } }
+    {
+        Ready {
+            token,
+            readable: false,
+            writable: true,
+            closed: false,
+            again: true,
+        }
+    }
+}
+
+/// The sources that are ready in this turn, from the place that is served, and those that wait for the next.
+#[derive(Drop)]
+pub(crate) struct Turns {
+    ready: Vec<Ready>,
+    at: usize,
+    later: Vec<Ready>,
+}
+
+impl Turns {
+    pub(crate) fn new(alloc: Global) -> Turns {
+        Turns {
+            ready: Vec::new(alloc),
+            at: 0,
+            later: Vec::new(alloc),
+        }
+    }
+
+    /// The source that is served now.
+    pub(crate) fn current(&self) -> Option<Ready> {
+        self.ready.get(self.at).copied()
+    }
+
+    /// Goes on to the next source.
+    pub(crate) fn advance(&mut self) {
+        self.at = self.at.saturating_add(1);
+    }
+
+    /// Keeps a source for the next turn.
+    pub(crate) fn put_off(&mut self, ready: Ready) -> Result<(), AllocError> {
+        self.later.push(ready)?;
+        Ok(())
+    }
+
+    pub(crate) fn has_later(&self) -> bool {
+        !self.later.is_empty()
+    }
+
+    /// Begins a turn with what the poll brought and what waited.
+    pub(crate) fn begin(&mut self, events: &Events) -> Result<(), AllocError> {
+        self.ready.clear();
+        self.at = 0;
+        for event in events.iter() {
+            self.ready.push(Ready::of(event))?;
+        }
+        self.ready.append(&mut self.later)
+    }
+}
