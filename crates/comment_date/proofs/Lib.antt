@@ -1,0 +1,4 @@
+pub mod DateLemmas
+pub mod OnLiterals
+mod Rows
+pub mod TextLemmas
