@@ -13,9 +13,13 @@ use Rattle.aprs_base.specs.declared.events.Happening.TheVariants as did
 use Rattle.aprs_base.specs.declared.events.WireError.{WireError}
 use Rattle.aprs_base.specs.declared.events.WireError.TheVariants as wire_error
 
+-- a counter's value after one more, which stays at the last value
+abbrev pub one_more : ℕ → ℕ
+one_more n = min (n + 1) (2 ^ 64 - 1)
+
 -- a count of faults rose, or stands at a counter's last value
 abbrev pub Rose : ℕ → ℕ → Type 0
-Rose before now = min (before + 1) (2 ^ 64 - 1) ≤ now
+Rose before now = one_more before ≤ now
 
 -- what a wire tells: all that happened, in order, and where it listened, dialled and cast
 pub record Told : Type 0 where
