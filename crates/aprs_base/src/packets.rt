@@ -116,20 +116,6 @@ pub fn copy_via(via: &Via) -> Via
     via.clone().unwrap()
 }
 
-/// A copy of parts, which takes no memory.
-pub fn copy_parts(parts: &Parts) -> Parts
-    ensures { result ≡ parts.now }
-{
-    parts.clone().unwrap()
-}
-
-/// A copy of a body's reading, which takes no memory.
-pub fn copy_body(body: &Body) -> Body
-    ensures { result ≡ body.now }
-{
-    body.clone().unwrap()
-}
-
 /// A copy of an uplink's name, which takes no memory.
 pub fn copy_uplink(spec: &UplinkSpec) -> UplinkSpec
     ensures { result ≡ spec.now }
