@@ -22,9 +22,12 @@ use Rattle.filter_eval.specs.declared.seen.Seen.{Seen}
 abbrev pub position_age : ℕ
 position_age = 172800
 
--- seen less than two days before
+-- a moment less than two days before
+abbrev pub is_young : ℕ → ℕ → Bool
+is_young now moment = nat_lt (now - moment) position_age
+
 abbrev pub is_fresh : ℕ → Seen → Bool
-is_fresh now seen = nat_lt (now - seen.moment) position_age
+is_fresh now seen = is_young now seen.moment
 
 abbrev pub fresh : ℕ → Option Seen → Option Seen
 fresh now None = None
