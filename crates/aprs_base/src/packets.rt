@@ -40,6 +40,16 @@ pub struct Parts {
     pub body: ArrayVec<u8, 510>,
 }
 
+impl Model for Parts {
+    ghost use Rattle.aprs_base.specs.PartsSeen.{PartsSeen};
+
+    ghost Value = { PartsSeen };
+
+    ghost view = { λ p. record { source = p.source; dest = p.dest; vias = p.vias.items; body = p.body.items } };
+
+    ghost inverse = { λ p. record { source = p.source; dest = p.dest; vias = record { items = p.vias }; body = record { items = p.body } } };
+}
+
 /// What a body is: the bits of its class, and what it names.
 #[derive(Clone, PartialEq, Eq, Debug, Drop)]
 pub struct Body {
@@ -107,6 +117,16 @@ pub struct ListenSpec {
 pub struct UplinkSpec {
     pub host: ArrayVec<u8, 64>,
     pub port: u16,
+}
+
+impl Model for UplinkSpec {
+    ghost use Rattle.aprs_base.specs.UplinkSeen.{UplinkSeen};
+
+    ghost Value = { UplinkSeen };
+
+    ghost view = { λ u. record { host = u.host.items; port = u.port } };
+
+    ghost inverse = { λ u. record { host = record { items = u.host }; port = u.port } };
 }
 
 /// A copy of an element, which takes no memory.

@@ -4,7 +4,7 @@ use Rattle.std.specs.Map.{lookup}
 use Rattle.std.specs.declared.random_state.RandomState.{RandomState}
 use Rattle.indexmap.specs.IndexMap.{insert_entry}
 use Rattle.aprs_base.specs.PacketSeen.{PacketSeen}
-use Rattle.aprs_base.specs.declared.packets.Parts.{Parts}
+use Rattle.aprs_base.specs.PartsSeen.{PartsSeen}
 use Rattle.aprs_base.specs.declared.packets.Place.{Place}
 use Rattle.aprs_body.specs.Classes.{position_bit}
 use Rattle.filter_eval.specs.Passes.{entry_of, has_class, is_fresh, is_some_and, is_text, is_young, letter_of}
@@ -39,7 +39,7 @@ abbrev pub is_gate_letter : ℕ → Bool
 is_gate_letter letter = letter == 114 || letter == 82 || letter == 111
 
 -- the call right after such a construct
-abbrev pub gate_in : Parts → Option (List ℕ)
+abbrev pub gate_in : PartsSeen → Option (List ℕ)
 gate_in parts = if is_some_and is_gate_letter (letter_of parts) then entry_of parts else None
 
 -- ---- what becomes of a table

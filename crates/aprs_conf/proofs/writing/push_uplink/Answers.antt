@@ -8,7 +8,7 @@ use Rattle.aprs_conf.proofs.writing.push_uplink.Goals as goal
 pub returns : goal.returns
 returns c =
     let start = codes "Uplink uplink full tcp " in
-    let host = word_text c.args.uplink.now.host.items in
+    let host = word_text c.args.uplink.now.host in
     let port = word_text (decimal c.args.uplink.now.port) in
     let word = rw c.as_slice.ensures.value at c.in_ok-push_word.ensures in
     let number = rw c.from.ensures at c.in_ok-push_number.ensures in
