@@ -11,12 +11,11 @@ mod tests;
 mod texts;
 mod wire;
 
-pub use cutting::{Cut, Cutter, copy_cutter};
+pub use cutting::{Cut, Cutter};
 pub use events::{Event, Happening, Sent, WireError, copy_event};
 pub use files::{FileError, Files, MemFile, MemFiles};
 pub use packets::{
-    Body, ListenSpec, Packet, Parts, Place, PortKind, Shared, Source, UplinkSpec, Via, copy_uplink,
-    copy_via,
+    Body, ListenSpec, Packet, Parts, Place, PortKind, Shared, Source, UplinkSpec, Via, copy_via,
 };
 pub use sinks::{MemSink, Sink, SinkError};
 pub use texts::{

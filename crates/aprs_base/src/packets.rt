@@ -137,7 +137,7 @@ pub fn copy_via(via: &Via) -> Via
 }
 
 /// A copy of an uplink's name, which takes no memory.
-pub fn copy_uplink(spec: &UplinkSpec) -> UplinkSpec
+pub(crate) fn copy_uplink(spec: &UplinkSpec) -> UplinkSpec
     ensures { result ≡ spec.now }
 {
     spec.clone().unwrap()
