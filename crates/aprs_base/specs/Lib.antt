@@ -4,5 +4,7 @@ pub mod Held
 pub mod MemStores
 pub mod Outside
 pub mod PacketSeen
+pub mod PartsSeen
 pub mod Stores
+pub mod UplinkSeen
 pub mod WireScript

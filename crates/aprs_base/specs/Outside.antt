@@ -2,7 +2,7 @@
 use Rattle.std.specs.Prelude.{◌≡◌, ℕ, ◌+◌, ◌-◌, ◌≤◌, ◌^◌, ◌==◌, ◌&&◌, List, [], ◌∷◌, ◌++◌, length, min, Bool, true, Option, Some, None, Result, OnOk, OnErr, IfOk, IsErrOf, ⊤}
 use Rattle.std.specs.Option.{option_map}
 use Rattle.aprs_base.specs.declared.packets.ListenSpec.{ListenSpec}
-use Rattle.aprs_base.specs.declared.packets.UplinkSpec.{UplinkSpec}
+use Rattle.aprs_base.specs.UplinkSeen.{UplinkSeen}
 use Rattle.aprs_base.specs.declared.texts.Addr.{Addr}
 use Rattle.aprs_base.specs.declared.events.Event.{Event}
 use Rattle.aprs_base.specs.declared.events.Event.TheVariants as event
@@ -13,15 +13,19 @@ use Rattle.aprs_base.specs.declared.events.Happening.TheVariants as did
 use Rattle.aprs_base.specs.declared.events.WireError.{WireError}
 use Rattle.aprs_base.specs.declared.events.WireError.TheVariants as wire_error
 
+-- a counter's value after one more, which stays at the last value
+abbrev pub one_more : ℕ → ℕ
+one_more n = min (n + 1) (2 ^ 64 - 1)
+
 -- a count of faults rose, or stands at a counter's last value
 abbrev pub Rose : ℕ → ℕ → Type 0
-Rose before now = min (before + 1) (2 ^ 64 - 1) ≤ now
+Rose before now = one_more before ≤ now
 
 -- what a wire tells: all that happened, in order, and where it listened, dialled and cast
 pub record Told : Type 0 where
   pub done : List Happening
   pub listened : List ListenSpec
-  pub dialled : List UplinkSpec
+  pub dialled : List UplinkSeen
   pub cast_to : List Addr
 
 -- what a wire shows: what it tells, where it tells it; its counts of failed calls and of lost links; how many links it made
@@ -40,7 +44,7 @@ with_closed link told = with_done (did.Closed link) told
 abbrev pub with_listen : ℕ → ListenSpec → Told → Told
 with_listen n spec told = record told { done = told.done ++ did.Listen n ∷ []; listened = told.listened ++ spec ∷ [] }
 
-abbrev pub with_dial : ℕ → UplinkSpec → Told → Told
+abbrev pub with_dial : ℕ → UplinkSeen → Told → Told
 with_dial n spec told = record told { done = told.done ++ did.Dialled n ∷ []; dialled = told.dialled ++ spec ∷ [] }
 
 abbrev pub with_cast : ℕ → Addr → List ℕ → Told → Told

@@ -42,7 +42,7 @@ impl Model for Cutter {
 }
 
 /// A copy of a cutter, which takes no memory.
-pub fn copy_cutter(cutter: &Cutter) -> Cutter
+fn copy_cutter(cutter: &Cutter) -> Cutter
     ensures { result ≡ cutter.now }
 {
     cutter.clone().unwrap()

@@ -1,11 +1,11 @@
 //! Files, from which the configuration is read.
 ghost use Rattle.std.specs.Prelude.{◌≡◌, ◌↔◌, ◌⊎◌, ℕ, ◌<◌, Some, None, true, false, [], List, length, IsErrOf};
 ghost use Rattle.std.specs.Option.{option_map};
-ghost use Rattle.aprs_base.specs.MemStores.{FileTable, files_shown, is_to_fail};
+ghost use Rattle.aprs_base.specs.MemStores.{FileTable, after_read, files_shown, is_to_fail};
 ghost use Rattle.aprs_base.specs.Stores.{AfterRead, FilesShown, bytes_named};
 
 use crate::texts::Text;
-use std::alloc::AllocError;
+use std::alloc::{AllocError, AllocFailed};
 use std::marker::Model;
 
 /// Why a file wasn't read.
@@ -24,6 +24,17 @@ impl From<AllocError> for FileError {
     ghost from_gives = { λ _ e. e ≡ Memory };
 
     fn from(_error: AllocError) -> FileError {
+        FileError::Memory
+    }
+}
+
+impl<T: Drop> From<AllocFailed<T>> for FileError {
+    ghost use Rattle.std.specs.Prelude.{◌≡◌};
+    ghost use Rattle.aprs_base.specs.declared.files.FileError.TheVariants.{Memory};
+
+    ghost from_gives = { λ _ e. e ≡ Memory };
+
+    fn from(_failed: AllocFailed<T>) -> FileError {
         FileError::Memory
     }
 }
@@ -99,18 +110,20 @@ impl Files for MemFiles {
     fn read(&mut self, name: &str, limit: usize, out: &mut Vec<u8>) -> Result<(), FileError>
         ensures read { AfterRead (files_shown self.old) (files_shown self.new) name.now limit out.old.items out.new.items result }
         ensures failed { IsErrOf result FileError.Failed ↔ ((is_to_fail self.old.fail self.old.calls ≡ true) ⊎ (bytes_named name.now self.old.files ≡ None)) }
+        ensures exact { self.new ≡ after_read self.old result }
     {
-        let calls = self.calls;
-        self.calls = calls.saturating_add(1);
         let found = bytes_of(self.files.as_slice(), name.as_bytes());
-        let (false, Some(bytes)) = (is_listed(self.fail.as_slice(), calls), found) else {
+        let (false, Some(bytes)) = (is_listed(self.fail.as_slice(), self.calls), found) else {
+            self.calls = self.calls.saturating_add(1);
             self.faults = self.faults.saturating_add(1);
             return Err(FileError::Failed);
         };
         if bytes.len() > limit {
+            self.calls = self.calls.saturating_add(1);
             return Err(FileError::Big);
         }
         out.extend_from_slice(bytes)?;
+        self.calls = self.calls.saturating_add(1);
         Ok(())
     }
 }

@@ -11,16 +11,14 @@ mod tests;
 mod texts;
 mod wire;
 
-pub use cutting::{Cut, Cutter, copy_cutter};
+pub use cutting::{Cut, Cutter};
 pub use events::{Event, Happening, Sent, WireError, copy_event};
 pub use files::{FileError, Files, MemFile, MemFiles};
 pub use packets::{
-    Body, ListenSpec, Packet, Parts, Place, PortKind, Shared, Source, UplinkSpec, Via, copy_body,
-    copy_parts, copy_uplink, copy_via,
+    Body, ListenSpec, Packet, Parts, Place, PortKind, Shared, Source, UplinkSpec, Via, copy_via,
 };
 pub use sinks::{MemSink, Sink, SinkError};
 pub use texts::{
-    Addr, Call, Chunk, Failed, Line, Memory, Text, Word9, copy_call, copy_chunk, copy_line,
-    copy_word, first_place, is_construct_text,
+    Addr, Call, Chunk, Failed, Line, Memory, Text, Word9, copy_call, first_place, is_construct_text,
 };
 pub use wire::{MemWire, Take, Wire, WrongNumbers};

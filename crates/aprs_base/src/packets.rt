@@ -40,6 +40,16 @@ pub struct Parts {
     pub body: ArrayVec<u8, 510>,
 }
 
+impl Model for Parts {
+    ghost use Rattle.aprs_base.specs.PartsSeen.{PartsSeen};
+
+    ghost Value = { PartsSeen };
+
+    ghost view = { λ p. record { source = p.source; dest = p.dest; vias = p.vias.items; body = p.body.items } };
+
+    ghost inverse = { λ p. record { source = p.source; dest = p.dest; vias = record { items = p.vias }; body = record { items = p.body } } };
+}
+
 /// What a body is: the bits of its class, and what it names.
 #[derive(Clone, PartialEq, Eq, Debug, Drop)]
 pub struct Body {
@@ -109,6 +119,16 @@ pub struct UplinkSpec {
     pub port: u16,
 }
 
+impl Model for UplinkSpec {
+    ghost use Rattle.aprs_base.specs.UplinkSeen.{UplinkSeen};
+
+    ghost Value = { UplinkSeen };
+
+    ghost view = { λ u. record { host = u.host.items; port = u.port } };
+
+    ghost inverse = { λ u. record { host = record { items = u.host }; port = u.port } };
+}
+
 /// A copy of an element, which takes no memory.
 pub fn copy_via(via: &Via) -> Via
     ensures { result ≡ via.now }
@@ -116,22 +136,8 @@ pub fn copy_via(via: &Via) -> Via
     via.clone().unwrap()
 }
 
-/// A copy of parts, which takes no memory.
-pub fn copy_parts(parts: &Parts) -> Parts
-    ensures { result ≡ parts.now }
-{
-    parts.clone().unwrap()
-}
-
-/// A copy of a body's reading, which takes no memory.
-pub fn copy_body(body: &Body) -> Body
-    ensures { result ≡ body.now }
-{
-    body.clone().unwrap()
-}
-
 /// A copy of an uplink's name, which takes no memory.
-pub fn copy_uplink(spec: &UplinkSpec) -> UplinkSpec
+pub(crate) fn copy_uplink(spec: &UplinkSpec) -> UplinkSpec
     ensures { result ≡ spec.now }
 {
     spec.clone().unwrap()

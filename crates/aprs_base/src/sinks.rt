@@ -1,10 +1,10 @@
 //! Sinks, to which the program writes its answers.
 ghost use Rattle.std.specs.Prelude.{◌≡◌, ◌↔◌, ℕ, [], IfOk, IsErrOf, length, min, true};
-ghost use Rattle.aprs_base.specs.MemStores.{SinkText, is_to_fail, sink_shown};
+ghost use Rattle.aprs_base.specs.MemStores.{SinkText, after_write, is_to_fail, sink_shown};
 ghost use Rattle.aprs_base.specs.Stores.{AfterWrite, SinkShown};
 
 use crate::files::is_listed;
-use std::alloc::{AllocError, Global};
+use std::alloc::{AllocError, AllocFailed, Global};
 use std::marker::Model;
 
 /// Why a sink took nothing.
@@ -21,6 +21,17 @@ impl From<AllocError> for SinkError {
     ghost from_gives = { λ _ e. e ≡ Memory };
 
     fn from(_error: AllocError) -> SinkError {
+        SinkError::Memory
+    }
+}
+
+impl<T: Drop> From<AllocFailed<T>> for SinkError {
+    ghost use Rattle.std.specs.Prelude.{◌≡◌};
+    ghost use Rattle.aprs_base.specs.declared.sinks.SinkError.TheVariants.{Memory};
+
+    ghost from_gives = { λ _ e. e ≡ Memory };
+
+    fn from(_failed: AllocFailed<T>) -> SinkError {
         SinkError::Memory
     }
 }
@@ -75,15 +86,16 @@ impl Sink for MemSink {
         ensures write { AfterWrite (sink_shown self.old) (sink_shown self.new) bytes.now result }
         ensures failed { IsErrOf result SinkError.Failed ↔ (is_to_fail self.old.fail self.old.calls ≡ true) }
         ensures taken { IfOk result (λ n. n ≡ min (length bytes.now) self.old.most) }
+        ensures exact { self.new ≡ after_write self.old bytes.now result }
     {
-        let calls = self.calls;
-        self.calls = calls.saturating_add(1);
-        if is_listed(self.fail.as_slice(), calls) {
+        if is_listed(self.fail.as_slice(), self.calls) {
+            self.calls = self.calls.saturating_add(1);
             self.faults = self.faults.saturating_add(1);
             return Err(SinkError::Failed);
         }
         let count = bytes.len().min(self.most);
         self.text.extend_from_slice(&bytes[..count])?;
+        self.calls = self.calls.saturating_add(1);
         if count == 0 && !bytes.is_empty() {
             self.faults = self.faults.saturating_add(1);
         }

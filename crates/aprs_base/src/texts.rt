@@ -198,13 +198,6 @@ impl Word9 {
     }
 }
 
-/// A copy of a word, which takes no memory.
-pub fn copy_word(word: &Word9) -> Word9
-    ensures { result ≡ word.now }
-{
-    word.clone().unwrap()
-}
-
 /// A line without its end: 1 to 510 bytes, none of them CR or LF.
 #[derive(Clone, PartialEq, Eq, Debug, Drop)]
 pub struct Line {
@@ -252,13 +245,6 @@ impl Line {
     }
 }
 
-/// A copy of a line, which takes no memory.
-pub fn copy_line(line: &Line) -> Line
-    ensures { result ≡ line.now }
-{
-    line.clone().unwrap()
-}
-
 /// A piece of what a link or a datagram brought: 0 to 1,460 bytes.
 #[derive(Clone, PartialEq, Eq, Debug, Drop)]
 pub struct Chunk {
@@ -294,13 +280,6 @@ impl Chunk {
     {
         self.text.as_slice()
     }
-}
-
-/// A copy of a chunk, which takes no memory.
-pub fn copy_chunk(chunk: &Chunk) -> Chunk
-    ensures { result ≡ chunk.now }
-{
-    chunk.clone().unwrap()
 }
 
 /// A text of any length.

@@ -1,6 +1,6 @@
 //! The network: listeners, links that come and go, and datagrams.
 ghost use Rattle.std.specs.Prelude.{◌≡◌, ◌↔◌, ℕ, ◌+◌, ◌≤◌, ◌∷◌, Some, None, IsErr, IsOk, OnOk, OnErr, IsErrOf, IfOk, IsTrue, true, false, drop};
-ghost use Rattle.aprs_base.specs.WireScript.{next_events, outcome_of, script_of, shown_by};
+ghost use Rattle.aprs_base.specs.WireScript.{after_act, after_listen, after_next, after_send, next_event, outcome_of, script_of, shown_by};
 ghost use Rattle.aprs_base.specs.Outside.{AfterAct, AfterListen, AfterNext, AfterSend, Told, WireShown, are_numbered, new_link, with_cast, with_closed, with_dial};
 
 use crate::events::{Event, Happening, Sent, WireError, copy_event};
@@ -74,8 +74,7 @@ pub struct MemWire {
 }
 
 impl Model for MemWire {
-    ghost use Rattle.std.specs.Prelude.{IsTrue, true, false, drop};
-    ghost use Rattle.aprs_base.specs.WireScript.{next_events, outcome_of, script_of, shown_by};
+    ghost use Rattle.std.specs.Prelude.{IsTrue, drop};
     ghost use Rattle.aprs_base.specs.Outside.{are_numbered};
     ghost use Rattle.aprs_base.specs.WireScript.{WireScript};
 
@@ -165,11 +164,12 @@ impl Wire for MemWire {
 
     fn listen(&mut self, n: u16, spec: &ListenSpec) -> Result<(), WireError>
         ensures listen { AfterListen (shown_by self.old) (shown_by self.new) n spec.now result }
-        ensures exact { IsErrOf result WireError.Failed ↔ (self.old.fail_listen ≡ Some self.old.listens) }
+        ensures failed { IsErrOf result WireError.Failed ↔ (self.old.fail_listen ≡ Some self.old.listens) }
+        ensures exact { self.new ≡ after_listen n spec.now self.old result }
     {
         let calls = self.listens;
-        self.listens = calls.saturating_add(1);
         if self.fail_listen == Some(calls) {
+            self.listens = calls.saturating_add(1);
             self.stops = self.stops.saturating_add(1);
             return Err(WireError::Failed);
         }
@@ -178,26 +178,30 @@ impl Wire for MemWire {
             self.listened.pop();
             return Err(WireError::Memory);
         }
+        self.listens = calls.saturating_add(1);
         Ok(())
     }
 
     fn next(&mut self) -> Result<Event, WireError>
         ensures next { AfterNext (shown_by self.old) (shown_by self.new) result }
-        ensures exact { IsErrOf result WireError.Failed ↔ (self.old.fail_next ≡ Some self.old.nexts) }
-        ensures order { IfOk result (λ e. e ∷ self.new.left ≡ next_events self.old.left) }
+        ensures failed { IsErrOf result WireError.Failed ↔ (self.old.fail_next ≡ Some self.old.nexts) }
+        ensures order { IfOk result (λ e. e ≡ next_event self.old.left) }
+        ensures exact { self.new ≡ after_next self.old result }
     {
         let calls = self.nexts;
-        self.nexts = calls.saturating_add(1);
         if self.fail_next == Some(calls) {
+            self.nexts = calls.saturating_add(1);
             self.stops = self.stops.saturating_add(1);
             return Err(WireError::Failed);
         }
         let Some(event) = self.events.get(self.at) else {
             self.done.push(Happening::Event(Event::Stop))?;
+            self.nexts = calls.saturating_add(1);
             return Ok(Event::Stop);
         };
         let event = copy_event(event);
         self.done.push(Happening::Event(copy_event(&event)))?;
+        self.nexts = calls.saturating_add(1);
         self.at += 1;
         if let Some(link) = new_link_of(&event) {
             self.links = link;
@@ -207,7 +211,8 @@ impl Wire for MemWire {
 
     fn send(&mut self, link: u32, bytes: &[u8]) -> Result<Sent, Memory>
         ensures send { AfterSend (shown_by self.old) (shown_by self.new) link bytes.now result }
-        ensures exact { IfOk result (λ s. s ≡ outcome_of self.old.takes bytes.now) }
+        ensures outcome { IfOk result (λ s. s ≡ outcome_of self.old.takes bytes.now) }
+        ensures exact { self.new ≡ after_send link bytes.now self.old result }
     {
         let sent = match self.takes.get(self.sends) {
             None | Some(Take::All) => Sent::Took(bytes.len()),
@@ -216,19 +221,27 @@ impl Wire for MemWire {
         };
         let copy = Text::copied(self.alloc, bytes)?;
         self.done.push(Happening::Sent(link, copy, sent))?;
-        self.sends = self.sends.saturating_add(1);
+        if self.sends < self.takes.len() {
+            self.sends += 1;
+        }
         if sent == Sent::Gone {
             self.gones = self.gones.saturating_add(1);
         }
         Ok(sent)
     }
 
-    fn close(&mut self, link: u32) -> Result<(), Memory> {
+    fn close(&mut self, link: u32) -> Result<(), Memory>
+        ensures close { AfterAct (shown_by self.old) (shown_by self.new) (with_closed link) result }
+        ensures exact { self.new ≡ after_act (with_closed link) self.old result }
+    {
         self.done.push(Happening::Closed(link))?;
         Ok(())
     }
 
-    fn dial(&mut self, uplink: u16, spec: &UplinkSpec) -> Result<(), Memory> {
+    fn dial(&mut self, uplink: u16, spec: &UplinkSpec) -> Result<(), Memory>
+        ensures dial { AfterAct (shown_by self.old) (shown_by self.new) (with_dial uplink spec.now) result }
+        ensures exact { self.new ≡ after_act (with_dial uplink spec.now) self.old result }
+    {
         self.dialled.push(copy_uplink(spec))?;
         if self.done.push(Happening::Dialled(uplink)).is_err() {
             self.dialled.pop();
@@ -237,7 +250,10 @@ impl Wire for MemWire {
         Ok(())
     }
 
-    fn cast(&mut self, peer: u16, to: Addr, bytes: &[u8]) -> Result<(), Memory> {
+    fn cast(&mut self, peer: u16, to: Addr, bytes: &[u8]) -> Result<(), Memory>
+        ensures cast { AfterAct (shown_by self.old) (shown_by self.new) (with_cast peer to bytes.now) result }
+        ensures exact { self.new ≡ after_act (with_cast peer to bytes.now) self.old result }
+    {
         let copy = Text::copied(self.alloc, bytes)?;
         self.cast_to.push(to)?;
         if self.done.push(Happening::Cast(peer, copy)).is_err() {

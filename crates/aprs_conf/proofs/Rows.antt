@@ -185,7 +185,7 @@ whole : conf_of (codes "ServerId T2TEST" ++ (10 ∷ codes "PASSCODE 08385" ++ (1
   admin = codes "A B";
   email = codes "a@b";
   listens = listen (codes "a") kind.Only (0 ∷ 0 ∷ 0 ∷ 0 ∷ []) 1 true ∷ [];
-  uplinks = record { host = record { items = codes "h.example" }; port = 10152 } ∷ [];
+  uplinks = record { host = codes "h.example"; port = 10152 } ∷ [];
   group = Some (record { ip = 10 ∷ 0 ∷ 0 ∷ 1 ∷ []; port = 16404 });
   peers = record { call = codes "T2A"; at = record { ip = 10 ∷ 0 ∷ 0 ∷ 2 ∷ []; port = 16404 } } ∷ record { call = codes "T2B"; at = record { ip = 10 ∷ 0 ∷ 0 ∷ 3 ∷ []; port = 16405 } } ∷ [];
   up_timeout = 60;

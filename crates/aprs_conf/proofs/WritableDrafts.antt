@@ -5,7 +5,7 @@ use Rattle.std.specs.List.{list_all, find}
 use Rattle.std.proofs.lemmas.Bool.{eqb-false, leb-true, leb-false}
 use Rattle.std.proofs.lemmas.List.{length-append}
 use Rattle.aprs_base.specs.Bytes.{is_station}
-use Rattle.aprs_base.specs.declared.packets.UplinkSpec.{UplinkSpec}
+use Rattle.aprs_base.specs.UplinkSeen.{UplinkSeen}
 use Rattle.aprs_base.specs.declared.texts.Addr.{Addr}
 use Rattle.aprs_conf.specs.declared.arguments.Service.{Service}
 use Rattle.aprs_conf.specs.declared.errors.ConfError.TheVariants as cause
@@ -99,9 +99,9 @@ pub record WritableListen (listen : Listen) : Type 0 where
   pub service : WritableService (record { kind = listen.spec.kind; idle = listen.idle })
   pub at : WritableAt listen.spec.at
 
-pub record WritableUplink (uplink : UplinkSpec) : Type 0 where
-  pub host : host_of uplink.host.items ≡ Some uplink.host.items
-  pub word : IsWord uplink.host.items
+pub record WritableUplink (uplink : UplinkSeen) : Type 0 where
+  pub host : host_of uplink.host ≡ Some uplink.host
+  pub word : IsWord uplink.host
   pub port : IsPort uplink.port
 
 pub record WritablePeer (peer : PeerSpec) : Type 0 where
@@ -341,7 +341,7 @@ host_writable text host h word =
     let read = cond_some (nat_le 1 (length text) && nat_le (length text) 64) text host h in
     subst (λ t. (host_of t ≡ Some t) × IsWord t) read.1 (ap (λ b. cond b (Some text) None) read.0, word)
 
-uplink_in_writable : (args : List (List ℕ)) (uplink : UplinkSpec) → uplink_in args ≡ Ok uplink → list_all is_word args ≡ true → WritableUplink uplink
+uplink_in_writable : (args : List (List ℕ)) (uplink : UplinkSeen) → uplink_in args ≡ Ok uplink → list_all is_word args ≡ true → WritableUplink uplink
 uplink_in_writable args uplink h words =
     let five = need_ok fault.BadCount (five_of args) _ uplink h in
     let full = unless_ok (not (is_full five.0.1 five.0.2)) fault.BadKind _ uplink five.1.1 in
@@ -350,7 +350,7 @@ uplink_in_writable args uplink h words =
     let own = host_writable five.0.3 host.0 host.1.0 (uplink_host args five.0 five.1.0 words) in
     subst WritableUplink (ok_is _ uplink port.1.1) (record { host = own.0; word = own.1; port = within 1 65535 five.0.4 port.0 port.1.0 })
 
-with_uplinks : (draft : DraftSeen) (uplinks : List UplinkSpec) → WritableDraft draft → Each WritableUplink uplinks → length uplinks ≤ 8 → WritableDraft (record draft { uplinks = uplinks })
+with_uplinks : (draft : DraftSeen) (uplinks : List UplinkSeen) → WritableDraft draft → Each WritableUplink uplinks → length uplinks ≤ 8 → WritableDraft (record draft { uplinks = uplinks })
 with_uplinks draft uplinks s each few = assumption
 
 uplink_writable : (draft new : DraftSeen) (args : List (List ℕ)) → uplink_says draft args ≡ Ok new → list_all is_word args ≡ true → WritableDraft draft → WritableDraft new

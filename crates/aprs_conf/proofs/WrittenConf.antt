@@ -5,7 +5,7 @@ use Rattle.std.specs.List.{flat_map, list_all}
 use Rattle.std.specs.Fmt.{decimal}
 use Rattle.std.proofs.lemmas.Bool.{eq-eqb, ne_eqb, le-leb, lt-leb}
 use Rattle.std.proofs.lemmas.List.{length-append}
-use Rattle.aprs_base.specs.declared.packets.UplinkSpec.{UplinkSpec}
+use Rattle.aprs_base.specs.UplinkSeen.{UplinkSeen}
 use Rattle.aprs_base.specs.declared.texts.Addr.{Addr}
 use Rattle.aprs_conf.specs.declared.errors.ConfError.{ConfError}
 use Rattle.aprs_conf.specs.declared.errors.ConfFault.{ConfFault}
@@ -105,18 +105,18 @@ listens_say draft (listen ∷ listens) each few =
 
 -- ---- uplinks
 
-uplink_again : (uplink : UplinkSpec) → WritableUplink uplink → uplink_in (codes "uplink" ∷ codes "full" ∷ tcp ∷ uplink.host.items ∷ decimal uplink.port ∷ []) ≡ Ok uplink
+uplink_again : (uplink : UplinkSeen) → WritableUplink uplink → uplink_in (codes "uplink" ∷ codes "full" ∷ tcp ∷ uplink.host ∷ decimal uplink.port ∷ []) ≡ Ok uplink
 uplink_again uplink is = rw (is.host, port_again uplink.port is.port) refl
 
-uplink_is_line : (uplink : UplinkSpec) → WritableUplink uplink → IsLine (uplink_line uplink)
+uplink_is_line : (uplink : UplinkSeen) → WritableUplink uplink → IsLine (uplink_line uplink)
 uplink_is_line uplink is = (refl, rw (is.word, port_word uplink.port is.port) refl)
 
-one_uplink_says : (draft : DraftSeen) (uplink : UplinkSpec) → WritableUplink uplink → length draft.uplinks < 8 → line_says draft (uplink_line uplink) ≡ Ok (record draft { uplinks = draft.uplinks ++ uplink ∷ [] })
+one_uplink_says : (draft : DraftSeen) (uplink : UplinkSeen) → WritableUplink uplink → length draft.uplinks < 8 → line_says draft (uplink_line uplink) ≡ Ok (record draft { uplinks = draft.uplinks ++ uplink ∷ [] })
 one_uplink_says draft uplink is room =
-    ap (λ (r : Result UplinkSpec ConfFault). r >>= with_uplink draft) (uplink_again uplink is)
+    ap (λ (r : Result UplinkSeen ConfFault). r >>= with_uplink draft) (uplink_again uplink is)
     ∙ ap (λ full. unless full fault.TooMany (Ok (record draft { uplinks = draft.uplinks ++ uplink ∷ [] }))) (lt-leb 8 (length draft.uplinks) room)
 
-uplinks_say : (draft : DraftSeen) (uplinks : List UplinkSpec) → Each WritableUplink uplinks → length draft.uplinks + length uplinks ≤ 8 → all_say draft (map uplink_line uplinks) ≡ Ok (record draft { uplinks = draft.uplinks ++ uplinks })
+uplinks_say : (draft : DraftSeen) (uplinks : List UplinkSeen) → Each WritableUplink uplinks → length draft.uplinks + length uplinks ≤ 8 → all_say draft (map uplink_line uplinks) ≡ Ok (record draft { uplinks = draft.uplinks ++ uplinks })
 uplinks_say draft [] each few = ap (λ us. Ok (record draft { uplinks = us })) (sym (append-nil draft.uplinks))
 uplinks_say draft (uplink ∷ uplinks) each few =
     let more : DraftSeen = record draft { uplinks = draft.uplinks ++ uplink ∷ [] } in

@@ -2,7 +2,7 @@
 use Rattle.std.specs.Prelude.{ℕ, ◌+◌, ◌%◌, ◌==◌, ◌&&◌, Bool, true, false, if◌then◌else◌, nat_le, not, min, List, [], ◌∷◌, ◌++◌, length, codes, Option, Some, None, Result, Ok, Err, unwrap_or, is_some}
 use Rattle.std.specs.List.{find, list_any}
 use Rattle.std.specs.Option.{option_map}
-use Rattle.aprs_base.specs.declared.packets.UplinkSpec.{UplinkSpec}
+use Rattle.aprs_base.specs.UplinkSeen.{UplinkSeen}
 use Rattle.aprs_base.specs.declared.texts.Addr.{Addr}
 use Rattle.login_pass.specs.Login.{is_keyword}
 use Rattle.aprs_conf.specs.declared.reading.LineWord.{LineWord}
@@ -82,15 +82,15 @@ listen_says draft args = listen_in args >>= with_listen draft
 abbrev pub is_full : List ℕ → List ℕ → Bool
 is_full kind proto = same kind (codes "full") && same proto tcp
 
-abbrev pub uplink_in : List (List ℕ) → Result UplinkSpec ConfFault
+abbrev pub uplink_in : List (List ℕ) → Result UplinkSeen ConfFault
 uplink_in args = do
   five ← need fault.BadCount (five_of args)
   unless (not (is_full five.1 five.2)) fault.BadKind (do
     host ← need fault.BadHost (host_of five.3)
     port ← need fault.BadNumber (port_of five.4)
-    Ok (record { host = record { items = host }; port = port }))
+    Ok (record { host = host; port = port }))
 
-abbrev pub with_uplink : DraftSeen → UplinkSpec → Result DraftSeen ConfFault
+abbrev pub with_uplink : DraftSeen → UplinkSeen → Result DraftSeen ConfFault
 with_uplink draft uplink =
     unless (nat_le 8 (length draft.uplinks)) fault.TooMany (Ok (record draft { uplinks = draft.uplinks ++ uplink ∷ [] }))
 

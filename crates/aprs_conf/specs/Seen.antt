@@ -1,6 +1,6 @@
 -- Configurations as contracts see them.
 use Rattle.std.specs.Prelude.{ℕ, List, Option}
-use Rattle.aprs_base.specs.declared.packets.UplinkSpec.{UplinkSpec}
+use Rattle.aprs_base.specs.UplinkSeen.{UplinkSeen}
 use Rattle.aprs_base.specs.declared.texts.Addr.{Addr}
 use Rattle.aprs_conf.specs.declared.types.Listen.{Listen}
 use Rattle.aprs_conf.specs.declared.types.PeerSpec.{PeerSpec}
@@ -11,7 +11,7 @@ pub record ConfSeen : Type 0 where
   pub admin : List ℕ
   pub email : List ℕ
   pub listens : List Listen
-  pub uplinks : List UplinkSpec
+  pub uplinks : List UplinkSeen
   pub group : Option Addr
   pub peers : List PeerSpec
   pub up_timeout : ℕ
@@ -25,7 +25,7 @@ pub record DraftSeen : Type 0 where
   pub admin : Option (List ℕ)
   pub email : Option (List ℕ)
   pub listens : List Listen
-  pub uplinks : List UplinkSpec
+  pub uplinks : List UplinkSeen
   pub group : Option Addr
   pub peers : List PeerSpec
   pub up_timeout : Option ℕ

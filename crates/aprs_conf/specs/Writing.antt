@@ -4,7 +4,7 @@ use Rattle.std.specs.Fmt.{decimal}
 use Rattle.std.specs.List.{flat_map, list_all}
 use Rattle.aprs_base.specs.declared.packets.PortKind.{PortKind}
 use Rattle.aprs_base.specs.declared.packets.PortKind.TheVariants as kind
-use Rattle.aprs_base.specs.declared.packets.UplinkSpec.{UplinkSpec}
+use Rattle.aprs_base.specs.UplinkSeen.{UplinkSeen}
 use Rattle.aprs_base.specs.declared.texts.Addr.{Addr}
 use Rattle.aprs_conf.specs.declared.types.Listen.{Listen}
 use Rattle.aprs_conf.specs.declared.types.PeerSpec.{PeerSpec}
@@ -67,8 +67,8 @@ abbrev pub listen_line : Listen → List (List ℕ)
 listen_line listen = codes "Listen" ∷ listen.name ∷ kind_name listen.spec.kind ∷ proto_name listen.spec.kind listen.idle ∷ at_words listen.spec.at
 
 -- the name of an uplink is not kept
-abbrev pub uplink_line : UplinkSpec → List (List ℕ)
-uplink_line uplink = codes "Uplink" ∷ codes "uplink" ∷ codes "full" ∷ tcp ∷ uplink.host.items ∷ decimal uplink.port ∷ []
+abbrev pub uplink_line : UplinkSeen → List (List ℕ)
+uplink_line uplink = codes "Uplink" ∷ codes "uplink" ∷ codes "full" ∷ tcp ∷ uplink.host ∷ decimal uplink.port ∷ []
 
 abbrev pub peer_words : PeerSpec → List (List ℕ)
 peer_words peer = peer.call ∷ at_words peer.at

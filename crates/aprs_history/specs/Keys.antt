@@ -15,7 +15,7 @@ abbrev pub without_last_blanks : List ℕ → List ℕ
 without_last_blanks text = take (length text - suffix_len is_blank text) text
 
 abbrev pub key_of : Parts → Key
-key_of parts = record { source = parts.source; dest = base_of parts.dest; body = without_last_blanks parts.body.items }
+key_of parts = record { source = parts.source; dest = base_of parts.dest; body = without_last_blanks parts.body }
 
 abbrev pub is_text : List ℕ → List ℕ → Bool
 is_text a b = pointwise ◌==◌ a b

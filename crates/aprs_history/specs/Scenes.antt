@@ -18,7 +18,7 @@ use Rattle.aprs_history.specs.Verdicts.{Scene}
 -- a packet of a link as it is accepted
 abbrev pub packet_of : ℕ → ℕ → Parts → List ℕ → PacketSeen
 packet_of from moment parts line =
-    record { from = source.Link from; moment = moment; parts = parts; body = body_of parts.dest parts.body.items; line = line }
+    record { from = source.Link from; moment = moment; parts = parts; body = body_of parts.dest parts.body; line = line }
 
 -- the packet that a verdict accepts
 abbrev pub accepted_by : ℕ → ℕ → Verdict → List PacketSeen

@@ -6,10 +6,9 @@ use Rattle.aprs_base.specs.PacketSeen.{PacketSeen}
 use Rattle.filter_lang.specs.Terms.{TermSeen}
 use Rattle.filter_lang.specs.declared.terms.What.{What}
 use Rattle.filter_lang.specs.declared.terms.What.TheVariants as what
-use Rattle.filter_eval.specs.Passes.{fresh, is_some_and, passes_of}
+use Rattle.filter_eval.specs.Passes.{fresh, is_some_and, is_young, passes_of}
 use Rattle.filter_eval.specs.declared.seen.Seen.{Seen}
 use Rattle.station_table.specs.Last.{last_gate, last_place}
-use Rattle.station_table.specs.Stations.{is_young}
 use Rattle.aprs_history.specs.declared.verdicts.Session.{Session}
 use Rattle.aprs_history.specs.Trace.{Trace, moment_of}
 use Rattle.aprs_history.specs.Links.{filter_of, session_of}

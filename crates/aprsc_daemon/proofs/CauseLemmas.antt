@@ -1,21 +1,23 @@
 -- From what a part of the program did to the cause of its status.
-use Rattle.std.proofs.Common.{◌≡◌, ◌⊎◌, inl, inr, ℕ, ◌≤◌, ◌<◌, List, [], length, refl, sym, ap, ◌∙◌, subst, Option, Some, None, Result, Ok, ⊎_elim, arith}
+use Rattle.std.proofs.Common.{◌≡◌, ◌⊎◌, inl, inr, ℕ, ◌≤◌, ◌<◌, true, false, List, [], ◌++◌, length, refl, sym, ap, ◌∙◌, subst, append-nil, Option, Some, None, Result, Ok, ⊎_elim, arith}
 use Rattle.std.specs.Bool.{⊤}
+use Rattle.std.specs.Option.{option_map}
 use Rattle.aprs_base.specs.Outside.{Rose}
 use Rattle.aprs_base.specs.Stores.{Holds, bytes_named}
 use Rattle.aprs_base.specs.declared.files.MemFile.{MemFile}
 use Rattle.aprs_history.specs.Setting.{Setting}
 use Rattle.aprs_history.specs.History.{History}
-use Rattle.aprs_history.specs.Runs.{AppendsRun, listens_in}
+use Rattle.aprs_history.specs.Runs.{AppendsRun}
 use Rattle.server_core.specs.Meaning.{setting_of}
 use Rattle.aprs_conf.specs.Seen.{ConfSeen}
-use Rattle.aprsc_daemon.specs.Phases.{Ends, Finished, Idle}
-use Rattle.aprsc_daemon.specs.Saying.{listen_failed_text, trouble_text, too_large_text, unread_text, usage_text}
 use Rattle.aprs_conf.specs.Grammar.{conf_of}
 use Rattle.aprs_conf.specs.declared.errors.ConfError.{ConfError}
-use Rattle.aprsc_daemon.specs.Configuring.{IsTrouble}
+use Rattle.aprsc_daemon.specs.Phases.{Ends, Finished, Idle}
+use Rattle.aprsc_daemon.specs.Saying.{listen_failed_text, unread_text, usage_text}
+use Rattle.aprsc_daemon.specs.Configuring.{IsTrouble, is_built}
 use Rattle.aprsc_daemon.specs.declared.configuring.Trouble.{Trouble}
-use Rattle.aprsc_daemon.specs.Causes.{Cause, Ended, HasNamed, HasNoMemory, IsMessage, IsServed, IsUnused, OpensOnly, Outside, Said, Says, SaysPart, status_of, code_of_status}
+use Rattle.aprsc_daemon.specs.declared.configuring.Trouble.TheVariants as trouble
+use Rattle.aprsc_daemon.specs.Causes.{Asks, Cause, Ended, HasNamed, HasNoListener, HasNoMemory, HasRefused, IsDue, IsOff, IsServed, IsUnused, Opening, OpensOnly, Outside, Reports, Said, code_of_status, status_of}
 use Rattle.aprsc_daemon.specs.Words.{file_word}
 use Rattle.aprsc_daemon.specs.declared.serving.End.{End}
 use Rattle.aprsc_daemon.specs.declared.serving.End.TheVariants as ended
@@ -30,29 +32,52 @@ served_weaker o P Q weaker served = record {
   run = run_weaker (setting_of served.conf) o.wire.told o.wire_after.told (P (setting_of served.conf)) (Q (setting_of served.conf)) (weaker (setting_of served.conf)) served.run;
 }
 
--- before every listener is open
-abbrev pub Opening : Setting → History → Type 0
-Opening s more = listens_in more < length s.listens
+-- ---- a status that has a text
 
-pub said_cause : (o : Outside) (text : List ℕ) (wanted result : Status) → Said o.sink o.sink_after text wanted result → IsMessage (file_word o.words) text
-    → IsUnused o ⊎ IsServed o Opening → (Says o text → Cause wanted o) → Cause result o
-said_cause o text wanted result said message left cause =
+said_cause : (o : Outside) (text : List ℕ) (wanted result : Status) → Said o.sink o.sink_after text wanted result → IsDue wanted o text → (Reports wanted o → Cause wanted o) → Cause result o
+said_cause o text wanted result said due cause =
     ⊎_elim
-    (λ whole. subst (λ st. Cause st o) (sym whole.0) (cause whole.1))
+    (λ whole. subst (λ st. Cause st o) (sym whole.0) (cause (record { text = text; due = due; says = whole.1 })))
     (λ partly. ⊎_elim
-    (λ memory. subst (λ st. Cause st o) (sym memory.0) (record {
-      run = ⊎_elim {C = IsUnused o ⊎ IsServed o (λ s more. ⊤)} inl (λ served. inr (served_weaker o Opening (λ s more. ⊤) (λ s more at. tt) served)) left;
-      says = (text, message, memory.1);
-    }))
-    (λ lost. subst (λ st. Cause st o) (sym lost.0) (record { run = left; failed = lost.1; says = (text, message, lost.2) }))
+    (λ memory. subst (λ st. Cause st o) (sym memory.0) (inr (record { wanted = wanted; text = text; due = due; says = memory.1 })))
+    (λ lost. subst (λ st. Cause st o) (sym lost.0) (record { part = record { wanted = wanted; text = text; due = due; says = lost.2 }; failed = lost.1 }))
     partly)
     said
 
-silent_part : (o : Outside) (file : List ℕ) → file_word o.words ≡ Some file → o.sink_after.told ≡ o.sink.told → SaysPart o
-silent_part o file named silent = (too_large_text file, subst (λ word. IsMessage word (too_large_text file)) (sym named) (inl refl), inl silent)
+-- none of a text
+pub grew_nothing : (told : Option (List ℕ)) → told ≡ option_map (λ text. text ++ []) told
+grew_nothing None = refl
+grew_nothing (Some text) = ap Some (sym (append-nil text))
 
-pub memory_cause : (o : Outside) (file : List ℕ) → file_word o.words ≡ Some file → o.sink_after.told ≡ o.sink.told → IsUnused o ⊎ IsServed o (λ s more. ⊤) → HasNoMemory o
-memory_cause o file named silent left = record { run = left; says = silent_part o file named silent }
+pub words_cause : (o : Outside) (text : List ℕ) (result : Status) → file_word o.words ≡ None → IsUnused o → text ≡ usage_text → Said o.sink o.sink_after text status.BadWords result → Cause result o
+words_cause o text result bad unused line said =
+    said_cause o text status.BadWords result said (record { bad = bad; unused = unused; line = line }) (λ reports. reports)
+
+pub off_cause : (o : Outside) (file bytes text : List ℕ) (result : Status) → file_word o.words ≡ Some file → Holds o.files.told file bytes → IsOff file bytes text
+    → IsUnused o → Said o.sink o.sink_after text status.BadFile result → Cause result o
+off_cause o file bytes text result named holds off unused said =
+    said_cause o text status.BadFile result said
+    (record { read = record { file = file; bytes = bytes; named = named; holds = holds; off = off }; unused = unused })
+    (λ reports. reports)
+
+pub unread_cause : (o : Outside) (file : List ℕ) (result : Status) → file_word o.words ≡ Some file → Rose o.files.faults o.files_after.faults
+    → IsUnused o → Said o.sink o.sink_after (unread_text file) status.UnreadFile result → Cause result o
+unread_cause o file result named failed unused said =
+    said_cause o (unread_text file) status.UnreadFile result said
+    (record { file = file; named = named; failed = failed; unused = unused; line = refl })
+    (λ reports. reports)
+
+pub listener_cause : (o : Outside) (conf : ConfSeen) (n : ℕ) (result : Status) → HasNamed o.words o.files.told conf → n < length (setting_of conf).listens → Rose o.wire.stops o.wire_after.stops
+    → AppendsRun (setting_of conf) o.wire.told o.wire_after.told (OpensOnly n) → Said o.sink o.sink_after (listen_failed_text n) status.NoListener result → Cause result o
+listener_cause o conf n result read within failed run said =
+    said_cause o (listen_failed_text n) status.NoListener result said
+    (record { number = n; run = record { conf = conf; read = read; run = run }; within = within; failed = failed; line = refl })
+    (λ reports. reports)
+
+-- ---- a status without a text
+
+pub memory_cause : (o : Outside) → o.sink_after.told ≡ o.sink.told → IsUnused o ⊎ IsServed o (λ s more. ⊤) → HasNoMemory o
+memory_cause o silent left = inl (record { run = left; silent = silent })
 
 pub ended_cause : (o : Outside) (conf : ConfSeen) (end : End) (result : Status) → result ≡ status_of end → HasNamed o.words o.files.told conf → o.sink_after.told ≡ o.sink.told
     → (end ≡ ended.Failed → Rose o.wire.stops o.wire_after.stops)
@@ -62,60 +87,65 @@ ended_cause o conf end result is read silent failed run = subst (λ st. Cause st
     causes : (end : End) → (end ≡ ended.Failed → Rose o.wire.stops o.wire_after.stops) → AppendsRun (setting_of conf) o.wire.told o.wire_after.told (Ends (setting_of conf) end) → Cause (status_of end) o
     causes ended.Stopped failed run = record { run = record { conf = conf; read = read; run = run }; silent = silent }
     causes ended.Failed failed run = record { run = record { conf = conf; read = read; run = run }; failed = failed refl; silent = silent }
-    causes ended.Memory failed run = memory_cause o read.file read.named silent (inr (record { conf = conf; read = read; run = run }))
+    causes ended.Memory failed run = memory_cause o silent (inr (record { conf = conf; read = read; run = run }))
 
-pub listener_cause : (o : Outside) (conf : ConfSeen) (n : ℕ) (result : Status) → HasNamed o.words o.files.told conf → Rose o.wire.stops o.wire_after.stops
-    → AppendsRun (setting_of conf) o.wire.told o.wire_after.told (OpensOnly n (setting_of conf)) → Said o.sink o.sink_after (listen_failed_text n) status.NoListener result → Cause result o
-listener_cause o conf n result read failed run said =
-    said_cause o (listen_failed_text n) status.NoListener result said
-    (subst (λ word. IsMessage word (listen_failed_text n)) (sym read.named) (inr (inr (inr (n, refl)))))
-    (inr (served_weaker o (OpensOnly n) Opening (λ s more opens. subst (λ m. m < length s.listens) (sym opens.0) opens.2) served))
-    (λ says. record { number = n; run = served; failed = failed; says = says })
-  where
-    served : IsServed o (OpensOnly n)
-    served = record { conf = conf; read = read; run = run }
+-- ---- files that tell their bytes
 
-pub trouble_cause : (o : Outside) (file bytes : List ℕ) (trouble : Trouble) (result : Status) → file_word o.words ≡ Some file → Holds o.files.told file bytes → length bytes ≤ 65536
-    → IsTrouble trouble (conf_of bytes) → IsUnused o → Said o.sink o.sink_after (trouble_text file trouble) status.BadFile result → Cause result o
-trouble_cause o file bytes trouble result named holds short off unused said =
-    said_cause o (trouble_text file trouble) status.BadFile result said
-    (subst (λ word. IsMessage word (trouble_text file trouble)) (sym named) (inr (inl (trouble, refl))))
-    (inl unused)
-    (λ says. record { file = file; bytes = bytes; named = named; holds = holds; off = inr (short, trouble, off, says); unused = unused })
+at_files : (o : Outside) (files : List MemFile) (conf : ConfSeen) → o.files.told ≡ Some files → HasNamed o.words o.files.told conf → HasNamed o.words (Some files) conf
+at_files o files conf tells read = subst (λ told. HasNamed o.words told conf) tells read
 
-pub big_cause : (o : Outside) (file bytes : List ℕ) (result : Status) → file_word o.words ≡ Some file → Holds o.files.told file bytes → 65536 < length bytes
-    → IsUnused o → Said o.sink o.sink_after (too_large_text file) status.BadFile result → Cause result o
-big_cause o file bytes result named holds big unused said =
-    said_cause o (too_large_text file) status.BadFile result said
-    (subst (λ word. IsMessage word (too_large_text file)) (sym named) (inl refl))
-    (inl unused)
-    (λ says. record { file = file; bytes = bytes; named = named; holds = holds; off = inl (big, says); unused = unused })
+some_same : {X : Type 0} (r : Option X) (m n : X) → r ≡ Some m → r ≡ Some n → m ≡ n
+some_same r m n e f = cc
 
-pub unread_cause : (o : Outside) (file : List ℕ) (result : Status) → file_word o.words ≡ Some file → Rose o.files.faults o.files_after.faults
-    → IsUnused o → Said o.sink o.sink_after (unread_text file) status.UnreadFile result → Cause result o
-unread_cause o file result named failed unused said =
-    said_cause o (unread_text file) status.UnreadFile result said
-    (subst (λ word. IsMessage word (unread_text file)) (sym named) (inr (inr (inl refl))))
-    (inl unused)
-    (λ says. record { file = file; named = named; failed = failed; says = says; unused = unused })
+ok_same : (r : Result ConfSeen ConfError) (m n : ConfSeen) → r ≡ Ok m → r ≡ Ok n → m ≡ n
+ok_same r m n e f = cc
 
-pub words_cause : (o : Outside) (result : Status) → file_word o.words ≡ None → IsUnused o → Said o.sink o.sink_after usage_text status.BadWords result → Cause result o
-words_cause o result bad unused said =
-    said_cause o usage_text status.BadWords result said (subst (λ word. IsMessage word usage_text) (sym bad) refl) (inl unused) (λ says. record { bad = bad; unused = unused; says = says })
-
--- ---- the headline
+-- the words name one file, and it has one text
+same_bytes : (words : List (List ℕ)) (files : List MemFile) (this that here there : List ℕ) → file_word words ≡ Some this → file_word words ≡ Some that
+    → bytes_named this files ≡ Some here → bytes_named that files ≡ Some there → here ≡ there
+same_bytes words files this that here there named named_too holds holds_too =
+    some_same (bytes_named that files) here there (ap (λ name. bytes_named name files) (sym (some_same (file_word words) this that named named_too)) ∙ holds) holds_too
 
 same_conf : (words : List (List ℕ)) (files : List MemFile) (a b : ConfSeen) → HasNamed words (Some files) a → HasNamed words (Some files) b → a ≡ b
 same_conf words files a b x y =
-    let file = some_same (file_word words) x.file y.file x.named y.named in
-    let bytes = some_same (bytes_named y.file files) x.bytes y.bytes (ap (λ f. bytes_named f files) (sym file) ∙ x.holds) y.holds in
-    ok_same (conf_of y.bytes) a b (ap conf_of (sym bytes) ∙ x.reads) y.reads
-  where
-    some_same : {X : Type 0} (r : Option X) (m n : X) → r ≡ Some m → r ≡ Some n → m ≡ n
-    some_same r m n e f = cc
+    let same = same_bytes words files x.file y.file x.bytes y.bytes x.named y.named x.holds y.holds in
+    ok_same (conf_of y.bytes) a b (ap conf_of (sym same) ∙ x.reads) y.reads
 
-    ok_same : (r : Result ConfSeen ConfError) (m n : ConfSeen) → r ≡ Ok m → r ≡ Ok n → m ≡ n
-    ok_same r m n e f = cc
+no_trouble : (t : Trouble) (said : Result ConfSeen ConfError) (conf : ConfSeen) → said ≡ Ok conf → is_built conf ≡ true → IsTrouble t said → ⊥
+no_trouble (trouble.Line n f) said conf reads built is = cc
+no_trouble (trouble.Missing w) said conf reads built is = cc
+no_trouble trouble.NotBuilt said conf reads built is =
+    let same : is.0 ≡ conf = ok_same said is.0 conf is.1 reads in
+    let off : is_built conf ≡ false = subst (λ c. is_built c ≡ false) same is.2 in
+    cc
+
+-- no file is both a configuration and off
+not_both : (words : List (List ℕ)) (files : List MemFile) (conf : ConfSeen) (text : List ℕ) → HasNamed words (Some files) conf → HasRefused words (Some files) text → ⊥
+not_both words files conf text read refused =
+    let same = same_bytes words files read.file refused.file read.bytes refused.bytes read.named refused.named read.holds refused.holds in
+    let short : length refused.bytes ≤ 65536 = subst (λ bytes. length bytes ≤ 65536) same read.short in
+    ⊎_elim
+    (λ big. absurd (omega (arith, big.0)))
+    (λ off. no_trouble off.1 (conf_of refused.bytes) conf (ap conf_of (sym same) ∙ read.reads) read.built off.2)
+    refused.off
+
+not_named : (words : List (List ℕ)) (file : List ℕ) → file_word words ≡ None → file_word words ≡ Some file → ⊥
+not_named words file bad named = cc
+
+-- a text that is due where the files hold a configuration, and didn't fail, is the line on a listener
+due_listener : (wanted : Status) (o : Outside) (files : List MemFile) (conf : ConfSeen) (text : List ℕ) → o.files.told ≡ Some files → HasNamed o.words o.files.told conf
+    → ¬ Rose o.files.faults o.files_after.faults → IsDue wanted o text → HasNoListener o text
+due_listener status.Stopped o files conf text tells read sound due = absurd due
+due_listener status.BadWords o files conf text tells read sound due = absurd (not_named o.words read.file due.bad read.named)
+due_listener status.BadFile o files conf text tells read sound due =
+    absurd (not_both o.words files conf text (at_files o files conf tells read) (subst (λ told. HasRefused o.words told text) tells due.read))
+due_listener status.UnreadFile o files conf text tells read sound due = absurd (sound due.failed)
+due_listener status.NoListener o files conf text tells read sound due = due
+due_listener status.LostWire o files conf text tells read sound due = absurd due
+due_listener status.NoMemory o files conf text tells read sound due = absurd due
+due_listener status.LostSink o files conf text tells read sound due = absurd due
+
+-- ---- the headline
 
 unused_run : (o : Outside) (s : Setting) (P : History → Type 0) → P [] → IsUnused o → AppendsRun s o.wire.told o.wire_after.told P
 unused_run o s P begins unused = run_told s o.wire.told o.wire.told o.wire_after.told P unused (run_begins s o.wire.told P begins)
@@ -123,7 +153,7 @@ unused_run o s P begins unused = run_told s o.wire.told o.wire.told o.wire_after
 served_run : (o : Outside) (files : List MemFile) (conf : ConfSeen) (P : Setting → History → Type 0) → o.files.told ≡ Some files → HasNamed o.words o.files.told conf → IsServed o P
     → AppendsRun (setting_of conf) o.wire.told o.wire_after.told (P (setting_of conf))
 served_run o files conf P tells read served =
-    let same = same_conf o.words files served.conf conf (subst (λ told. HasNamed o.words told served.conf) tells served.read) (subst (λ told. HasNamed o.words told conf) tells read) in
+    let same = same_conf o.words files served.conf conf (at_files o files served.conf tells served.read) (at_files o files conf tells read) in
     subst (λ c. AppendsRun (setting_of c) o.wire.told o.wire_after.told (P (setting_of c))) same served.run
 
 -- a run of which the end says nothing
@@ -134,21 +164,124 @@ goes_on o files conf code P tells read any =
     (unused_run o (setting_of conf) (Ended code (setting_of conf)) (any (setting_of conf) []))
     (λ served. served_run o files conf (Ended code) tells read (served_weaker o P (Ended code) (λ s more at. any s more) served))
 
+opens_some : (o : Outside) (text : List ℕ) → HasNoListener o text → IsServed o Opening
+opens_some o text due =
+    let s = setting_of due.run.conf in
+    record {
+      conf = due.run.conf;
+      read = due.run.read;
+      run = run_weaker s o.wire.told o.wire_after.told (OpensOnly due.number) (Opening s) (λ more opens. subst (λ m. m < length s.listens) (sym opens.0) due.within) due.run.run;
+    }
+
+-- where a text is due nothing happened, or not every listener was opened
+due_run : (wanted : Status) (o : Outside) (text : List ℕ) → IsDue wanted o text → IsUnused o ⊎ IsServed o Opening
+due_run status.Stopped o text due = absurd due
+due_run status.BadWords o text due = inl due.unused
+due_run status.BadFile o text due = inl due.unused
+due_run status.UnreadFile o text due = inl due.unused
+due_run status.NoListener o text due = inr (opens_some o text due)
+due_run status.LostWire o text due = absurd due
+due_run status.NoMemory o text due = absurd due
+due_run status.LostSink o text due = absurd due
+
+-- and so the end says nothing
+due_ended : (wanted : Status) (o : Outside) (text : List ℕ) (files : List MemFile) (conf : ConfSeen) (code : ℕ) → (code ≡ 0 → ⊥) → (code ≡ 5 → ⊥) → o.files.told ≡ Some files
+    → HasNamed o.words o.files.told conf → IsDue wanted o text → AppendsRun (setting_of conf) o.wire.told o.wire_after.told (Ended code (setting_of conf))
+due_ended wanted o text files conf code not_0 not_5 tells read due =
+    goes_on o files conf code Opening tells read (λ s more. record { stopped = λ e. absurd (not_0 e); lost = λ e. absurd (not_5 e) }) (due_run wanted o text due)
+
 pub headline : (o : Outside) (files : List MemFile) (conf : ConfSeen) (ending : Status) → o.files.told ≡ Some files → HasNamed o.words o.files.told conf → Cause ending o
     → AppendsRun (setting_of conf) o.wire.told o.wire_after.told (Ended (code_of_status ending) (setting_of conf))
 headline o files conf status.Stopped tells read cause =
     served_run o files conf (Ended 0) tells read (served_weaker o Finished (Ended 0) (λ s more at. record { stopped = λ e. at; lost = λ e. absurd (omega arith) }) cause.run)
 headline o files conf status.BadWords tells read cause =
-    goes_on o files conf 1 (λ s more. ⊤) tells read (λ s more. record { stopped = λ e. absurd (omega arith); lost = λ e. absurd (omega arith) }) (inl cause.unused)
+    due_ended status.BadWords o cause.text files conf 1 (λ e. omega arith) (λ e. omega arith) tells read cause.due
 headline o files conf status.BadFile tells read cause =
-    goes_on o files conf 2 (λ s more. ⊤) tells read (λ s more. record { stopped = λ e. absurd (omega arith); lost = λ e. absurd (omega arith) }) (inl cause.unused)
+    due_ended status.BadFile o cause.text files conf 2 (λ e. omega arith) (λ e. omega arith) tells read cause.due
 headline o files conf status.UnreadFile tells read cause =
-    goes_on o files conf 3 (λ s more. ⊤) tells read (λ s more. record { stopped = λ e. absurd (omega arith); lost = λ e. absurd (omega arith) }) (inl cause.unused)
+    due_ended status.UnreadFile o cause.text files conf 3 (λ e. omega arith) (λ e. omega arith) tells read cause.due
 headline o files conf status.NoListener tells read cause =
-    goes_on o files conf 4 (OpensOnly cause.number) tells read (λ s more. record { stopped = λ e. absurd (omega arith); lost = λ e. absurd (omega arith) }) (inr cause.run)
+    due_ended status.NoListener o cause.text files conf 4 (λ e. omega arith) (λ e. omega arith) tells read cause.due
 headline o files conf status.LostWire tells read cause =
     served_run o files conf (Ended 5) tells read (served_weaker o Idle (Ended 5) (λ s more at. record { stopped = λ e. absurd (omega arith); lost = λ e. at }) cause.run)
 headline o files conf status.NoMemory tells read cause =
-    goes_on o files conf 6 (λ s more. ⊤) tells read (λ s more. record { stopped = λ e. absurd (omega arith); lost = λ e. absurd (omega arith) }) cause.run
+    ⊎_elim
+    (λ short. goes_on o files conf 6 (λ s more. ⊤) tells read (λ s more. record { stopped = λ e. absurd (omega arith); lost = λ e. absurd (omega arith) }) short.run)
+    (λ part. due_ended part.wanted o part.text files conf 6 (λ e. omega arith) (λ e. omega arith) tells read part.due)
+    cause
 headline o files conf status.LostSink tells read cause =
-    goes_on o files conf 7 Opening tells read (λ s more. record { stopped = λ e. absurd (omega arith); lost = λ e. absurd (omega arith) }) cause.run
+    due_ended cause.part.wanted o cause.part.text files conf 7 (λ e. omega arith) (λ e. omega arith) tells read cause.part.due
+
+-- ---- the sink fails early
+
+pub early : (o : Outside) (files : List MemFile) (conf : ConfSeen) (ending : Status) → o.files.told ≡ Some files → HasNamed o.words o.files.told conf
+    → ¬ Rose o.files.faults o.files_after.faults → code_of_status ending ≡ 7 → Cause ending o
+    → AppendsRun (setting_of conf) o.wire.told o.wire_after.told (Opening (setting_of conf))
+early o files conf status.Stopped tells read sound is cause = absurd (omega arith)
+early o files conf status.BadWords tells read sound is cause = absurd (omega arith)
+early o files conf status.BadFile tells read sound is cause = absurd (omega arith)
+early o files conf status.UnreadFile tells read sound is cause = absurd (omega arith)
+early o files conf status.NoListener tells read sound is cause = absurd (omega arith)
+early o files conf status.LostWire tells read sound is cause = absurd (omega arith)
+early o files conf status.NoMemory tells read sound is cause = absurd (omega arith)
+early o files conf status.LostSink tells read sound is cause =
+    served_run o files conf Opening tells read (opens_some o cause.part.text (due_listener cause.part.wanted o files conf cause.part.text tells read sound cause.part.due))
+
+-- ---- completeness
+
+words_asked : (o : Outside) (ending : Status) → file_word o.words ≡ None → ¬ Rose o.sink.faults o.sink_after.faults → Cause ending o
+    → (code_of_status ending ≡ 1) ⊎ (code_of_status ending ≡ 6)
+words_asked o status.Stopped bad taken cause = absurd (not_named o.words cause.run.read.file bad cause.run.read.named)
+words_asked o status.BadWords bad taken cause = inl refl
+words_asked o status.BadFile bad taken cause = absurd (not_named o.words cause.due.read.file bad cause.due.read.named)
+words_asked o status.UnreadFile bad taken cause = absurd (not_named o.words cause.due.file bad cause.due.named)
+words_asked o status.NoListener bad taken cause = absurd (not_named o.words cause.due.run.read.file bad cause.due.run.read.named)
+words_asked o status.LostWire bad taken cause = absurd (not_named o.words cause.run.read.file bad cause.run.read.named)
+words_asked o status.NoMemory bad taken cause = inr refl
+words_asked o status.LostSink bad taken cause = absurd (taken cause.failed)
+
+served_not_off : (o : Outside) (files : List MemFile) (text : List ℕ) (P : Setting → History → Type 0) → o.files.told ≡ Some files → HasRefused o.words (Some files) text → IsServed o P → ⊥
+served_not_off o files text P tells refused served = not_both o.words files served.conf text (at_files o files served.conf tells served.read) refused
+
+file_asked : (o : Outside) (files : List MemFile) (text : List ℕ) (ending : Status) → o.files.told ≡ Some files → HasRefused o.words (Some files) text
+    → ¬ Rose o.files.faults o.files_after.faults → ¬ Rose o.sink.faults o.sink_after.faults → Cause ending o
+    → (code_of_status ending ≡ 2) ⊎ (code_of_status ending ≡ 6)
+file_asked o files text status.Stopped tells refused sound taken cause = absurd (served_not_off o files text Finished tells refused cause.run)
+file_asked o files text status.BadWords tells refused sound taken cause = absurd (not_named o.words refused.file cause.due.bad refused.named)
+file_asked o files text status.BadFile tells refused sound taken cause = inl refl
+file_asked o files text status.UnreadFile tells refused sound taken cause = absurd (sound cause.due.failed)
+file_asked o files text status.NoListener tells refused sound taken cause = absurd (served_not_off o files text (λ s. OpensOnly cause.due.number) tells refused cause.due.run)
+file_asked o files text status.LostWire tells refused sound taken cause = absurd (served_not_off o files text Idle tells refused cause.run)
+file_asked o files text status.NoMemory tells refused sound taken cause = inr refl
+file_asked o files text status.LostSink tells refused sound taken cause = absurd (taken cause.failed)
+
+conf_asked : (o : Outside) (files : List MemFile) (conf : ConfSeen) (ending : Status) → o.files.told ≡ Some files → HasNamed o.words o.files.told conf
+    → ¬ Rose o.files.faults o.files_after.faults → ¬ Rose o.wire.stops o.wire_after.stops → ¬ Rose o.sink.faults o.sink_after.faults → Cause ending o
+    → (code_of_status ending ≡ 0) ⊎ (code_of_status ending ≡ 6)
+conf_asked o files conf status.Stopped tells read sound going taken cause = inl refl
+conf_asked o files conf status.BadWords tells read sound going taken cause = absurd (going (due_listener status.BadWords o files conf cause.text tells read sound cause.due).failed)
+conf_asked o files conf status.BadFile tells read sound going taken cause = absurd (going (due_listener status.BadFile o files conf cause.text tells read sound cause.due).failed)
+conf_asked o files conf status.UnreadFile tells read sound going taken cause = absurd (sound cause.due.failed)
+conf_asked o files conf status.NoListener tells read sound going taken cause = absurd (going cause.due.failed)
+conf_asked o files conf status.LostWire tells read sound going taken cause = absurd (going cause.failed)
+conf_asked o files conf status.NoMemory tells read sound going taken cause = inr refl
+conf_asked o files conf status.LostSink tells read sound going taken cause = absurd (taken cause.failed)
+
+pub complete : (o : Outside) (code : ℕ) (ending : Status) → Asks o.words o.files.told code
+    → ¬ Rose o.files.faults o.files_after.faults → ¬ Rose o.wire.stops o.wire_after.stops → ¬ Rose o.sink.faults o.sink_after.faults → Cause ending o
+    → (code_of_status ending ≡ code) ⊎ (code_of_status ending ≡ 6)
+complete o code ending asks sound going taken cause = answers o.files.told refl asks
+  where
+    is_code : (wanted : ℕ) → code ≡ wanted → (code_of_status ending ≡ wanted) ⊎ (code_of_status ending ≡ 6) → (code_of_status ending ≡ code) ⊎ (code_of_status ending ≡ 6)
+    is_code wanted is asked = subst (λ n. (code_of_status ending ≡ n) ⊎ (code_of_status ending ≡ 6)) (sym is) asked
+
+    answers : (told : Option (List MemFile)) → o.files.told ≡ told → Asks o.words told code → (code_of_status ending ≡ code) ⊎ (code_of_status ending ≡ 6)
+    answers None tells words = is_code 1 words.0 (words_asked o ending words.1 taken cause)
+    answers (Some files) tells asks =
+        ⊎_elim
+        (λ words. is_code 1 words.0 (words_asked o ending words.1 taken cause))
+        (λ good. ⊎_elim
+        (λ file. is_code 2 file.0 (file_asked o files file.1 ending tells file.2 sound taken cause))
+        (λ named. is_code 0 named.0 (conf_asked o files named.1 ending tells (subst (λ told. HasNamed o.words told named.1) (sym tells) named.2) sound going taken cause))
+        good)
+        asks

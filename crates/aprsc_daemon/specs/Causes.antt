@@ -39,6 +39,7 @@ pub record HasNamed (words : List (List ℕ)) (told : Option (List MemFile)) (co
   pub bytes : List ℕ
   pub named : file_word words ≡ Some file
   pub holds : Holds told file bytes
+  pub short : length bytes ≤ 65536
   pub reads : conf_of bytes ≡ Ok conf
   pub built : is_built conf ≡ true
 
@@ -50,72 +51,91 @@ pub record IsServed (o : Outside) (P : Setting → History → Type 0) : Type 0 
 
 -- ---- what is written
 
+-- nothing
 abbrev pub IsSilent : Outside → Type 0
 IsSilent o = o.sink_after.told ≡ o.sink.told
 
-abbrev pub Says : Outside → List ℕ → Type 0
-Says o text = Grew o.sink o.sink_after text
-
--- the texts of the program: where the words are bad the usage, and else those on the file and the listeners
-abbrev pub IsMessage : Option (List ℕ) → List ℕ → Type 0
-IsMessage None text = text ≡ usage_text
-IsMessage (Some file) text =
-    (text ≡ too_large_text file) ⊎ ((trouble : Trouble) × (text ≡ trouble_text file trouble)) ⊎ (text ≡ unread_text file) ⊎ ((n : ℕ) × (text ≡ listen_failed_text n))
-
--- the first bytes of this text, or none
+-- the first bytes of a text: none, some, or all of them
 abbrev pub GrewPart : SinkShown → SinkShown → List ℕ → Type 0
-GrewPart old new text = (new.told ≡ old.told) ⊎ ((k : ℕ) × Grew old new (take k text))
+GrewPart old new text = (k : ℕ) × Grew old new (take k text)
 
--- the first bytes of one of its texts, or none
-abbrev pub SaysPart : Outside → Type 0
-SaysPart o = (text : List ℕ) × IsMessage (file_word o.words) text × GrewPart o.sink o.sink_after text
+-- ---- the statuses that have a text: their causes but for the writing, and the text
 
--- ---- the causes
+-- 1: the words aren't good
+pub record HasBadWords (o : Outside) (text : List ℕ) : Type 0 where
+  pub bad : file_word o.words ≡ None
+  pub unused : IsUnused o
+  pub line : text ≡ usage_text
+
+-- these bytes of the file are too many, or no configuration that the server can run; and the text that says which
+abbrev pub IsOff : List ℕ → List ℕ → List ℕ → Type 0
+IsOff file bytes text =
+    ((65536 < length bytes) × (text ≡ too_large_text file))
+    ⊎ ((length bytes ≤ 65536) × (trouble : Trouble) × IsTrouble trouble (conf_of bytes) × (text ≡ trouble_text file trouble))
+
+-- the words name a file that holds such bytes, as far as the files tell
+pub record HasRefused (words : List (List ℕ)) (told : Option (List MemFile)) (text : List ℕ) : Type 0 where
+  pub file : List ℕ
+  pub bytes : List ℕ
+  pub named : file_word words ≡ Some file
+  pub holds : Holds told file bytes
+  pub off : IsOff file bytes text
+
+-- 2: the words are good, and the named file is too large, off its grammar, or asks for what isn't built
+pub record HasBadFile (o : Outside) (text : List ℕ) : Type 0 where
+  pub read : HasRefused o.words o.files.told text
+  pub unused : IsUnused o
+
+-- 3: the words are good, and the files failed
+pub record HasUnreadFile (o : Outside) (text : List ℕ) : Type 0 where
+  pub file : List ℕ
+  pub named : file_word o.words ≡ Some file
+  pub failed : Rose o.files.faults o.files_after.faults
+  pub unused : IsUnused o
+  pub line : text ≡ unread_text file
+
+-- so many listeners were opened, and nothing else happened
+abbrev pub OpensOnly : ℕ → History → Type 0
+OpensOnly n more = (listens_in more ≡ n) × (are_listens more ≡ true)
+
+-- 4: the listener of this number failed
+pub record HasNoListener (o : Outside) (text : List ℕ) : Type 0 where
+  pub number : ℕ
+  pub run : IsServed o (λ setting. OpensOnly number)
+  pub within : number < length (setting_of run.conf).listens
+  pub failed : Rose o.wire.stops o.wire_after.stops
+  pub line : text ≡ listen_failed_text number
+
+-- the status's cause is there but for the writing of this text
+abbrev pub IsDue : Status → Outside → List ℕ → Type 0
+IsDue status.Stopped o text = ⊥
+IsDue status.BadWords o text = HasBadWords o text
+IsDue status.BadFile o text = HasBadFile o text
+IsDue status.UnreadFile o text = HasUnreadFile o text
+IsDue status.NoListener o text = HasNoListener o text
+IsDue status.LostWire o text = ⊥
+IsDue status.NoMemory o text = ⊥
+IsDue status.LostSink o text = ⊥
+
+-- the text of a status was due, and was written whole
+pub record Reports (wanted : Status) (o : Outside) : Type 0 where
+  pub text : List ℕ
+  pub due : IsDue wanted o text
+  pub says : Grew o.sink o.sink_after text
+
+-- the text of some status was due, and a part of it was written
+pub record BreaksOff (o : Outside) : Type 0 where
+  pub wanted : Status
+  pub text : List ℕ
+  pub due : IsDue wanted o text
+  pub says : GrewPart o.sink o.sink_after text
+
+-- ---- the statuses without a text
 
 -- 0: a stop was read, and every act that it makes due is done
 pub record HasStopped (o : Outside) : Type 0 where
   pub run : IsServed o Finished
   pub silent : IsSilent o
-
--- 1: the words aren't good
-pub record HasBadWords (o : Outside) : Type 0 where
-  pub bad : file_word o.words ≡ None
-  pub unused : IsUnused o
-  pub says : Says o usage_text
-
--- the file is too large, or no configuration that the server can run
-abbrev pub IsOff : Outside → List ℕ → List ℕ → Type 0
-IsOff o file bytes =
-    ((65536 < length bytes) × Says o (too_large_text file))
-    ⊎ ((length bytes ≤ 65536) × (trouble : Trouble) × IsTrouble trouble (conf_of bytes) × Says o (trouble_text file trouble))
-
--- 2: the words are good, and the named file is too large, off its grammar, or asks for what isn't built
-pub record HasBadFile (o : Outside) : Type 0 where
-  pub file : List ℕ
-  pub bytes : List ℕ
-  pub named : file_word o.words ≡ Some file
-  pub holds : Holds o.files.told file bytes
-  pub off : IsOff o file bytes
-  pub unused : IsUnused o
-
--- 3: the words are good, and the files failed
-pub record HasUnreadFile (o : Outside) : Type 0 where
-  pub file : List ℕ
-  pub named : file_word o.words ≡ Some file
-  pub failed : Rose o.files.faults o.files_after.faults
-  pub says : Says o (unread_text file)
-  pub unused : IsUnused o
-
--- so many listeners were opened, and nothing else happened
-abbrev pub OpensOnly : ℕ → Setting → History → Type 0
-OpensOnly n setting more = (listens_in more ≡ n) × (are_listens more ≡ true) × (n < length setting.listens)
-
--- 4: a listener failed
-pub record HasNoListener (o : Outside) : Type 0 where
-  pub number : ℕ
-  pub run : IsServed o (OpensOnly number)
-  pub failed : Rose o.wire.stops o.wire_after.stops
-  pub says : Says o (listen_failed_text number)
 
 -- 5: the wire failed where every listener was opened, and no act is due
 pub record HasLostWire (o : Outside) : Type 0 where
@@ -123,23 +143,28 @@ pub record HasLostWire (o : Outside) : Type 0 where
   pub failed : Rose o.wire.stops o.wire_after.stops
   pub silent : IsSilent o
 
--- 6: want of memory
-pub record HasNoMemory (o : Outside) : Type 0 where
+-- want of memory where no text is begun
+pub record RunsShort (o : Outside) : Type 0 where
   pub run : IsUnused o ⊎ IsServed o (λ setting more. ⊤)
-  pub says : SaysPart o
+  pub silent : IsSilent o
 
--- 7: the sink failed, or took nothing of a piece that isn't empty, before every listener was opened
+-- 6: want of memory, also in the writing of a text
+abbrev pub HasNoMemory : Outside → Type 0
+HasNoMemory o = RunsShort o ⊎ BreaksOff o
+
+-- 7: the sink failed, or took nothing of a piece that isn't empty, in the writing of a text
 pub record HasLostSink (o : Outside) : Type 0 where
-  pub run : IsUnused o ⊎ IsServed o (λ setting more. listens_in more < length setting.listens)
+  pub part : BreaksOff o
   pub failed : Rose o.sink.faults o.sink_after.faults
-  pub says : SaysPart o
+
+-- ---- each status
 
 abbrev pub Cause : Status → Outside → Type 0
 Cause status.Stopped o = HasStopped o
-Cause status.BadWords o = HasBadWords o
-Cause status.BadFile o = HasBadFile o
-Cause status.UnreadFile o = HasUnreadFile o
-Cause status.NoListener o = HasNoListener o
+Cause status.BadWords o = Reports status.BadWords o
+Cause status.BadFile o = Reports status.BadFile o
+Cause status.UnreadFile o = Reports status.UnreadFile o
+Cause status.NoListener o = Reports status.NoListener o
 Cause status.LostWire o = HasLostWire o
 Cause status.NoMemory o = HasNoMemory o
 Cause status.LostSink o = HasLostSink o
@@ -169,6 +194,21 @@ HasCause code o = (ending : Status) × (code ≡ code_of_status ending) × Cause
 pub record Ended (code : ℕ) (setting : Setting) (more : History) : Type 0 where
   pub stopped : code ≡ 0 → Finished setting more
   pub lost : code ≡ 5 → Idle setting more
+
+-- before every listener is open
+abbrev pub Opening : Setting → History → Type 0
+Opening setting more = listens_in more < length setting.listens
+
+-- ---- completeness
+
+-- the status that the words ask for, and the file where the files tell it: 1 for bad words, 2 for a file that is off, 0 for
+-- a configuration
+abbrev pub Asks : List (List ℕ) → Option (List MemFile) → ℕ → Type 0
+Asks words None code = (code ≡ 1) × (file_word words ≡ None)
+Asks words (Some files) code =
+    ((code ≡ 1) × (file_word words ≡ None))
+    ⊎ ((code ≡ 2) × (text : List ℕ) × HasRefused words (Some files) text)
+    ⊎ ((code ≡ 0) × (conf : ConfSeen) × HasNamed words (Some files) conf)
 
 -- ---- a text and its status
 

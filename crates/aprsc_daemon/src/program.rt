@@ -1,5 +1,5 @@
 //! The program: what its words name is read and served.
-ghost use Rattle.std.specs.Prelude.{◌≡◌, ◌≤◌, ◌<◌, ℕ, List, Option, Ok, Some, IfOk, IfErr, IsTrue, OnErr, ⊤, length, map, string_bytes};
+ghost use Rattle.std.specs.Prelude.{◌≡◌, ◌⊎◌, ◌≤◌, ◌<◌, ℕ, List, Option, Ok, Some, IfOk, IfErr, IsTrue, OnErr, ⊤, length, map, string_bytes};
 ghost use Rattle.aprs_base.specs.Bytes.{is_station};
 ghost use Rattle.aprs_base.specs.Outside.{Rose, Told, WireShown};
 ghost use Rattle.aprs_base.specs.Stores.{FilesShown, Holds, SinkShown};
@@ -8,7 +8,7 @@ ghost use Rattle.aprs_history.specs.Runs.{AppendsRun};
 ghost use Rattle.aprs_conf.specs.Seen.{ConfSeen};
 ghost use Rattle.aprs_conf.specs.Grammar.{conf_of};
 ghost use Rattle.server_core.specs.Meaning.{numbered, setting_of};
-ghost use Rattle.aprsc_daemon.specs.Causes.{Cause, Ended, HasCause, HasNamed, OpensOnly, Said, code_of_status, status_of};
+ghost use Rattle.aprsc_daemon.specs.Causes.{Asks, Cause, Ended, HasCause, HasNamed, Opening, OpensOnly, Said, code_of_status, status_of};
 ghost use Rattle.aprsc_daemon.specs.Phases.{Ends, Listening};
 ghost use Rattle.aprsc_daemon.specs.Configuring.{is_built};
 ghost use Rattle.aprsc_daemon.specs.Words.{file_word};
@@ -93,7 +93,8 @@ fn open_and_serve<R: Threads + Sync + Wait, W: Wire>(
     ensures run { IfOk result (λ end. AppendsRun (setting_of conf) (W.shown wire.old).told (W.shown wire.new).told (Ends (setting_of conf) end)) }
     ensures failed { IfOk result (λ end. end ≡ End.Failed → Rose (W.shown wire.old).stops (W.shown wire.new).stops) }
     ensures listen { IfErr result (λ e. (n : ℕ) → e ≡ ListenError.Failed n → Rose (W.shown wire.old).stops (W.shown wire.new).stops
-        × AppendsRun (setting_of conf) (W.shown wire.old).told (W.shown wire.new).told (OpensOnly n (setting_of conf))) }
+        × AppendsRun (setting_of conf) (W.shown wire.old).told (W.shown wire.new).told (OpensOnly n)) }
+    ensures within { IfErr result (λ e. (n : ℕ) → e ≡ ListenError.Failed n → n < length (numbered conf.listens)) }
     ensures err { OnErr result (AppendsRun (setting_of conf) (W.shown wire.old).told (W.shown wire.new).told (λ more. ⊤)) }
 {
     let Ok(listens) = numbered_listens(alloc, conf.listens.as_slice()) else {
@@ -252,7 +253,8 @@ fn run<R: Threads + Sync + Wait, F: Files, W: Wire, S: Sink>(
 /// in memory, on which no text depends.
 ///
 /// The status is 0 after a stop, 1 for bad words, 2 for a bad configuration, 3 where its file can't be read, 4 where a
-/// listener failed, 5 where the wire failed, 6 for want of memory, and 7 where the sink failed.
+/// listener failed, 5 where the wire failed, 6 for want of memory, and 7 where the sink failed in the writing of a text for
+/// 1 to 4. A file of more than 65,536 bytes is a bad configuration.
 pub fn aprsc<R: Threads + Sync + Wait, F: Files, W: Wire, S: Sink>(
     rt: &R,
     alloc: Global,
@@ -266,7 +268,7 @@ pub fn aprsc<R: Threads + Sync + Wait, F: Files, W: Wire, S: Sink>(
     ensures run { (conf : ConfSeen) (told : List MemFile) → (F.shown files.old).told ≡ Some told
         → HasNamed (map string_bytes words.now) (F.shown files.old).told conf
         → AppendsRun (setting_of conf) (W.shown wire.old).told (W.shown wire.new).told (Ended result (setting_of conf)) }
-    // Each status has its cause.
+    // Each status has its cause, and its text stands on the sink.
     ensures cause { HasCause result (record {
       words = map string_bytes words.now;
       files = F.shown files.old;
@@ -276,6 +278,18 @@ pub fn aprsc<R: Threads + Sync + Wait, F: Files, W: Wire, S: Sink>(
       sink = S.shown out.old;
       sink_after = S.shown out.new;
     }) }
+    // Where no fault was counted, the status is the one that the words and the file ask for, or 6.
+    ensures complete { (code : ℕ) → Asks (map string_bytes words.now) (F.shown files.old).told code
+        → ¬ Rose (F.shown files.old).faults (F.shown files.new).faults
+        → ¬ Rose (W.shown wire.old).stops (W.shown wire.new).stops
+        → ¬ Rose (S.shown out.old).faults (S.shown out.new).faults
+        → (result ≡ code) ⊎ (result ≡ 6) }
+    // Once the file was read, the sink is lost only before every listener is open.
+    ensures early { (conf : ConfSeen) (told : List MemFile) → (F.shown files.old).told ≡ Some told
+        → HasNamed (map string_bytes words.now) (F.shown files.old).told conf
+        → ¬ Rose (F.shown files.old).faults (F.shown files.new).faults
+        → result ≡ 7
+        → AppendsRun (setting_of conf) (W.shown wire.old).told (W.shown wire.new).told (Opening (setting_of conf)) }
 {
     run(rt, alloc, words, files, wire, out, hasher).code()
 }

@@ -4,7 +4,7 @@ use Rattle.std.specs.List.{list_any, starts_with, zip}
 use Rattle.std.specs.Option.{option_and_then}
 use Rattle.std.specs.Cmp.Lexicographic.{pointwise}
 use Rattle.aprs_base.specs.PacketSeen.{PacketSeen}
-use Rattle.aprs_base.specs.declared.packets.Parts.{Parts}
+use Rattle.aprs_base.specs.PartsSeen.{PartsSeen}
 use Rattle.aprs_base.specs.declared.packets.Place.{Place}
 use Rattle.aprs_base.specs.declared.packets.Via.{Via}
 use Rattle.tnc2_line.specs.Packet.{construct_at}
@@ -22,9 +22,12 @@ use Rattle.filter_eval.specs.declared.seen.Seen.{Seen}
 abbrev pub position_age : ℕ
 position_age = 172800
 
--- seen less than two days before
+-- a moment less than two days before
+abbrev pub is_young : ℕ → ℕ → Bool
+is_young now moment = nat_lt (now - moment) position_age
+
 abbrev pub is_fresh : ℕ → Seen → Bool
-is_fresh now seen = nat_lt (now - seen.moment) position_age
+is_fresh now seen = is_young now seen.moment
 
 abbrev pub fresh : ℕ → Option Seen → Option Seen
 fresh now None = None
@@ -107,24 +110,24 @@ before vias None = []
 before vias (Some place) = take place vias
 
 -- the elements before the construct
-abbrev pub before_construct : Parts → List Via
-before_construct parts = before parts.vias.items (construct_at parts)
+abbrev pub before_construct : PartsSeen → List Via
+before_construct parts = before parts.vias (construct_at parts)
 
 abbrev pub call_of : Via → List ℕ
 call_of via = via.call
 
-abbrev pub call_at : Parts → ℕ → Option (List ℕ)
-call_at parts place = option_map call_of (slice_get parts.vias.items place)
+abbrev pub call_at : PartsSeen → ℕ → Option (List ℕ)
+call_at parts place = option_map call_of (slice_get parts.vias place)
 
 -- the call right after the construct
-abbrev pub entry_of : Parts → Option (List ℕ)
+abbrev pub entry_of : PartsSeen → Option (List ℕ)
 entry_of parts = option_and_then (λ place. call_at parts (place + 1)) (construct_at parts)
 
 abbrev pub third : List ℕ → Option ℕ
 third call = slice_get call 2
 
 -- the construct's letter, its third byte
-abbrev pub letter_of : Parts → Option ℕ
+abbrev pub letter_of : PartsSeen → Option ℕ
 letter_of parts = option_and_then third (option_and_then (call_at parts) (construct_at parts))
 
 abbrev pub has_star : Via → Bool

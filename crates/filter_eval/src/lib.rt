@@ -10,4 +10,4 @@ mod seen;
 mod tests;
 
 pub use passing::passes;
-pub use seen::{Friends, POSITION_AGE, Seen};
+pub use seen::{Friends, POSITION_AGE, Seen, is_young};

@@ -1,6 +1,6 @@
 //! Where stations were last seen, and for how long that counts.
 ghost use Rattle.std.specs.Prelude.{◌≡◌};
-ghost use Rattle.filter_eval.specs.Passes.{fresh_place, is_fresh};
+ghost use Rattle.filter_eval.specs.Passes.{fresh_place, is_fresh, is_young};
 
 use aprs_base::Place;
 use arrayvec::ArrayVec;
@@ -16,12 +16,19 @@ pub struct Seen {
     pub moment: u64,
 }
 
+/// Whether the moment is less than two days before `now`; both in seconds. A later moment counts too.
+pub fn is_young(moment: u64, now: u64) -> bool
+    ensures { result ≡ is_young now moment }
+{
+    now.saturating_sub(moment) < POSITION_AGE
+}
+
 impl Seen {
     /// Whether it still counts at `now`, in seconds: it is less than two days old. What has a later moment counts too.
     pub fn is_fresh(&self, now: u64) -> bool
         ensures { result ≡ is_fresh now self.now }
     {
-        now.saturating_sub(self.moment) < POSITION_AGE
+        is_young(self.moment, now)
     }
 }
 

@@ -2,6 +2,7 @@
 use Rattle.std.proofs.Common.{◌≡◌, ℕ, ◌-◌, ◌<◌, ◌≤◌, Bool, true, false, cond, filter, map, not, ◌&&◌, ◌==◌, List, [], ◌∷◌, ◌++◌, Option, Some, None, Result, Ok, Err, OnOk, refl, sym, ap, ◌∙◌, subst, arith, true≢false, is_some}
 use Rattle.std.specs.List.{All, AllByRecursion}
 use Rattle.std.specs.Map.{lookup}
+use Rattle.std.specs.declared.random_state.RandomState.{RandomState}
 use Rattle.std.proofs.lemmas.Bool.{eqb-true, leb-true, leb-false}
 use Rattle.std.proofs.lemmas.List.Elements.{recursion_from_All}
 use Rattle.aprs_base.specs.PacketSeen.{PacketSeen}
@@ -58,8 +59,8 @@ noted_others lives table link call moment here other there text none =
 
 -- ---- a table and packets
 
-pub new_agrees : (lives : ℕ → Bool) → Agrees lives nothing []
-new_agrees lives = record { heard = λ link here call. refl; others = λ link there call. refl }
+pub new_agrees : (lives : ℕ → Bool) (hasher : RandomState) → Agrees lives (nothing hasher) []
+new_agrees lives hasher = record { heard = λ link here call. refl; others = λ link there call. refl }
 
 pub agrees_at : (now : ℕ) (lives : ℕ → Bool) (table : HeardSeen) (packets : List PacketSeen) → Agrees lives table packets → AgreesAt now lives table packets
 agrees_at now lives table packets agrees = record { heard = λ link here call. ap (still heard_age now) (agrees.heard link here call); others = agrees.others }

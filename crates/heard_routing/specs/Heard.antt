@@ -3,18 +3,21 @@ use Rattle.std.specs.Prelude.{ℕ, ◌≡◌, ◌-◌, ◌==◌, ◌&&◌, Bool,
 use Rattle.std.specs.List.{list_any}
 use Rattle.std.specs.List.Sorted.{IsStrictlyIncreasing}
 use Rattle.std.specs.Map.{lookup}
+use Rattle.std.specs.declared.random_state.RandomState.{RandomState}
 use Rattle.indexmap.specs.IndexMap.{insert_entry}
 use Rattle.filter_eval.specs.Passes.{is_some_and, is_text}
 use Rattle.heard_routing.specs.Entries.{Entry, is_key}
 use Rattle.heard_routing.specs.Rising.{rising}
 
--- when links heard calls, and when they were promised the next position of a sender, in the order in which they first came
+-- when links heard calls, and when they were promised the next position of a sender, in the order in which they first came;
+-- and the key of the hasher
 pub record HeardSeen : Type 0 where
   pub heard : List Entry
   pub promises : List Entry
+  pub hasher : RandomState
 
-abbrev pub nothing : HeardSeen
-nothing = record { heard = []; promises = [] }
+abbrev pub nothing : RandomState → HeardSeen
+nothing hasher = record { heard = []; promises = []; hasher = hasher }
 
 -- when the link last heard the call
 abbrev pub heard_at : HeardSeen → ℕ → List ℕ → Option ℕ
@@ -49,7 +52,7 @@ is_recent_entry age now entry = is_recent age now entry.1
 
 -- what can still be given
 abbrev pub recent : ℕ → HeardSeen → HeardSeen
-recent now table = record { heard = filter (is_recent_entry heard_age now) table.heard; promises = filter (is_recent_entry promise_age now) table.promises }
+recent now table = record table { heard = filter (is_recent_entry heard_age now) table.heard; promises = filter (is_recent_entry promise_age now) table.promises }
 
 -- ---- who is given
 
@@ -101,4 +104,4 @@ abbrev pub without_promises : List ℕ → HeardSeen → HeardSeen
 without_promises sender table = record table { promises = filter (is_of_another_call sender) table.promises }
 
 abbrev pub without_link : ℕ → HeardSeen → HeardSeen
-without_link link table = record { heard = filter (is_of_another_link link) table.heard; promises = filter (is_of_another_link link) table.promises }
+without_link link table = record table { heard = filter (is_of_another_link link) table.heard; promises = filter (is_of_another_link link) table.promises }

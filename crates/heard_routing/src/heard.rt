@@ -31,15 +31,15 @@ impl Model for Heard {
 
     ghost Value = { HeardSeen };
 
-    ghost view = { λ h. record { heard = h.heard.items; promises = h.promises.items } };
+    ghost view = { λ h. record { heard = h.heard.items; promises = h.promises.items; hasher = h.hasher } };
 
     ghost invariant = { λ h. HasEachOnce h.heard.items × HasEachOnce h.promises.items };
 }
 
 impl Heard {
-    /// Nothing was heard or promised.
+    /// Nothing was heard or promised. The table has a clone of the hasher.
     pub fn new(alloc: Global, hasher: &RandomState) -> Result<Heard, Memory>
-        ensures empty { IfOk result (λ table. table ≡ nothing) }
+        ensures empty { IfOk result (λ table. table ≡ nothing hasher.now) }
         ensures last { (lives : ℕ → Bool) → IfOk result (λ table. Agrees lives table []) }
     {
         Ok(Heard {

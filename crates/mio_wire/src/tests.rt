@@ -1,82 +1,239 @@
 //! Links over loopback. Each test has a port of its own.
 use crate::MioWire;
-use aprs_base::{Addr, Event, ListenSpec, Memory, PortKind, Sent, Wire, WireError};
-use std::alloc::Global;
+use aprs_base::{Addr, Event, ListenSpec, PortKind, Sent, UplinkSpec, Wire, WireError};
+use arrayvec::ArrayVec;
 use std::io::{self, Read, Write};
-use std::net::{Net, TcpStream};
+use std::net::{Net, Shutdown, TcpStream};
 use std::test::Fail;
 use std::thread;
 
-fn listens<W: Wire>(wire: &mut W, n: u16, kind: PortKind, port: u16) -> Result<(), WireError> {
-    let at = Addr {
+fn loopback(port: u16) -> Addr {
+    Addr {
         ip: [127, 0, 0, 1],
         port,
-    };
+    }
+}
+
+fn listens<W: Wire>(wire: &mut W, n: u16, kind: PortKind, port: u16) -> Result<(), WireError> {
+    let at = loopback(port);
     wire.listen(n, &ListenSpec { kind, at })
 }
 
-/// An event but for addresses and bytes: `t`, `o`, `r`, `e` or `s` with the link's number, and `b` with the first byte.
-fn letter(event: &Event) -> (u8, u32) {
+/// What an event is, but for addresses and most of its bytes.
+#[derive(Clone, Copy, PartialEq, Eq, Debug)]
+enum Seen {
+    Tick,
+    Opened(u16, u32),
+    /// A link's bytes, by the first of them.
+    Bytes(u32, u8),
+    Room(u32),
+    Ended(u32),
+    Unjoined(u16),
+    Stop,
+    Failed,
+}
+
+fn seen_of(event: &Event) -> Seen {
     match event {
-        Event::Tick(_) => (b't', 0),
-        Event::Opened { link, .. } => (b'o', *link),
-        Event::Bytes(_, bytes) => (b'b', u32::from(*bytes.bytes().first().unwrap_or(&0))),
-        Event::Room(link) => (b'r', *link),
-        Event::Ended(link) => (b'e', *link),
-        _ => (b's', 0),
+        Event::Tick(_) => Seen::Tick,
+        Event::Opened { listener, link, .. } => Seen::Opened(*listener, *link),
+        Event::Bytes(link, bytes) => {
+            Seen::Bytes(*link, bytes.bytes().first().copied().unwrap_or(0))
+        }
+        Event::Room(link) => Seen::Room(*link),
+        Event::Ended(link) => Seen::Ended(*link),
+        Event::Unjoined(uplink) => Seen::Unjoined(*uplink),
+        Event::Stop => Seen::Stop,
+        _ => Seen::Failed,
     }
 }
 
-/// What the wire gives until a stop, but for ticks after the first, where each piece is answered by `ok` and a line end.
-fn serve<W: Wire>(wire: &mut W, alloc: Global) -> Result<Vec<(u8, u32)>, WireError> {
-    let mut seen = Vec::new(alloc);
-    for _ in 0..1000 {
-        let event = wire.next()?;
-        let letter = letter(&event);
-        if letter.0 != b't' || seen.is_empty() {
-            seen.push(letter)?;
-        }
-        match event {
-            Event::Bytes(link, _) => {
-                let _ = wire.send(link, b"ok\r\n");
-            }
-            Event::Stop => break,
-            _ => {}
-        }
+/// The next event.
+fn next<W: Wire>(wire: &mut W) -> Seen {
+    match wire.next() {
+        Ok(event) => seen_of(&event),
+        Err(_) => Seen::Failed,
     }
-    Ok(seen)
 }
 
-/// Says a line, and hears the answer, if `hears`.
-fn greet<R: Net>(rt: &R, port: &str, line: &[u8], hears: bool) -> io::Result<bool> {
-    let mut stream = TcpStream::connect(rt, port)?;
-    stream.write_all(line)?;
+/// Whether this is the next event but for ticks.
+fn gives<W: Wire>(wire: &mut W, want: Seen) -> bool {
+    for _ in 0..100 {
+        let seen = next(wire);
+        if seen != Seen::Tick {
+            return seen == want;
+        }
+    }
+    false
+}
+
+fn takes<W: Wire>(wire: &mut W, link: u32, bytes: &[u8]) -> bool {
+    wire.send(link, bytes) == Ok(Sent::Took(bytes.len()))
+}
+
+fn is_gone<W: Wire>(wire: &mut W, link: u32) -> bool {
+    wire.send(link, b"x") == Ok(Sent::Gone)
+}
+
+/// Connects to a wire that listens, and takes its opening.
+fn meet<R: Net, W: Wire>(rt: &R, wire: &mut W, link: u32, address: &str) -> io::Result<TcpStream>
+where
+    R: Net<Stream = TcpStream>,
+{
+    let stream = TcpStream::connect(rt, address)?;
+    let _ = gives(wire, Seen::Opened(0, link));
+    Ok(stream)
+}
+
+/// Says a line, and hears its answer.
+fn greet<R: Net>(rt: &R) -> io::Result<bool> {
+    let mut stream = TcpStream::connect(rt, "127.0.0.1:47101")?;
+    stream.write_all(b"hello\r\n")?;
     let mut answer = [0; 4];
-    if hears {
-        stream.read_exact(&mut answer)?;
-    }
-    Ok(!hears || answer == *b"ok\r\n")
+    stream.read_exact(&mut answer)?;
+    Ok(answer == *b"ok\r\n")
+}
+
+/// Answers a link's line, up to the stop after its end.
+fn answers<W: Wire>(wire: &mut W) -> bool {
+    gives(wire, Seen::Opened(3, 1))
+        && gives(wire, Seen::Bytes(1, b'h'))
+        && takes(wire, 1, b"ok\r\n")
+        && gives(wire, Seen::Ended(1))
+        && gives(wire, Seen::Stop)
 }
 
 #[test]
-fn serves_a_link(rt: HostRuntime) -> Result<(), Fail> {
-    let alloc = rt.alloc();
-    let mut wire = MioWire::new(&rt, alloc, Some(1));
-    assert_eq!(rt; listens(&mut wire, 0, PortKind::Full, 47101), Ok(()));
+fn serves_a_link_and_stops(rt: HostRuntime) -> Result<(), Fail> {
+    let mut wire = MioWire::new(&rt, rt.alloc(), Some(1));
+    let _ = listens(&mut wire, 3, PortKind::Full, 47101);
     let handle = rt.clone()?;
-    let client = thread::spawn(
-        &rt,
-        move || greet(&handle, "127.0.0.1:47101", b"hi\r\n", true),
-    )?;
-    let seen = serve(&mut wire, alloc);
-    assert!(rt; matches!(client.join(&rt), Ok(true)));
-    let want = [
-        (b't', 0),
-        (b'o', 1),
-        (b'b', u32::from(b'h')),
-        (b'e', 1),
-        (b's', 0),
-    ];
-    assert!(rt; seen.is_ok_and(|seen| seen.as_slice() == want.as_slice()));
+    let client = thread::spawn(&rt, move || greet(&handle))?;
+    let served = answers(&mut wire);
+    assert!(rt; matches!(client.join(&rt), Ok(true)) && served);
+    Ok(())
+}
+
+/// The client says that it ends, and hears on.
+fn hears_on<W: Wire>(wire: &mut W, client: &mut TcpStream) -> io::Result<bool> {
+    client.write_all(b"x")?;
+    client.shutdown(Shutdown::Write)?;
+    let served = gives(wire, Seen::Bytes(1, b'x'))
+        && takes(wire, 1, b"1")
+        && gives(wire, Seen::Ended(1))
+        && is_gone(wire, 1);
+    let mut heard = [0; 2];
+    Ok(client.read(&mut heard)? == 1 && served)
+}
+
+/// The client goes with an answer that it hasn't read, which resets its connection.
+fn resets<W: Wire>(wire: &mut W, client: TcpStream) -> io::Result<bool> {
+    let served = takes(wire, 2, b"2");
+    client.peek(&mut [0])?;
+    drop(client);
+    Ok(served && gives(wire, Seen::Ended(2)))
+}
+
+/// The server closes the link.
+fn is_closed<W: Wire>(wire: &mut W, client: &mut TcpStream) -> io::Result<bool> {
+    client.write_all(b"y")?;
+    let served = gives(wire, Seen::Bytes(3, b'y')) && wire.close(3) == Ok(()) && is_gone(wire, 3);
+    Ok(client.read(&mut [0])? == 0 && served)
+}
+
+#[test]
+fn keeps_links_apart(rt: HostRuntime) -> Result<(), Fail> {
+    let mut wire = MioWire::new(&rt, rt.alloc(), None);
+    let _ = listens(&mut wire, 0, PortKind::Igate, 47102);
+    let mut first = meet(&rt, &mut wire, 1, "127.0.0.1:47102")?;
+    let second = meet(&rt, &mut wire, 2, "127.0.0.1:47102")?;
+    let mut third = meet(&rt, &mut wire, 3, "127.0.0.1:47102")?;
+    assert!(rt; hears_on(&mut wire, &mut first)?);
+    assert!(rt; resets(&mut wire, second)?);
+    assert!(rt; is_closed(&mut wire, &mut third)?);
+    Ok(())
+}
+
+/// How many offers the link takes whole, each answered by a tick, before one that it doesn't.
+fn whole_offers<W: Wire>(wire: &mut W, bytes: &[u8]) -> usize {
+    let mut offers = 0;
+    for count in 0..1000 {
+        offers = count;
+        if !takes(wire, 1, bytes) || next(wire) != Seen::Tick {
+            break;
+        }
+    }
+    offers
+}
+
+#[test]
+fn says_when_there_is_room(rt: HostRuntime) -> Result<(), Fail> {
+    let mut wire = MioWire::new(&rt, rt.alloc(), None);
+    let _ = listens(&mut wire, 0, PortKind::Only, 47103);
+    let mut client = meet(&rt, &mut wire, 1, "127.0.0.1:47103")?;
+    let _ = next(&mut wire);
+    let mut bytes = Vec::from_elem(rt.alloc(), b'z', 65_536)?;
+    for _ in 0..whole_offers(&mut wire, bytes.as_slice()) {
+        client.read_exact(bytes.as_mut_slice())?;
+    }
+    assert!(rt; gives(&mut wire, Seen::Room(1)));
+    Ok(())
+}
+
+/// How many pieces of the first link come before something else, and how many ticks.
+fn pieces<W: Wire>(wire: &mut W) -> (usize, usize) {
+    let (mut pieces, mut ticks) = (0usize, 0usize);
+    for _ in 0..100 {
+        match next(wire) {
+            Seen::Tick => ticks = ticks.saturating_add(1),
+            Seen::Bytes(1, _) => pieces = pieces.saturating_add(1),
+            _ => break,
+        }
+    }
+    (pieces, ticks)
+}
+
+#[test]
+fn a_flood_keeps_nobody_waiting(rt: HostRuntime) -> Result<(), Fail> {
+    let mut wire = MioWire::new(&rt, rt.alloc(), None);
+    let _ = listens(&mut wire, 0, PortKind::Full, 47104);
+    let mut first = meet(&rt, &mut wire, 1, "127.0.0.1:47104")?;
+    let mut second = meet(&rt, &mut wire, 2, "127.0.0.1:47104")?;
+    let _ = next(&mut wire);
+    first.set_nonblocking(true)?;
+    let lines = Vec::from_elem(rt.alloc(), b'\n', 200_000)?;
+    let many = first.write(lines.as_slice())? > 65_536;
+    second.write_all(b"hi\r\n")?;
+    // One read of 65,536 bytes in pieces of 1,460, and a tick after each, since each has more than 400 line ends.
+    assert!(rt; many && pieces(&mut wire) == (45, 45) && gives(&mut wire, Seen::Bytes(1, b'\n')));
+    Ok(())
+}
+
+/// What no second listener can do, and what is not built.
+fn refuses<W: Wire>(wire: &mut W) -> bool {
+    listens(wire, 0, PortKind::Dupe, 47105) == Ok(())
+        && listens(wire, 1, PortKind::Full, 47105) == Err(WireError::Failed)
+        && listens(wire, 2, PortKind::Submit, 47106) == Err(WireError::Failed)
+}
+
+/// A dial's answer, and the stop after no end.
+fn answers_a_dial<W: Wire>(wire: &mut W) -> bool {
+    let spec = UplinkSpec {
+        host: ArrayVec::new(),
+        port: 1,
+    };
+    wire.cast(0, loopback(1), b"x") == Ok(())
+        && wire.dial(4, &spec) == Ok(())
+        && next(wire) == Seen::Tick
+        && next(wire) == Seen::Unjoined(4)
+        && next(wire) == Seen::Tick
+}
+
+#[test]
+fn refuses_what_it_cannot_do(rt: HostRuntime) -> Result<(), Fail> {
+    assert!(rt; refuses(&mut MioWire::new(&rt, rt.alloc(), None)));
+    assert!(rt; answers_a_dial(&mut MioWire::new(&rt, rt.alloc(), None)));
+    let mut wire = MioWire::new(&rt, rt.alloc(), Some(0));
+    assert!(rt; next(&mut wire) == Seen::Tick && next(&mut wire) == Seen::Stop);
     Ok(())
 }

@@ -13,7 +13,7 @@ use Rattle.q_construct.specs.declared.origins.Origin.{Origin}
 use Rattle.q_construct.specs.Rule.{Row, first_row, rows, built_row, common_rows, name_of, is_udp, is_unverified, same, plain, starred, ending, has_construct, first_call, before, given_path, ends_in_gate, gate_front, gate_call, construct_of, among, names_after, with_name, with_path, traced, refused, when, is_submission, keeps_names, is_alone, bars, begins_with, given_drops, built_drops, is_long, process_of, ◌>>=◌}
 use Rattle.q_construct.specs.declared.drops.QDrop.{QDrop}
 use Rattle.q_construct.specs.declared.drops.QDrop.TheVariants as drop_for
-use Rattle.aprs_base.specs.declared.packets.Parts.{Parts}
+use Rattle.aprs_base.specs.PartsSeen.{PartsSeen}
 use Rattle.tnc2_line.proofs.Laws.{sound_is, is_sound, good_is, is_good}
 use Rattle.std.specs.Cmp.Lexicographic.{bytes_decides}
 use Rattle.std.proofs.Math.Seq.{drop-append-add}
@@ -272,61 +272,61 @@ bind_ok : {A B : Type 0} (r : Result A QDrop) (f : A → Result B QDrop) (y : B)
 bind_ok (Ok x) f y h = (x, refl, h)
 bind_ok (Err e) f y h = absurd (cc)
 
-not_refused : (b : Bool) (x y : Parts) (e : QDrop) → cond b (Err e) (Ok x) ≡ Ok y → (b ≡ false) × (x ≡ y)
+not_refused : (b : Bool) (x y : PartsSeen) (e : QDrop) → cond b (Err e) (Ok x) ≡ Ok y → (b ≡ false) × (x ≡ y)
 not_refused true x y e h = absurd (cc)
 not_refused false x y e h = let same_one : x ≡ y = cc in (refl, same_one)
 
-abbrev pub built_path : Parts → Origin → List ℕ → List Via
-built_path parts origin server = (built_row parts.source origin server (given_path parts.vias.items)).path
+abbrev pub built_path : PartsSeen → Origin → List ℕ → List Via
+built_path parts origin server = (built_row parts.source origin server (given_path parts.vias)).path
 
-abbrev pub whole_of : Parts → Origin → List ℕ → Parts
+abbrev pub whole_of : PartsSeen → Origin → List ℕ → PartsSeen
 whole_of parts origin server = with_path parts (traced (name_of origin) server (built_path parts origin server))
 
 -- what is known of an answer
-pub record Answer (parts : Parts) (origin : Origin) (server : List ℕ) (others : List (List ℕ)) (whole : Parts) : Type 0 where
-  pub given : refused (given_drops parts origin server (given_path parts.vias.items)) ≡ Ok tt
+pub record Answer (parts : PartsSeen) (origin : Origin) (server : List ℕ) (others : List (List ℕ)) (whole : PartsSeen) : Type 0 where
+  pub given : refused (given_drops parts origin server (given_path parts.vias)) ≡ Ok tt
   pub whole_is : whole_of parts origin server ≡ whole
   pub not_long : is_long (whole_of parts origin server) ≡ false
 
-abbrev finished : Parts → Result Parts QDrop
+abbrev finished : PartsSeen → Result PartsSeen QDrop
 finished whole = if is_long whole then Err drop_for.Long else Ok whole
 
-pub answer_is : (parts : Parts) (origin : Origin) (server : List ℕ) (others : List (List ℕ)) (whole : Parts) → process_of parts origin server others ≡ Ok whole → Answer parts origin server others whole
+pub answer_is : (parts : PartsSeen) (origin : Origin) (server : List ℕ) (others : List (List ℕ)) (whole : PartsSeen) → process_of parts origin server others ≡ Ok whole → Answer parts origin server others whole
 unfolding process_of
 answer_is parts origin server others whole h =
-    let built = built_row parts.source origin server (given_path parts.vias.items) in
-    let a = bind_ok (refused (given_drops parts origin server (given_path parts.vias.items)))
+    let built = built_row parts.source origin server (given_path parts.vias) in
+    let a = bind_ok (refused (given_drops parts origin server (given_path parts.vias)))
     (λ _. refused (built_drops origin server others built.checked built.path) >>= λ _. finished (whole_of parts origin server)) whole h in
     let b = bind_ok (refused (built_drops origin server others built.checked built.path)) (λ _. finished (whole_of parts origin server)) whole a.2 in
     let c = not_refused (is_long (whole_of parts origin server)) (whole_of parts origin server) whole drop_for.Long b.2 in
     record { given = a.1; whole_is = c.1; not_long = c.0 }
 
 -- a rewritten packet's parts are those of a text
-pub answer_sound : (parts : Parts) (origin : Origin) (server : List ℕ) (others : List (List ℕ)) (whole : Parts) → IsParts parts → is_station server ≡ true → is_station (name_of origin) ≡ true
+pub answer_sound : (parts : PartsSeen) (origin : Origin) (server : List ℕ) (others : List (List ℕ)) (whole : PartsSeen) → IsParts parts → is_station server ≡ true → is_station (name_of origin) ≡ true
     → Answer parts origin server others whole → IsParts whole
 answer_sound parts origin server others whole sound served named a =
     let s = sound_is parts sound in
-    let good = good_is parts.vias.items s.path in
-    let given = given_fine parts.vias.items (record { elements = good.elements; constructs = good.constructs; stars = good.stars }) in
-    let built = built_fine parts.source origin server (given_path parts.vias.items) given served named in
+    let good = good_is parts.vias s.path in
+    let given = given_fine parts.vias (record { elements = good.elements; constructs = good.constructs; stars = good.stars }) in
+    let built = built_fine parts.source origin server (given_path parts.vias) given served named in
     let path = traced_fine (name_of origin) server (built_path parts origin server) named served built in
-    let short = or_parts (ltb 32 (length (whole_of parts origin server).vias.items)) _ a.not_long in
+    let short = or_parts (ltb 32 (length (whole_of parts origin server).vias)) _ a.not_long in
     subst (λ w. IsParts w) a.whole_is (is_sound (whole_of parts origin server) (record {
       source = s.source;
       dest = s.dest;
-      path = is_good (whole_of parts origin server).vias.items (record { few = ltb-false _ _ short.0; elements = path.elements; constructs = path.constructs; stars = path.stars });
+      path = is_good (whole_of parts origin server).vias (record { few = ltb-false _ _ short.0; elements = path.elements; constructs = path.constructs; stars = path.stars });
       has_body = s.has_body;
       body = s.body;
     }))
 
 -- and its line isn't too long
-pub answer_short : (parts : Parts) (origin : Origin) (server : List ℕ) (others : List (List ℕ)) (whole : Parts) → Answer parts origin server others whole → length (text_of whole) ≤ 510
+pub answer_short : (parts : PartsSeen) (origin : Origin) (server : List ℕ) (others : List (List ℕ)) (whole : PartsSeen) → Answer parts origin server others whole → length (text_of whole) ≤ 510
 answer_short parts origin server others whole a =
-    let short = or_parts (ltb 32 (length (whole_of parts origin server).vias.items)) (ltb 510 (length (text_of (whole_of parts origin server)))) a.not_long in
+    let short = or_parts (ltb 32 (length (whole_of parts origin server).vias)) (ltb 510 (length (text_of (whole_of parts origin server)))) a.not_long in
     subst (λ w. length (text_of w) ≤ 510) a.whole_is (ltb-false _ _ short.1)
 
 -- source, destination and body stay
-pub answer_stays : (parts : Parts) (origin : Origin) (server : List ℕ) (others : List (List ℕ)) (whole : Parts) → Answer parts origin server others whole
+pub answer_stays : (parts : PartsSeen) (origin : Origin) (server : List ℕ) (others : List (List ℕ)) (whole : PartsSeen) → Answer parts origin server others whole
     → (whole.source ≡ parts.source) × (whole.dest ≡ parts.dest) × (whole.body ≡ parts.body)
 answer_stays parts origin server others whole a =
     (ap (λ w. w.source) (sym a.whole_is), ap (λ w. w.dest) (sym a.whole_is), ap (λ w. w.body) (sym a.whole_is))
@@ -338,15 +338,15 @@ passes true d rest h = absurd (cc)
 passes false d rest h = (refl, h)
 
 -- the server doesn't stand after the given construct
-pub answer_not_named : (parts : Parts) (origin : Origin) (server : List ℕ) (others : List (List ℕ)) (whole : Parts) → Answer parts origin server others whole
-    → among server (names_after (given_path parts.vias.items)) ≡ false
+pub answer_not_named : (parts : PartsSeen) (origin : Origin) (server : List ℕ) (others : List (List ℕ)) (whole : PartsSeen) → Answer parts origin server others whole
+    → among server (names_after (given_path parts.vias)) ≡ false
 unfolding given_drops
 answer_not_named parts origin server others whole a =
-    let given = given_path parts.vias.items in
+    let given = given_path parts.vias in
     let p1 = passes (is_unverified origin && not (same parts.source (name_of origin))) drop_for.Unverified _ a.given in
     let p2 = passes (is_submission origin && list_any bars (before given)) drop_for.NoGate _ p1.1 in
-    let p3 = passes (is_submission origin && begins_with 125 parts.body.items) drop_for.ThirdParty _ p2.1 in
-    let p4 = passes (is_submission origin && begins_with 63 parts.body.items) drop_for.Query _ p3.1 in
+    let p3 = passes (is_submission origin && begins_with 125 parts.body) drop_for.ThirdParty _ p2.1 in
+    let p4 = passes (is_submission origin && begins_with 63 parts.body) drop_for.Query _ p3.1 in
     let p5 = passes (same (construct_of given) (codes "qAZ")) drop_for.QAZ _ p4.1 in
     (passes (among server (names_after given)) drop_for.NamesServer _ p5.1).0
 
@@ -528,25 +528,25 @@ traced_kept name server path =
       | false ↦ λ _ other h. h
     ] refl
 
-sound_fine : (parts : Parts) → IsParts parts → Fine parts.vias.items
-sound_fine parts sound = let good = good_is parts.vias.items (sound_is parts sound).path in record { elements = good.elements; constructs = good.constructs; stars = good.stars }
+sound_fine : (parts : PartsSeen) → IsParts parts → Fine parts.vias
+sound_fine parts sound = let good = good_is parts.vias (sound_is parts sound).path in record { elements = good.elements; constructs = good.constructs; stars = good.stars }
 
 -- between servers each call after the construct stays there
-pub answer_keeps : (parts : Parts) (origin : Origin) (server : List ℕ) (others : List (List ℕ)) (whole : Parts) → IsParts parts → keeps_names origin ≡ true
-    → Answer parts origin server others whole → Keeps parts.vias.items whole.vias.items
+pub answer_keeps : (parts : PartsSeen) (origin : Origin) (server : List ℕ) (others : List (List ℕ)) (whole : PartsSeen) → IsParts parts → keeps_names origin ≡ true
+    → Answer parts origin server others whole → Keeps parts.vias whole.vias
 answer_keeps parts origin server others whole sound keeps a =
     let fine = sound_fine parts sound in
-    subst (λ w. Keeps parts.vias.items w.vias.items) a.whole_is (λ name h.
+    subst (λ w. Keeps parts.vias w.vias) a.whole_is (λ name h.
     traced_kept (name_of origin) server (built_path parts origin server) name
-    (built_kept parts.source origin server (given_path parts.vias.items) (given_fine parts.vias.items fine) keeps name (ap (among name) (names_given parts.vias.items fine) ∙ h)))
+    (built_kept parts.source origin server (given_path parts.vias) (given_fine parts.vias fine) keeps name (ap (among name) (names_given parts.vias fine) ∙ h)))
 
-pub answer_unnamed : (parts : Parts) (origin : Origin) (server : List ℕ) (others : List (List ℕ)) (whole : Parts) → IsParts parts → Answer parts origin server others whole
-    → among server (names_after parts.vias.items) ≡ false
+pub answer_unnamed : (parts : PartsSeen) (origin : Origin) (server : List ℕ) (others : List (List ℕ)) (whole : PartsSeen) → IsParts parts → Answer parts origin server others whole
+    → among server (names_after parts.vias) ≡ false
 answer_unnamed parts origin server others whole sound a =
-    ap (among server) (sym (names_given parts.vias.items (sound_fine parts sound))) ∙ answer_not_named parts origin server others whole a
+    ap (among server) (sym (names_given parts.vias (sound_fine parts sound))) ∙ answer_not_named parts origin server others whole a
 
 -- what holds of each answer holds of this one
-pub on_answer : (parts : Parts) (origin : Origin) (server : List ℕ) (others : List (List ℕ)) (r : Result Parts QDrop) (P : Parts → Type 0)
-    → r ≡ process_of parts origin server others → ((whole : Parts) → Answer parts origin server others whole → P whole) → IfOk r P
+pub on_answer : (parts : PartsSeen) (origin : Origin) (server : List ℕ) (others : List (List ℕ)) (r : Result PartsSeen QDrop) (P : PartsSeen → Type 0)
+    → r ≡ process_of parts origin server others → ((whole : PartsSeen) → Answer parts origin server others whole → P whole) → IfOk r P
 on_answer parts origin server others (Ok whole) P e each = each whole (answer_is parts origin server others whole (sym e))
 on_answer parts origin server others (Err d) P e each = tt

@@ -1,6 +1,6 @@
 -- Worked lines: what the rule makes of them at the server T2TEST.
 use Rattle.std.specs.Prelude.{◌≡◌, ℕ, List, [], ◌∷◌, true, false, Ok, Err, refl, codes, Result}
-use Rattle.aprs_base.specs.declared.packets.Parts.{Parts}
+use Rattle.aprs_base.specs.PartsSeen.{PartsSeen}
 use Rattle.tnc2_line.specs.Packet.{parts_of, head_of, via_of, text_of}
 use Rattle.tnc2_line.specs.declared.reading.LineFault.{LineFault}
 use Rattle.q_construct.specs.Rule.{process_of, given_drops, built_drops, built_row, rows}
@@ -9,11 +9,11 @@ use Rattle.q_construct.specs.declared.origins.Origin.TheVariants.{Udp, Client, U
 use Rattle.q_construct.specs.declared.drops.QDrop.{QDrop}
 use Rattle.q_construct.specs.declared.drops.QDrop.TheVariants as drop_for
 
-abbrev texts : Result Parts QDrop → Result (List ℕ) QDrop
+abbrev texts : Result PartsSeen QDrop → Result (List ℕ) QDrop
 texts (Ok parts) = Ok (text_of parts)
 texts (Err d) = Err d
 
-abbrev answer_to : Origin → List ℕ → List (List ℕ) → Result Parts LineFault → Result (List ℕ) QDrop
+abbrev answer_to : Origin → List ℕ → List (List ℕ) → Result PartsSeen LineFault → Result (List ℕ) QDrop
 answer_to origin server others (Ok parts) = texts (process_of parts origin server others)
 answer_to origin server others (Err fault) = Err drop_for.Long
 

@@ -6,7 +6,7 @@ use Rattle.std.specs.Cmp.Lexicographic.{pointwise}
 use Rattle.aprs_base.specs.Bytes.{is_station}
 use Rattle.aprs_base.specs.declared.texts.Addr.{Addr}
 use Rattle.aprs_base.specs.declared.packets.Via.{Via}
-use Rattle.aprs_base.specs.declared.packets.Parts.{Parts}
+use Rattle.aprs_base.specs.PartsSeen.{PartsSeen}
 use Rattle.tnc2_line.specs.Packet.{names_construct, from_construct, text_of}
 use Rattle.q_construct.specs.declared.origins.Origin.{Origin}
 use Rattle.q_construct.specs.declared.origins.Origin.TheVariants.{Udp, Client, Uplink, Peer}
@@ -196,8 +196,8 @@ with_name name path = if among name (names_after path) then path else path ++ pl
 abbrev pub traced : List ℕ → List ℕ → List Via → List Via
 traced name server path = if same (construct_of path) (codes "qAI") then with_name server (with_name name path) else path
 
-abbrev pub with_path : Parts → List Via → Parts
-with_path parts path = record parts { vias = record { items = path } }
+abbrev pub with_path : PartsSeen → List Via → PartsSeen
+with_path parts path = record parts { vias = path }
 
 -- ---- the drops: the first that applies
 
@@ -239,12 +239,12 @@ abbrev pub is_login_not_last : Origin → List (List ℕ) → Bool
 is_login_not_last origin names = list_any (is_own origin) (take (length names - 1) names)
 
 -- the drops by what is given
-unfoldable pub given_drops : Parts → Origin → List ℕ → List Via → List (Option QDrop)
+unfoldable pub given_drops : PartsSeen → Origin → List ℕ → List Via → List (Option QDrop)
 given_drops parts origin server given =
     when (is_unverified origin && not (same parts.source (name_of origin))) drop_for.Unverified
     ∷ when (is_submission origin && list_any bars (before given)) drop_for.NoGate
-    ∷ when (is_submission origin && begins_with 125 parts.body.items) drop_for.ThirdParty
-    ∷ when (is_submission origin && begins_with 63 parts.body.items) drop_for.Query
+    ∷ when (is_submission origin && begins_with 125 parts.body) drop_for.ThirdParty
+    ∷ when (is_submission origin && begins_with 63 parts.body) drop_for.Query
     ∷ when (same (construct_of given) (codes "qAZ")) drop_for.QAZ
     ∷ when (among server (names_after given)) drop_for.NamesServer
     ∷ []
@@ -260,13 +260,13 @@ built_drops origin server others checked path =
     ∷ []
 
 -- 32 elements at most, and 510 bytes
-abbrev pub is_long : Parts → Bool
-is_long parts = nat_lt 32 (length parts.vias.items) || nat_lt 510 (length (text_of parts))
+abbrev pub is_long : PartsSeen → Bool
+is_long parts = nat_lt 32 (length parts.vias) || nat_lt 510 (length (text_of parts))
 
 -- the packet as it goes on, or the first drop
-unfoldable pub process_of : Parts → Origin → List ℕ → List (List ℕ) → Result Parts QDrop
+unfoldable pub process_of : PartsSeen → Origin → List ℕ → List (List ℕ) → Result PartsSeen QDrop
 process_of parts origin server others = do
-  given ← Ok (given_path parts.vias.items)
+  given ← Ok (given_path parts.vias)
   _ ← refused (given_drops parts origin server given)
   built ← Ok (built_row parts.source origin server given)
   _ ← refused (built_drops origin server others built.checked built.path)

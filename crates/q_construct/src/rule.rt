@@ -147,9 +147,9 @@ pub fn process(
     ensures short { IfOk result (λ whole. length (text_of whole) ≤ 510) }
     ensures stays { IfOk result (λ whole. (whole.source ≡ parts.now.source) × (whole.dest ≡ parts.now.dest) × (whole.body ≡ parts.now.body)) }
     // Between servers each call after the construct stays there.
-    ensures keeps { IsTrue (keeps_names origin.now) → IfOk result (λ whole. (name : List ℕ) → IsTrue (among name (names_after parts.now.vias.items)) → IsTrue (among name (names_after whole.vias.items))) }
+    ensures keeps { IsTrue (keeps_names origin.now) → IfOk result (λ whole. (name : List ℕ) → IsTrue (among name (names_after parts.now.vias)) → IsTrue (among name (names_after whole.vias))) }
     // What has passed here before doesn't pass again.
-    ensures unnamed { OnOk result (among server.now (names_after parts.now.vias.items) ≡ false) }
+    ensures unnamed { OnOk result (among server.now (names_after parts.now.vias) ≡ false) }
 {
     let name = origin_name(origin);
     process_from(parts, origin, &name, server, others)

@@ -1,6 +1,7 @@
 -- What a send leaves of the core, and the history with it.
 use Rattle.std.proofs.Common.{◌≡◌, ℕ, ◌+◌, ◌-◌, ◌≤◌, ◌==◌, true, false, ◌||◌, List, [], ◌∷◌, length, map, refl, sym, ap, ◌∙◌, subst, arith, ⊎_elim, length-drop}
 use Rattle.std.proofs.lemmas.Bool.{cases_Bool}
+use Rattle.std.specs.declared.random_state.RandomState.{RandomState}
 use Rattle.aprs_base.specs.declared.events.Sent.TheVariants as sent
 use Rattle.aprs_base.specs.declared.events.Happening.TheVariants as did
 use Rattle.aprs_base.specs.declared.packets.ListenSpec.{ListenSpec}
@@ -96,9 +97,10 @@ stands_listening s core (spec ∷ specs) n h stands = stands_listening s core sp
 })
 
 -- nothing has happened
-pub stands_new : (s : Setting) (core : CoreSeen) → core.moment ≡ 0 → core.links ≡ [] → core.turned ≡ [] → core.closing ≡ [] → core.accepted ≡ [] → core.stations ≡ no_stations → core.heard ≡ nothing → core.greatest ≡ 0 → core.stopped ≡ false → StandsFor s core []
+pub stands_new : (s : Setting) (core : CoreSeen) (hasher : RandomState) → core.moment ≡ 0 → core.links ≡ [] → core.turned ≡ [] → core.closing ≡ [] → core.accepted ≡ [] → core.stations ≡ no_stations hasher → core.heard ≡ nothing hasher
+    → core.greatest ≡ 0 → core.stopped ≡ false → StandsFor s core []
 unfolding trace_of
-stands_new s core moment links turned closing accepted stations heard greatest stopped = record {
+stands_new s core hasher moment links turned closing accepted stations heard greatest stopped = record {
   finished = refl;
   follows = record {
     moment = moment;
@@ -107,7 +109,7 @@ stands_new s core moment links turned closing accepted stations heard greatest s
     links = links;
     tables = record {
       accepted = accepted;
-      stations = subst (λ table. Agrees table []) (sym stations) new_agrees;
+      stations = subst (λ table. Agrees table []) (sym stations) (new_agrees hasher);
       heard = subst (λ table. Remembers table []) (sym heard)
           (record { once_heard = once_none [] refl; once_promised = once_none [] refl; heard = λ l call. refl; promised = λ l sender. refl });
     };

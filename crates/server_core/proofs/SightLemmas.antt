@@ -7,10 +7,10 @@ use Rattle.aprs_base.specs.PacketSeen.{PacketSeen}
 use Rattle.filter_lang.specs.Terms.{TermSeen}
 use Rattle.aprs_base.specs.declared.packets.Place.{Place}
 use Rattle.aprs_body.specs.Classes.{position_bit}
-use Rattle.filter_eval.specs.Passes.{fresh, has_class, is_some_and, is_text, position_age}
+use Rattle.filter_eval.specs.Passes.{fresh, has_class, is_some_and, is_text, is_young, position_age}
 use Rattle.filter_eval.specs.declared.seen.Seen.{Seen}
 use Rattle.station_table.specs.Last.{Agrees, last_place, later_or, place_by}
-use Rattle.station_table.specs.Stations.{gate_at, is_young, place_at, seen_at, seen_in}
+use Rattle.station_table.specs.Stations.{gate_at, place_at, seen_at, seen_in}
 use Rattle.station_table.proofs.LastSeen.{told_more}
 use Rattle.aprs_history.specs.declared.verdicts.FilterAnswer.{FilterAnswer}
 use Rattle.aprs_history.specs.declared.verdicts.FilterAnswer.TheVariants.{Active, Denied}

@@ -6,9 +6,9 @@ use Rattle.aprs_base.specs.PacketSeen.{PacketSeen}
 use Rattle.aprs_base.specs.Bytes.{is_call, is_station}
 use Rattle.aprs_base.specs.Held.{Held, held_after}
 use Rattle.filter_lang.specs.Terms.{TermSeen}
-use Rattle.filter_eval.specs.Passes.{fresh, is_some_and, is_text, passes_of}
+use Rattle.filter_eval.specs.Passes.{fresh, is_some_and, is_text, is_young, passes_of}
 use Rattle.filter_eval.specs.declared.seen.Seen.{Seen}
-use Rattle.station_table.specs.Stations.{StationsSeen, gate_at, is_young, place_at, seen_in}
+use Rattle.station_table.specs.Stations.{StationsSeen, gate_at, place_at, seen_in}
 use Rattle.station_table.specs.Stations as station
 use Rattle.heard_routing.specs.Heard.{HeardSeen, courtesies, is_among, noted, promised, receivers, without_link, without_promises}
 use Rattle.aprs_history.specs.declared.verdicts.FilterAnswer.{FilterAnswer}

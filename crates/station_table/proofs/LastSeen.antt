@@ -2,17 +2,18 @@
 use Rattle.std.proofs.Common.{◌≡◌, ℕ, ◌-◌, ◌≤◌, ◌<◌, Bool, true, false, cond, filter, List, [], ◌∷◌, ◌++◌, Option, Some, None, Result, Ok, Err, OnOk, refl, sym, ap, ◌∙◌, subst, arith, true≢false}
 use Rattle.std.specs.List.{IsDistinct}
 use Rattle.std.specs.Map.{lookup}
+use Rattle.std.specs.declared.random_state.RandomState.{RandomState}
 use Rattle.std.proofs.lemmas.Bool.{ltb-true, ltb-false}
 use Rattle.std.proofs.lemmas.Cmp.{nat_list_eq_equiv}
 use Rattle.std.proofs.lemmas.Map.Entries.{lookup-filter-values, option_filter}
 use Rattle.std.proofs.lemmas.Map.Made.{IsDistinct-keys_filter}
 use Rattle.aprs_base.specs.PacketSeen.{PacketSeen}
-use Rattle.filter_eval.specs.Passes.{fresh, is_some_and, is_text, position_age}
+use Rattle.filter_eval.specs.Passes.{fresh, is_some_and, is_text, is_young, position_age}
 use Rattle.filter_eval.specs.declared.seen.Seen.{Seen}
 use Rattle.indexmap.specs.IndexMap.{insert_entry}
 use Rattle.station_table.specs.Entries.{HasEachOnce}
 use Rattle.station_table.specs.Last.{Agrees, AgreesAt, fresh_gate, gate_by, last_gate, last_place, last_told, later_or, place_by}
-use Rattle.station_table.specs.Stations.{StationsSeen, gate_at, gate_in, is_young, no_stations, noted, place_at, put_gate, put_place, seen_in, young}
+use Rattle.station_table.specs.Stations.{StationsSeen, gate_at, gate_in, no_stations, noted, place_at, put_gate, put_place, seen_in, young}
 use Rattle.station_table.proofs.EntryLemmas.{distinct_set, lookup_set}
 
 -- ---- no call stands twice
@@ -71,8 +72,8 @@ gate_noted table packet call = put_gate_later call (gate_in packet.parts) packet
 
 -- ---- a table and packets
 
-pub new_agrees : Agrees no_stations []
-new_agrees = record { place = λ call. refl; gate = λ call. refl }
+pub new_agrees : (hasher : RandomState) → Agrees (no_stations hasher) []
+new_agrees hasher = record { place = λ call. refl; gate = λ call. refl }
 
 pub note_agrees : (table : StationsSeen) (packets : List PacketSeen) (packet : PacketSeen) → Agrees table packets → Agrees (noted packet table) (packets ++ packet ∷ [])
 note_agrees table packets packet agrees = record {

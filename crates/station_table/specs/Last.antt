@@ -1,9 +1,9 @@
 -- The last that packets told of a call, where they stand in the order in which they came.
 use Rattle.std.specs.Prelude.{ℕ, ◌≡◌, List, [], ◌∷◌, Option, Some, None, if◌then◌else◌}
 use Rattle.aprs_base.specs.PacketSeen.{PacketSeen}
-use Rattle.filter_eval.specs.Passes.{fresh, is_some_and, is_text}
+use Rattle.filter_eval.specs.Passes.{fresh, is_some_and, is_text, is_young}
 use Rattle.filter_eval.specs.declared.seen.Seen.{Seen}
-use Rattle.station_table.specs.Stations.{StationsSeen, gate_at, gate_in, is_young, place_at, seen_in}
+use Rattle.station_table.specs.Stations.{StationsSeen, gate_at, gate_in, place_at, seen_in}
 
 -- the later of two, or else the earlier
 abbrev pub later_or : {T : Type 0} → Option T → Option T → Option T

@@ -1,21 +1,23 @@
 -- Where stations were last seen, and which are gates (aprs-is.net, Server-side Filter Commands).
-use Rattle.std.specs.Prelude.{ℕ, ◌-◌, ◌==◌, ◌||◌, Bool, nat_lt, List, [], filter, Option, Some, None, option_map, if◌then◌else◌}
+use Rattle.std.specs.Prelude.{ℕ, ◌==◌, ◌||◌, Bool, List, [], filter, Option, Some, None, option_map, if◌then◌else◌}
 use Rattle.std.specs.Map.{lookup}
+use Rattle.std.specs.declared.random_state.RandomState.{RandomState}
 use Rattle.indexmap.specs.IndexMap.{insert_entry}
 use Rattle.aprs_base.specs.PacketSeen.{PacketSeen}
-use Rattle.aprs_base.specs.declared.packets.Parts.{Parts}
+use Rattle.aprs_base.specs.PartsSeen.{PartsSeen}
 use Rattle.aprs_base.specs.declared.packets.Place.{Place}
 use Rattle.aprs_body.specs.Classes.{position_bit}
-use Rattle.filter_eval.specs.Passes.{entry_of, has_class, is_some_and, is_text, letter_of, position_age}
+use Rattle.filter_eval.specs.Passes.{entry_of, has_class, is_fresh, is_some_and, is_text, is_young, letter_of}
 use Rattle.filter_eval.specs.declared.seen.Seen.{Seen}
 
--- where calls were last seen, and when they were last gates, in the order in which they first came
+-- where calls were last seen, and when they were last gates, in the order in which they first came; and the key of the hasher
 pub record StationsSeen : Type 0 where
   pub places : List (List ℕ × Seen)
   pub gates : List (List ℕ × ℕ)
+  pub hasher : RandomState
 
-abbrev pub no_stations : StationsSeen
-no_stations = record { places = []; gates = [] }
+abbrev pub no_stations : RandomState → StationsSeen
+no_stations hasher = record { places = []; gates = []; hasher = hasher }
 
 abbrev pub place_at : StationsSeen → List ℕ → Option Seen
 place_at table call = lookup (is_text call) table.places
@@ -37,7 +39,7 @@ abbrev pub is_gate_letter : ℕ → Bool
 is_gate_letter letter = letter == 114 || letter == 82 || letter == 111
 
 -- the call right after such a construct
-abbrev pub gate_in : Parts → Option (List ℕ)
+abbrev pub gate_in : PartsSeen → Option (List ℕ)
 gate_in parts = if is_some_and is_gate_letter (letter_of parts) then entry_of parts else None
 
 -- ---- what becomes of a table
@@ -60,16 +62,12 @@ with_gate packet table = record table { gates = put_gate (gate_in packet.parts) 
 abbrev pub noted : PacketSeen → StationsSeen → StationsSeen
 noted packet table = with_gate packet (with_place packet table)
 
--- a moment less than two days before
-abbrev pub is_young : ℕ → ℕ → Bool
-is_young now moment = nat_lt (now - moment) position_age
-
 abbrev pub is_young_place : ℕ → List ℕ × Seen → Bool
-is_young_place now entry = is_young now entry.1.moment
+is_young_place now entry = is_fresh now entry.1
 
 abbrev pub is_young_gate : ℕ → List ℕ × ℕ → Bool
 is_young_gate now entry = is_young now entry.1
 
 -- what is younger than two days
 abbrev pub young : ℕ → StationsSeen → StationsSeen
-young now table = record { places = filter (is_young_place now) table.places; gates = filter (is_young_gate now) table.gates }
+young now table = record table { places = filter (is_young_place now) table.places; gates = filter (is_young_gate now) table.gates }

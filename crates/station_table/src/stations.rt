@@ -1,22 +1,19 @@
 //! The table of stations.
 ghost use Rattle.std.specs.Prelude.{◌≡◌, ℕ, ◌≤◌, ◌⊎◌, List, [], ◌∷◌, ◌++◌, filter, option_map, OnOk, OnErr, IfOk};
-ghost use Rattle.filter_eval.specs.Passes.{fresh, is_some_and, third};
+ghost use Rattle.filter_eval.specs.Passes.{fresh, is_some_and, is_young, third};
 ghost use Rattle.aprs_base.specs.PacketSeen.{PacketSeen};
 ghost use Rattle.station_table.specs.Entries.{HasEachOnce};
 ghost use Rattle.station_table.specs.Last.{Agrees, AgreesAt, last_gate, last_place};
-ghost use Rattle.station_table.specs.Stations.{gate_at, gate_in, is_gate_letter, is_young, is_young_gate, is_young_place, noted, no_stations, place_at, put_gate, put_place, seen_in, with_place, young};
+ghost use Rattle.station_table.specs.Stations.{gate_at, gate_in, is_gate_letter, is_young_gate, is_young_place, noted, no_stations, place_at, put_gate, put_place, seen_in, with_place, young};
 
 use crate::entries::{lookup, set};
 use aprs_base::{Call, Memory, Packet, Parts};
 use aprs_body::class;
-use filter_eval::Seen;
+use filter_eval::{Seen, is_young};
 use std::alloc::Global;
 use std::hash::RandomState;
 use std::marker::Model;
 use tnc2_line::construct;
-
-/// For how long a station is remembered: two days, in seconds.
-const AGE: u64 = 172_800;
 
 /// Where stations were last seen, and when stations were last gates.
 #[derive(Drop)]
@@ -32,16 +29,9 @@ impl Model for Stations {
 
     ghost Value = { StationsSeen };
 
-    ghost view = { λ s. record { places = s.places.items; gates = s.gates.items } };
+    ghost view = { λ s. record { places = s.places.items; gates = s.gates.items; hasher = s.hasher } };
 
     ghost invariant = { λ s. HasEachOnce s.places.items × HasEachOnce s.gates.items };
-}
-
-/// Whether the moment is less than two days before `now`; both in seconds.
-fn is_young(moment: u64, now: u64) -> bool
-    ensures { result ≡ is_young now moment }
-{
-    now.saturating_sub(moment) < AGE
 }
 
 /// Where an accepted packet says that its source is: a position with a place.
@@ -103,7 +93,7 @@ fn keep_young_places(places: &mut Vec<(Call, Seen)>, now: u64)
     ensures kept { places.new.items ≡ filter (is_young_place now) places.old.items }
     ensures once { HasEachOnce places.old.items → HasEachOnce places.new.items }
 {
-    places.retain(|entry| is_young(entry.1.moment, now));
+    places.retain(|entry| entry.1.is_fresh(now));
 }
 
 fn keep_young_gates(gates: &mut Vec<(Call, u64)>, now: u64)
@@ -114,9 +104,9 @@ fn keep_young_gates(gates: &mut Vec<(Call, u64)>, now: u64)
 }
 
 impl Stations {
-    /// No station was seen.
+    /// No station was seen. The table has a clone of the hasher.
     pub fn new(alloc: Global, hasher: &RandomState) -> Result<Stations, Memory>
-        ensures empty { IfOk result (λ table. table ≡ no_stations) }
+        ensures empty { IfOk result (λ table. table ≡ no_stations hasher.now) }
         ensures last { IfOk result (λ table. Agrees table []) }
     {
         Ok(Stations {
@@ -146,11 +136,7 @@ impl Stations {
         ensures last { (packets : List PacketSeen) → AgreesAt now self.now packets → result ≡ fresh now (last_place packets call.now) }
     {
         let seen = lookup(self.places.as_slice(), call)?;
-        if is_young(seen.moment, now) {
-            Some(seen)
-        } else {
-            None
-        }
+        if seen.is_fresh(now) { Some(seen) } else { None }
     }
 
     /// Whether the call was a gate less than two days before `now`, which is in seconds.

@@ -9,7 +9,7 @@ use Rattle.std.proofs.lemmas.List.Splits.{join_with_byte-slice_split}
 use Rattle.aprs_base.specs.Bytes.{is_call, is_inner, IsLine}
 use Rattle.std.proofs.lemmas.List.{length-append}
 use Rattle.aprs_base.specs.declared.packets.Via.{Via}
-use Rattle.aprs_base.specs.declared.packets.Parts.{Parts}
+use Rattle.aprs_base.specs.PartsSeen.{PartsSeen}
 use Rattle.tnc2_line.specs.Packet.{text_of, is_parts, IsParts, IsPacket, is_path, parts_of, head_of, path_of, vias_of, call_of, checked_path, checked_body, cut_at, is_colon, is_arrow, is_comma, is_element, has_no_star, names_construct, from_construct, with_comma, via_text, ◌>>=◌}
 use Rattle.tnc2_line.specs.declared.reading.LineFault.{LineFault}
 use Rattle.tnc2_line.specs.declared.reading.LineFault.TheVariants as fault
@@ -36,23 +36,23 @@ module _ (test : ℕ → Bool) (calls : (b : ℕ) → is_call_byte b ≡ true �
 
 -- ---- what parts are
 
-pub record Sound (parts : Parts) : Type 0 where
+pub record Sound (parts : PartsSeen) : Type 0 where
   pub source : is_call parts.source ≡ true
   pub dest : is_call parts.dest ≡ true
-  pub path : is_path parts.vias.items ≡ true
-  pub has_body : 1 ≤ length parts.body.items
-  pub body : list_all is_inner parts.body.items ≡ true
+  pub path : is_path parts.vias ≡ true
+  pub has_body : 1 ≤ length parts.body
+  pub body : list_all is_inner parts.body ≡ true
 
-pub sound_is : (parts : Parts) → IsParts parts → Sound parts
+pub sound_is : (parts : PartsSeen) → IsParts parts → Sound parts
 unfolding is_parts
 sound_is parts h =
-    let a = and_parts _ (list_all is_inner parts.body.items) h in
-    let b = and_parts _ (leb 1 (length parts.body.items)) a.0 in
-    let c = and_parts _ (is_path parts.vias.items) b.0 in
+    let a = and_parts _ (list_all is_inner parts.body) h in
+    let b = and_parts _ (leb 1 (length parts.body)) a.0 in
+    let c = and_parts _ (is_path parts.vias) b.0 in
     let d = and_parts (is_call parts.source) (is_call parts.dest) c.0 in
     record { source = d.0; dest = d.1; path = c.1; has_body = leb-true _ _ b.1; body = a.1 }
 
-pub is_sound : (parts : Parts) → Sound parts → IsParts parts
+pub is_sound : (parts : PartsSeen) → Sound parts → IsParts parts
 unfolding is_parts
 is_sound parts s = and_from _ _ (and_from _ _ (and_from _ _ (and_from _ _ s.source s.dest) s.path) (le-leb _ _ s.has_body)) s.body
 
@@ -74,52 +74,52 @@ is_good vias g = and_from _ _ (and_from _ _ (and_from _ _ (le-leb _ _ g.few) g.e
 
 -- ---- a text read
 
-abbrev pub head_text : Parts → List ℕ
-head_text parts = parts.source ++ (62 ∷ (parts.dest ++ flat_map with_comma parts.vias.items))
+abbrev pub head_text : PartsSeen → List ℕ
+head_text parts = parts.source ++ (62 ∷ (parts.dest ++ flat_map with_comma parts.vias))
 
-pub text_is : (parts : Parts) → text_of parts ≡ head_text parts ++ (58 ∷ parts.body.items)
+pub text_is : (parts : PartsSeen) → text_of parts ≡ head_text parts ++ (58 ∷ parts.body)
 unfolding text_of
 text_is parts =
-    ap (λ t. parts.source ++ (62 ∷ t)) (sym (append_assoc parts.dest (flat_map with_comma parts.vias.items) (58 ∷ parts.body.items)))
-    ∙ sym (append_assoc parts.source (62 ∷ (parts.dest ++ flat_map with_comma parts.vias.items)) (58 ∷ parts.body.items))
+    ap (λ t. parts.source ++ (62 ∷ t)) (sym (append_assoc parts.dest (flat_map with_comma parts.vias) (58 ∷ parts.body)))
+    ∙ sym (append_assoc parts.source (62 ∷ (parts.dest ++ flat_map with_comma parts.vias)) (58 ∷ parts.body))
 
 head_each : (test : ℕ → Bool) (calls : (b : ℕ) → is_call_byte b ≡ true → test b ≡ true) (comma : test 44 ≡ true) (star : test 42 ≡ true) (arrow : test 62 ≡ true)
-    (parts : Parts) → Sound parts → list_all test (head_text parts) ≡ true
+    (parts : PartsSeen) → Sound parts → list_all test (head_text parts) ≡ true
 head_each test calls comma star arrow parts s =
-    let path = path_each test calls comma star parts.vias.items (good_is parts.vias.items s.path).elements in
-    let rest = list_all-append test parts.dest (flat_map with_comma parts.vias.items) ∙ and_from _ _ (call_each test calls comma star parts.dest s.dest) path in
-    list_all-append test parts.source (62 ∷ (parts.dest ++ flat_map with_comma parts.vias.items)) ∙ and_from _ _ (call_each test calls comma star parts.source s.source) (and_from _ _ arrow rest)
+    let path = path_each test calls comma star parts.vias (good_is parts.vias s.path).elements in
+    let rest = list_all-append test parts.dest (flat_map with_comma parts.vias) ∙ and_from _ _ (call_each test calls comma star parts.dest s.dest) path in
+    list_all-append test parts.source (62 ∷ (parts.dest ++ flat_map with_comma parts.vias)) ∙ and_from _ _ (call_each test calls comma star parts.source s.source) (and_from _ _ arrow rest)
 
-pub text_each : (parts : Parts) → IsParts parts → list_all is_inner (text_of parts) ≡ true
+pub text_each : (parts : PartsSeen) → IsParts parts → list_all is_inner (text_of parts) ≡ true
 text_each parts h =
     let s = sound_is parts h in
-    ap (list_all is_inner) (text_is parts) ∙ list_all-append is_inner (head_text parts) (58 ∷ parts.body.items)
+    ap (list_all is_inner) (text_is parts) ∙ list_all-append is_inner (head_text parts) (58 ∷ parts.body)
     ∙ and_from _ _ (head_each is_inner no_line_end refl refl refl parts s) s.body
 
-path_back : (parts : Parts) → Sound parts → path_of (parts.dest ∷ map via_text parts.vias.items) ≡ Ok (parts.dest, parts.vias.items)
+path_back : (parts : PartsSeen) → Sound parts → path_of (parts.dest ∷ map via_text parts.vias) ≡ Ok (parts.dest, parts.vias)
 path_back parts s =
-    let g = good_is parts.vias.items s.path in
-    let follow : Follow [] parts.vias.items = record { few = omega (arith, g.few); elements = g.elements; stars = g.stars } in
-    ap (λ b. cond b (Ok parts.dest) (Err fault.BadDest) >>= λ dest. vias_of [] (map via_text parts.vias.items) >>= λ vias. Ok (dest, vias)) s.dest
-    ∙ ap (λ r. r >>= λ vias. Ok (parts.dest, vias)) (vias_back [] parts.vias.items follow)
+    let g = good_is parts.vias s.path in
+    let follow : Follow [] parts.vias = record { few = omega (arith, g.few); elements = g.elements; stars = g.stars } in
+    ap (λ b. cond b (Ok parts.dest) (Err fault.BadDest) >>= λ dest. vias_of [] (map via_text parts.vias) >>= λ vias. Ok (dest, vias)) s.dest
+    ∙ ap (λ r. r >>= λ vias. Ok (parts.dest, vias)) (vias_back [] parts.vias follow)
 
 constructs_back : (vias : List Via) → GoodPath vias → checked_path vias ≡ Ok vias
 constructs_back vias g = ap (λ b. cond b (Err fault.TwoConstructs) (Ok vias)) (le-ltb 1 (count_by names_construct vias) g.constructs)
 
-head_back : (parts : Parts) → Sound parts → head_of (head_text parts) ≡ Ok (parts.source, parts.dest, parts.vias.items)
+head_back : (parts : PartsSeen) → Sound parts → head_of (head_text parts) ≡ Ok (parts.source, parts.dest, parts.vias)
 unfolding head_of
 head_back parts s =
-    let g = good_is parts.vias.items s.path in
-    let cut = cut_there is_arrow parts.source 62 (parts.dest ++ flat_map with_comma parts.vias.items) (call_without is_arrow no_arrow parts.source s.source) refl in
-    let pieces = split_back parts.dest parts.vias.items (call_without is_comma no_comma parts.dest s.dest) g.elements in
-    rw (cut, s.source, pieces, path_back parts s, constructs_back parts.vias.items g) refl
+    let g = good_is parts.vias s.path in
+    let cut = cut_there is_arrow parts.source 62 (parts.dest ++ flat_map with_comma parts.vias) (call_without is_arrow no_arrow parts.source s.source) refl in
+    let pieces = split_back parts.dest parts.vias (call_without is_comma no_comma parts.dest s.dest) g.elements in
+    rw (cut, s.source, pieces, path_back parts s, constructs_back parts.vias g) refl
 
-pub parts_back : (parts : Parts) → IsParts parts → parts_of (text_of parts) ≡ Ok parts
+pub parts_back : (parts : PartsSeen) → IsParts parts → parts_of (text_of parts) ≡ Ok parts
 unfolding parts_of
 parts_back parts h =
     let s = sound_is parts h in
-    let cut = cut_there is_colon (head_text parts) 58 parts.body.items (head_each (λ b. not (is_colon b)) no_colon refl refl refl parts s) refl in
-    let body : ltb 0 (length parts.body.items) ≡ true = lt-ltb _ _ (omega (arith, s.has_body)) in
+    let cut = cut_there is_colon (head_text parts) 58 parts.body (head_each (λ b. not (is_colon b)) no_colon refl refl refl parts s) refl in
+    let body : ltb 0 (length parts.body) ≡ true = lt-ltb _ _ (omega (arith, s.has_body)) in
     ap parts_of (text_is parts) ∙ rw (cut, head_back parts s, body) refl
 
 -- ---- a text that reads
@@ -236,18 +236,18 @@ head_gives head source dest vias h =
 
 -- ---- the line
 
-abbrev with_body : Head → List ℕ → Result Parts LineFault
-with_body head body = Ok (record { source = head.0; dest = head.1; vias = record { items = head.2 }; body = record { items = body } })
+abbrev with_body : Head → List ℕ → Result PartsSeen LineFault
+with_body head body = Ok (record { source = head.0; dest = head.1; vias = head.2; body = body })
 
-abbrev with_head : List ℕ → Head → Result Parts LineFault
+abbrev with_head : List ℕ → Head → Result PartsSeen LineFault
 with_head text head = checked_body text >>= with_body head
 
-abbrev with_line : List ℕ × List ℕ → Result Parts LineFault
+abbrev with_line : List ℕ × List ℕ → Result PartsSeen LineFault
 with_line sides = head_of sides.0 >>= with_head sides.1
 
 parts_from : (line : List ℕ) (sides : List ℕ × List ℕ) (head : Head) (body : List ℕ) → list_all is_inner line ≡ true
     → cut_at is_colon line ≡ Some sides → head_of sides.0 ≡ Ok head → checked_body sides.1 ≡ Ok body
-    → IsPacket line (record { source = head.0; dest = head.1; vias = record { items = head.2 }; body = record { items = body } })
+    → IsPacket line (record { source = head.0; dest = head.1; vias = head.2; body = body })
 parts_from line sides head body inner cut front rest =
     let whole = cut_sides is_colon line sides.0 sides.1 cut in
     let colon : whole.0 ≡ 58 = eqb-true _ _ whole.1 in
@@ -255,7 +255,7 @@ parts_from line sides head body inner cut front rest =
     let body_is = checked (ltb 0 (length sides.1)) sides.1 body fault.NoBody rest in
     let head_is = head_gives sides.0 head.0 head.1 head.2 front in
     let inner_rest : list_all is_inner sides.1 ≡ true = (and_parts (list_all is_inner sides.0) (list_all is_inner (58 ∷ sides.1)) (sym (list_all-append is_inner sides.0 (58 ∷ sides.1)) ∙ ap (list_all is_inner) (sym line_is) ∙ inner)).1 in
-    let parts : Parts = record { source = head.0; dest = head.1; vias = record { items = head.2 }; body = record { items = body } } in
+    let parts : PartsSeen = record { source = head.0; dest = head.1; vias = head.2; body = body } in
     record {
       spelled = text_is parts ∙ ap (λ t. t ++ (58 ∷ body)) (sym head_is.text) ∙ ap (λ t. sides.0 ++ (58 ∷ t)) (sym body_is.1) ∙ sym line_is;
       sound = is_sound parts (record {
@@ -267,7 +267,7 @@ parts_from line sides head body inner cut front rest =
       });
     }
 
-pub parts_give : (line : List ℕ) (parts : Parts) → list_all is_inner line ≡ true → parts_of line ≡ Ok parts → IsPacket line parts
+pub parts_give : (line : List ℕ) (parts : PartsSeen) → list_all is_inner line ≡ true → parts_of line ≡ Ok parts → IsPacket line parts
 unfolding parts_of
 parts_give line parts inner h =
     let a = bind_ok (ok_or (cut_at is_colon line) fault.NoColon) with_line parts h in
@@ -276,25 +276,25 @@ parts_give line parts inner h =
     carried b.0 c.0 c.2 (parts_from line a.0 b.0 c.0 inner (ok_or_ok (cut_at is_colon line) fault.NoColon a.0 a.1) b.1 c.1)
   where
     carried : (head : Head) (body : List ℕ) → with_body head body ≡ Ok parts
-        → IsPacket line (record { source = head.0; dest = head.1; vias = record { items = head.2 }; body = record { items = body } }) → IsPacket line parts
+        → IsPacket line (record { source = head.0; dest = head.1; vias = head.2; body = body }) → IsPacket line parts
     carried head body e packet =
-        let same : record { source = head.0; dest = head.1; vias = record { items = head.2 }; body = record { items = body } } ≡ parts = cc in
+        let same : record { source = head.0; dest = head.1; vias = head.2; body = body } ≡ parts = cc in
         subst (λ q. IsPacket line q) same packet
 
 -- a line has one reading, and parts have one line
-pub packet_reads : (line : List ℕ) (parts : Parts) → IsPacket line parts → parts_of line ≡ Ok parts
+pub packet_reads : (line : List ℕ) (parts : PartsSeen) → IsPacket line parts → parts_of line ≡ Ok parts
 packet_reads line parts p = ap parts_of (sym p.spelled) ∙ parts_back parts p.sound
 
 inner_line : (line : List ℕ) → IsLine line → list_all is_inner line ≡ true
 inner_line line h = (and_parts (leb 1 (length line) && leb (length line) 510) (list_all is_inner line) h).1
 
 -- what is read from a line is its packet
-pub packet_of : (line : List ℕ) (r : Result Parts LineFault) → r ≡ parts_of line → IsLine line → IfOk r (λ parts. IsPacket line parts)
+pub packet_of : (line : List ℕ) (r : Result PartsSeen LineFault) → r ≡ parts_of line → IsLine line → IfOk r (λ parts. IsPacket line parts)
 packet_of line (Ok parts) e h = parts_give line parts (inner_line line h) (sym e)
 packet_of line (Err fault) e h = tt
 
 -- the text of parts is a line, where it isn't too long
-pub line_of_parts : (parts : Parts) → IsParts parts → length (text_of parts) ≤ 510 → IsLine (text_of parts)
+pub line_of_parts : (parts : PartsSeen) → IsParts parts → length (text_of parts) ≤ 510 → IsLine (text_of parts)
 line_of_parts parts h short =
-    let long = ap length (text_is parts) ∙ length-append (head_text parts) (58 ∷ parts.body.items) in
+    let long = ap length (text_is parts) ∙ length-append (head_text parts) (58 ∷ parts.body) in
     and_from _ _ (and_from _ _ (le-leb 1 (length (text_of parts)) (omega (arith, long))) (le-leb (length (text_of parts)) 510 short)) (text_each parts h)

@@ -2,7 +2,7 @@
 use Rattle.std.specs.Prelude.{◌≡◌, [], ◌∷◌, true, false, Some, Ok, Err, refl, codes}
 use Rattle.tnc2_line.specs.Packet.{parts_of, text_of, is_parts, construct_at, via_of, head_of}
 use Rattle.tnc2_line.specs.declared.reading.LineFault.TheVariants as fault
-use Rattle.aprs_base.specs.declared.packets.Parts.{Parts}
+use Rattle.aprs_base.specs.PartsSeen.{PartsSeen}
 
 no_colon : parts_of (codes "K1ABC") ≡ Err fault.NoColon
 unfolding parts_of head_of
@@ -40,12 +40,12 @@ no_body : parts_of (codes "K1ABC>APRS:") ≡ Err fault.NoBody
 unfolding parts_of head_of
 no_body = refl
 
-a_packet : Parts
+a_packet : PartsSeen
 a_packet = record {
   source = codes "K1ABC";
   dest = codes "APRS";
-  vias = record { items = record { call = codes "DIG"; star = true } ∷ record { call = codes "qAR"; star = false } ∷ record { call = codes "GATE-1"; star = false } ∷ [] };
-  body = record { items = codes ">x:y" };
+  vias = record { call = codes "DIG"; star = true } ∷ record { call = codes "qAR"; star = false } ∷ record { call = codes "GATE-1"; star = false } ∷ [];
+  body = codes ">x:y";
 }
 
 read_whole : parts_of (codes "K1ABC>APRS,DIG*,qAR,GATE-1:>x:y") ≡ Ok a_packet

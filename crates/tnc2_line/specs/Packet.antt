@@ -4,7 +4,7 @@ use Rattle.std.specs.List.{list_all, list_any, before_first, after_first, slice_
 use Rattle.std.specs.Option.{ok_or, option_and_then}
 use Rattle.aprs_base.specs.Bytes.{is_call, is_construct, is_inner}
 use Rattle.aprs_base.specs.declared.packets.Via.{Via}
-use Rattle.aprs_base.specs.declared.packets.Parts.{Parts}
+use Rattle.aprs_base.specs.PartsSeen.{PartsSeen}
 use Rattle.tnc2_line.specs.declared.reading.LineFault.{LineFault}
 use Rattle.tnc2_line.specs.declared.reading.LineFault.TheVariants as fault
 
@@ -31,8 +31,8 @@ abbrev pub with_comma : Via → List ℕ
 with_comma via = 44 ∷ via_text via
 
 -- source, `>`, destination, the elements, `:`, body
-unfoldable pub text_of : Parts → List ℕ
-text_of parts = parts.source ++ (62 ∷ (parts.dest ++ (flat_map with_comma parts.vias.items ++ (58 ∷ parts.body.items))))
+unfoldable pub text_of : PartsSeen → List ℕ
+text_of parts = parts.source ++ (62 ∷ (parts.dest ++ (flat_map with_comma parts.vias ++ (58 ∷ parts.body))))
 
 -- an element whose call is a construct (aprs-is.net, q Construct)
 abbrev pub names_construct : Via → Bool
@@ -54,15 +54,15 @@ abbrev pub is_path : List Via → Bool
 is_path vias = nat_le (length vias) 32 && list_all is_element vias && nat_le (count_by names_construct vias) 1 && list_all has_no_star (from_construct vias)
 
 -- parts of some text, of whatever length
-unfoldable pub is_parts : Parts → Bool
+unfoldable pub is_parts : PartsSeen → Bool
 is_parts parts =
-    is_call parts.source && is_call parts.dest && is_path parts.vias.items && nat_le 1 (length parts.body.items) && list_all is_inner parts.body.items
+    is_call parts.source && is_call parts.dest && is_path parts.vias && nat_le 1 (length parts.body) && list_all is_inner parts.body
 
-abbrev pub IsParts : Parts → Type 0
+abbrev pub IsParts : PartsSeen → Type 0
 IsParts parts = IsTrue (is_parts parts)
 
 -- a packet: a text, and its parts
-pub record IsPacket (line : List ℕ) (parts : Parts) : Type 0 where
+pub record IsPacket (line : List ℕ) (parts : PartsSeen) : Type 0 where
   pub spelled : text_of parts ≡ line
   pub sound : IsParts parts
 
@@ -70,8 +70,8 @@ pub record IsPacket (line : List ℕ) (parts : Parts) : Type 0 where
 abbrev pub is_construct_via : Via → Bool
 is_construct_via via = names_construct via && has_no_star via
 
-abbrev pub construct_at : Parts → Option ℕ
-construct_at parts = position is_construct_via parts.vias.items
+abbrev pub construct_at : PartsSeen → Option ℕ
+construct_at parts = position is_construct_via parts.vias
 
 -- ---- the reading of a text, with the first fault
 
@@ -129,9 +129,9 @@ head_of head = do
   Ok (source, path.0, vias)
 
 -- the parts of a line: the first `:` ends the head
-unfoldable pub parts_of : List ℕ → Result Parts LineFault
+unfoldable pub parts_of : List ℕ → Result PartsSeen LineFault
 parts_of line = do
   line_cut ← ok_or (cut_at is_colon line) fault.NoColon
   head ← head_of line_cut.0
   body ← checked_body line_cut.1
-  Ok (record { source = head.0; dest = head.1; vias = record { items = head.2 }; body = record { items = body } })
+  Ok (record { source = head.0; dest = head.1; vias = head.2; body = body })

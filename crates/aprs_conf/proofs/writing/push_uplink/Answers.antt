@@ -8,8 +8,8 @@ use Rattle.aprs_conf.proofs.writing.push_uplink.Goals as goal
 pub returns : goal.returns
 returns c =
     let start = codes "Uplink uplink full tcp " in
-    let host = word_text c.args.uplink.now.host.items in
-    let port = word_text (decimal c.args.uplink.now.port) in
+    let host = word_text c.uplink.inside.host.items in
+    let port = word_text (decimal c.uplink.inside.port) in
     let word = rw c.as_slice.ensures.value at c.in_ok-push_word.ensures in
     let number = rw c.from.ensures at c.in_ok-push_number.ensures in
-    four_pieces c.push_byte.result _ _ _ _ _ start host port (10 ∷ []) _ (uplink_pieces start host port) c.in_ok-push_bytes.ensures word number c.push_byte.ensures
+    rw (← c.uplink.view_is) (four_pieces c.push_byte.result _ _ _ _ _ start host port (10 ∷ []) _ (uplink_pieces start host port) c.in_ok-push_bytes.ensures word number c.push_byte.ensures)

@@ -1,8 +1,8 @@
-use Rattle.std.proofs.Common.{sym, subst}
+use Rattle.std.proofs.Common.{◌≡◌, ◌⊎◌, sym, ◌∙◌, subst}
 use Rattle.aprs_history.specs.Runs.{AppendsRun}
 use Rattle.server_core.specs.Meaning.{setting_of}
 use Rattle.aprsc_daemon.specs.Causes.{Ended}
-use Rattle.aprsc_daemon.proofs.CauseLemmas.{headline}
+use Rattle.aprsc_daemon.proofs.CauseLemmas.{complete, early, headline}
 use Rattle.aprsc_daemon.proofs.program.aprsc.Goals as goal
 
 pub returns-clause-run : goal.returns-clause-run
@@ -12,3 +12,11 @@ returns-clause-run g c = λ conf told tells read.
 
 pub returns-clause-cause : goal.returns-clause-cause
 returns-clause-cause g c = (c.run.result, c.code.ensures, c.run.ensures)
+
+pub returns-clause-complete : goal.returns-clause-complete
+returns-clause-complete g c = λ code asks sound going taken.
+    subst (λ n. (n ≡ code) ⊎ (n ≡ 6)) (sym c.code.ensures) (complete _ code c.run.result asks sound going taken c.run.ensures)
+
+pub returns-clause-early : goal.returns-clause-early
+returns-clause-early g c = λ conf told tells read sound lost.
+    early _ told conf c.run.result tells read sound (sym c.code.ensures ∙ lost) c.run.ensures

@@ -14,9 +14,16 @@ returns-in_err-listen_all-clause-listen g c =
     let same : c.as_slice-2.result.now ≡ numbered c.args.conf.listens =
     c.as_slice-2.ensures.value ∙ c.in-Ok.ensures ∙ ap numbered (c.as_slice.ensures.value ∙ ap (λ conf. conf.listens) c.conf.view_is) in
     err_of _ c.from_residual.result error.0 c.in_err-listen_all.field-0.0 error.1 error.2 (λ n is.
-    let failed = c.in_err-listen_all.ensures.failed n is in
-    let within = c.in_err-listen_all.ensures.within n is in (
+    let failed = c.in_err-listen_all.ensures.failed n is in (
       failed.0,
-      run_weaker s (g.W.Wire.shown c.args.wire.now).told (g.W.Wire.shown c.listen_all.new.wire).told (Listening s n) (OpensOnly n s)
-          (λ more phase. (phase.count, phase.only, subst (λ specs. n < length specs) same within)) (failed.1 s (sym same)),
+      run_weaker s (g.W.Wire.shown c.args.wire.now).told (g.W.Wire.shown c.listen_all.new.wire).told (Listening s n) (OpensOnly n)
+          (λ more phase. (phase.count, phase.only)) (failed.1 s (sym same)),
     ))
+
+pub returns-in_err-listen_all-clause-within : goal.returns-in_err-listen_all-clause-within
+returns-in_err-listen_all-clause-within g c =
+    let error = err_from_is_err_and c.from_residual.result c.from_residual.ensures.1 in
+    let same : c.as_slice-2.result.now ≡ numbered c.args.conf.listens =
+    c.as_slice-2.ensures.value ∙ c.in-Ok.ensures ∙ ap numbered (c.as_slice.ensures.value ∙ ap (λ conf. conf.listens) c.conf.view_is) in
+    err_of _ c.from_residual.result error.0 c.in_err-listen_all.field-0.0 error.1 error.2 (λ n is.
+    subst (λ specs. n < length specs) same (c.in_err-listen_all.ensures.within n is))

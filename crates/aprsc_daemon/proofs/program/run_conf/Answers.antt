@@ -9,7 +9,8 @@ returns-in-Ok g c = λ words files files_after read. ended_cause _ c.args.conf c
 pub returns-in-Err-Failed : goal.returns-in-Err-Failed
 returns-in-Err-Failed g c = λ words files files_after read.
     let failed = c.in-Err-Failed.ensures.listen c.in-Err-Failed.n c.in-Err-Failed.field-0-is in
-    listener_cause _ c.args.conf c.in-Err-Failed.n c.say_made.result read failed.0 failed.1 (c.say_made.ensures (listen_failed_text c.in-Err-Failed.n) c.listen_failed.ensures)
+    let within = c.in-Err-Failed.ensures.within c.in-Err-Failed.n c.in-Err-Failed.field-0-is in
+    listener_cause _ c.args.conf c.in-Err-Failed.n c.say_made.result read within failed.0 failed.1 (c.say_made.ensures (listen_failed_text c.in-Err-Failed.n) c.listen_failed.ensures)
 
 pub returns-in-Err-Memory : goal.returns-in-Err-Memory
-returns-in-Err-Memory g c = λ words files files_after read. memory_cause _ read.file read.named refl (inr (record { conf = c.args.conf; read = read; run = c.in-Err-Memory.ensures.err }))
+returns-in-Err-Memory g c = λ words files files_after read. memory_cause _ refl (inr (record { conf = c.args.conf; read = read; run = c.in-Err-Memory.ensures.err }))

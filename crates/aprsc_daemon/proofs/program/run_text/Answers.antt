@@ -1,6 +1,6 @@
-use Rattle.std.proofs.Common.{refl, ap, inl, Err, arith}
+use Rattle.std.proofs.Common.{refl, ap, inl, inr, Err, arith}
 use Rattle.aprsc_daemon.specs.Saying.{trouble_text}
-use Rattle.aprsc_daemon.proofs.CauseLemmas.{trouble_cause, memory_cause}
+use Rattle.aprsc_daemon.proofs.CauseLemmas.{off_cause, memory_cause}
 use Rattle.aprsc_daemon.proofs.ServeLemmas.{numbered_short}
 use Rattle.aprsc_daemon.proofs.program.run_text.Goals as goal
 
@@ -9,8 +9,10 @@ run_conf-requires-clause-listens g c = let few = c.in-Ok.ensures.sound.listens.1
 
 pub returns-in-Err-Trouble : goal.returns-in-Err-Trouble
 returns-in-Err-Trouble g c = λ words files files_after named holds.
-    trouble_cause _ c.args.file.now c.args.text.now c.in-Err-Trouble.why c.say_made.result named holds c.requires.short (c.in-Err-Trouble.ensures.trouble c.in-Err-Trouble.why (ap Err c.in-Err-Trouble.field-0-is)) refl
-    (c.say_made.ensures (trouble_text c.args.file.now c.in-Err-Trouble.why) c.trouble.ensures)
+    let why = c.in-Err-Trouble.why in
+    let text = trouble_text c.args.file.now why in
+    off_cause _ c.args.file.now c.args.text.now text c.say_made.result named holds (inr (c.requires.short, why, c.in-Err-Trouble.ensures.trouble why (ap Err c.in-Err-Trouble.field-0-is), refl)) refl
+    (c.say_made.ensures text c.trouble.ensures)
 
 pub returns-in-Err-Memory : goal.returns-in-Err-Memory
-returns-in-Err-Memory g c = λ words files files_after named holds. memory_cause _ c.args.file.now named refl (inl refl)
+returns-in-Err-Memory g c = λ words files files_after named holds. memory_cause _ refl (inl refl)

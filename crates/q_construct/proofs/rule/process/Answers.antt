@@ -24,11 +24,11 @@ returns-clause-stays c =
 
 pub returns-clause-keeps : goal.returns-clause-keeps
 returns-clause-keeps c = λ between.
-    on_answer c.args.parts.now c.args.origin.now c.args.server.now c.args.others.now c.process_from.result (λ whole. Keeps c.args.parts.now.vias.items whole.vias.items) c.process_from.ensures
+    on_answer c.args.parts.now c.args.origin.now c.args.server.now c.args.others.now c.process_from.result (λ whole. Keeps c.args.parts.now.vias whole.vias) c.process_from.ensures
     (λ whole a. answer_keeps _ _ _ _ whole c.requires.parts between a)
 
 pub returns-clause-unnamed : goal.returns-clause-unnamed
 returns-clause-unnamed c =
     on_answer c.args.parts.now c.args.origin.now c.args.server.now c.args.others.now c.process_from.result
-    (λ whole. among c.args.server.now (names_after c.args.parts.now.vias.items) ≡ false) c.process_from.ensures
+    (λ whole. among c.args.server.now (names_after c.args.parts.now.vias) ≡ false) c.process_from.ensures
     (λ whole a. answer_unnamed _ _ _ _ whole c.requires.parts a)
