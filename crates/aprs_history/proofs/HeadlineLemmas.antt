@@ -17,10 +17,13 @@ use Rattle.aprs_history.specs.declared.verdicts.FilterAnswer.{FilterAnswer}
 use Rattle.aprs_history.specs.declared.verdicts.Verdict.{Verdict}
 use Rattle.aprs_history.specs.declared.verdicts.Verdict.TheVariants.{PassedOver, Refused, LoggedIn, Filtered, Accepted}
 use Rattle.aprs_history.specs.Setting.{Setting}
-use Rattle.aprs_history.specs.Trace.{Trace, Admission, NoPort, TurnedAway, Served, Entry, RoundBegan, Dated, Ticked, Opened, Brought, Said, Roomed, Took, Lost, Ended, is_closing, is_live, is_member, closed_links, moment_of, placed}
+use Rattle.aprs_history.specs.declared.verdicts.Admission.{Admission}
+use Rattle.aprs_history.specs.declared.verdicts.Admission.TheVariants.{NoPort, TurnedAway, Served}
+use Rattle.aprs_history.specs.Trace.{Trace, Entry, RoundBegan, Dated, Ticked, Opened, Brought, Said, Roomed, Took, Lost, Ended, is_closing, is_live, is_member, closed_links, moment_of, placed}
 use Rattle.aprs_history.specs.Links.{taken_by}
 use Rattle.aprs_history.specs.Scenes.{packet_of}
-use Rattle.aprs_history.specs.Texts.{Banner, Relayed, Text, TextLine, added_by, banner, banner_of, comment_line, most_waiting, waiting_lines, with_text_line, with_text_lines, ended_line, filter_reply, lines_of, login_filter_reply, login_reply, plain, plain_line, refusal_reply, relayed, reply_lines, reply_of, text_bytes, text_to, untaken, wants}
+use Rattle.link_queue.specs.Lines.{ended_line, text_bytes}
+use Rattle.aprs_history.specs.Texts.{Banner, Relayed, Text, TextLine, added_by, banner, banner_of, comment_line, most_waiting, waiting_lines, with_text_line, with_text_lines, filter_reply, lines_of, login_filter_reply, login_reply, plain, plain_line, refusal_reply, relayed, reply_lines, reply_of, text_to, untaken, wants}
 use Rattle.aprs_history.specs.History.{History, ends_round, greater_link, greatest_link, is_stopped, open_events, trace_of}
 use Rattle.aprs_history.specs.Acts.{IsRun, but_first, due}
 use Rattle.aprs_history.specs.Headline.{HasEnded, is_round_start, HasFreshLinks, IsOfAnother, LinksTakePrefixes, NoneHearThemselves, ClosesHaveReasons, taken_bytes}

@@ -16,7 +16,9 @@ use Rattle.heard_routing.specs.LastHeard.{heard_by, last_heard}
 use Rattle.aprs_history.specs.declared.verdicts.Verdict.{Verdict}
 use Rattle.aprs_history.specs.declared.verdicts.Verdict.TheVariants.{PassedOver, Refused, LoggedIn, Filtered, Accepted}
 use Rattle.aprs_history.specs.Setting.{Setting}
-use Rattle.aprs_history.specs.Trace.{Trace, Admission, NoPort, TurnedAway, Served, Entry, RoundBegan, Dated, Ticked, Opened, Brought, Said, Roomed, Took, Lost, Ended, ByStop, is_live, is_member, is_other, live_links, moment_of, opened_link}
+use Rattle.aprs_history.specs.declared.verdicts.Admission.{Admission}
+use Rattle.aprs_history.specs.declared.verdicts.Admission.TheVariants.{NoPort, TurnedAway, Served}
+use Rattle.aprs_history.specs.Trace.{Trace, Entry, RoundBegan, Dated, Ticked, Opened, Brought, Said, Roomed, Took, Lost, Ended, ByStop, is_live, is_member, is_other, live_links, moment_of, opened_link}
 use Rattle.aprs_history.specs.Scenes.{accepted_of, packet_of}
 use Rattle.aprs_history.specs.Messages.{heard_after, heard_of}
 use Rattle.aprs_history.specs.History.{History, admission, begun, ends_round, greater_link, greatest_link, open_events, trace_of, with_event}

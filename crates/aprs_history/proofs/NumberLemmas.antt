@@ -1,5 +1,5 @@
 -- Lists of numbers: members, and numbers that rise.
-use Rattle.std.proofs.Common.{◌≡◌, ℕ, ◌≤◌, ◌<◌, ◌==◌, Bool, true, false, not, ◌||◌, nat_lt, List, [], ◌∷◌, ◌++◌, filter, refl, sym, ap, ◌∙◌, arith, ⊎_elim, cond, eq-eqb, if◌then◌else◌}
+use Rattle.std.proofs.Common.{◌≡◌, ℕ, ◌≤◌, ◌<◌, ◌==◌, Bool, true, false, not, ◌||◌, nat_le, List, [], ◌∷◌, ◌++◌, filter, refl, sym, ap, ◌∙◌, arith, ⊎_elim, cond, eq-eqb, if◌then◌else◌}
 use Rattle.std.proofs.lemmas.Bool.{eqb-true, cases_Bool, false_from_ne_true, true≢false}
 use Rattle.aprs_history.specs.Trace.{is_member, is_other, placed}
 
@@ -79,15 +79,15 @@ member_passes p k (n ∷ ns) member =
 
 pub member_placed : (link n : ℕ) (ns : List ℕ) → is_member link (placed n ns) ≡ true → ((n == link) || is_member link ns) ≡ true
 member_placed link n [] member = member
-member_placed link n (m ∷ ns) member = of (nat_lt n m) member (member_placed link n ns)
+member_placed link n (m ∷ ns) member = of (nat_le m n) member (member_placed link n ns)
   where
     turned : (a b c : Bool) → (b || (a || c)) ≡ true → (a || (b || c)) ≡ true
     turned true b c is = refl
     turned false b c is = is
 
-    of : (b : Bool) → is_member link (if b then n ∷ m ∷ ns else m ∷ placed n ns) ≡ true → (is_member link (placed n ns) ≡ true → ((n == link) || is_member link ns) ≡ true)
+    of : (b : Bool) → is_member link (if b then m ∷ placed n ns else n ∷ m ∷ ns) ≡ true → (is_member link (placed n ns) ≡ true → ((n == link) || is_member link ns) ≡ true)
         → ((n == link) || ((m == link) || is_member link ns)) ≡ true
-    of true is later = is
-    of false is later =
+    of false is later = is
+    of true is later =
         turned (n == link) (m == link) (is_member link ns)
         (⊎_elim (λ here. rw here refl) (λ other. rw other (later (sym (ap (λ b. b || is_member link (placed n ns)) other) ∙ is))) (cases_Bool (m == link)))

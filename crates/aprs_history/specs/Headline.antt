@@ -12,7 +12,8 @@ use Rattle.aprs_base.specs.declared.events.Happening.TheVariants as did
 use Rattle.aprs_history.specs.Setting.{Setting}
 use Rattle.aprs_history.specs.Trace.{Trace, Entry, EndReason, ByPeer, FoundGone, NoLogin, Silent, Overfull, Full, ByStop, RoundBegan, Ended, is_closing, is_member, turned_links}
 use Rattle.aprs_history.specs.Links.{is_gone, is_nameless, is_silent}
-use Rattle.aprs_history.specs.Texts.{TextLine, Relayed, lines_of, text_bytes, text_to, untaken}
+use Rattle.link_queue.specs.Lines.{text_bytes}
+use Rattle.aprs_history.specs.Texts.{TextLine, Relayed, lines_of, text_to, untaken}
 use Rattle.aprs_history.specs.History.{History, greatest_link, is_stopped, trace_of}
 use Rattle.aprs_history.specs.Acts.{IsRun}
 
