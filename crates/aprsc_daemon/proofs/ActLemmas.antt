@@ -46,6 +46,7 @@ owing_next conf link offers closes bytes outcome more other owing = record {
       left_by_other (setting_of conf) more link k bytes outcome (member_differs link k offers other member)
       ∙ owing.same k (⊎_elim (λ here. ap (λ b. b || is_member k offers) here) (λ differ. ap (λ b. b || is_member k offers) differ ∙ member) (cases_Bool (link == k)));
   all = owing.all;
+  fresh = owing.fresh;
 }
 
 member_first : (link : ℕ) (offers : List ℕ) → is_member link (link ∷ offers) ≡ true
@@ -79,7 +80,7 @@ stands_closed core link h stands = record { finished = stands.finished; follows 
 
 owing_closed : (conf : ConfSeen) (link : ℕ) (closes : List ℕ) (more : History) → Owing conf [] (link ∷ closes) more → Owing conf [] closes (did.Closed link ∷ more)
 unfolding due
-owing_closed conf link closes more owing = record { round = owing.round; owed = ap but_first owing.owed; same = λ k member. absurd (true≢false (sym member)); all = owing.all }
+owing_closed conf link closes more owing = record { round = owing.round; owed = ap but_first owing.owed; same = λ k member. absurd (true≢false (sym member)); all = owing.all; fresh = owing.fresh }
 
 pub run_closes : (s : Setting) (start now next : Option Told) (core : CoreMeaning) (link : ℕ) (closes : List ℕ) → setting_of core.conf ≡ s
     → next ≡ option_map (with_done (did.Closed link)) now → AppendsRun s start now (Offering core [] (link ∷ closes)) → AppendsRun s start next (Offering core [] closes)

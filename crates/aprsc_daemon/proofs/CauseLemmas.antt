@@ -1,13 +1,17 @@
 -- From what a part of the program did to the cause of its status.
-use Rattle.std.proofs.Common.{◌≡◌, ◌⊎◌, inl, inr, ℕ, ◌≤◌, ◌<◌, true, false, List, [], ◌++◌, length, refl, sym, ap, ◌∙◌, subst, append-nil, Option, Some, None, Result, Ok, ⊎_elim, arith}
-use Rattle.std.specs.Bool.{⊤}
+use Rattle.std.proofs.Common.{◌≡◌, ◌⊎◌, inl, inr, ℕ, ◌≤◌, ◌<◌, true, false, List, [], ◌∷◌, ◌++◌, length, refl, sym, ap, ◌∙◌, subst, append-nil, Option, Some, None, Result, Ok, ⊎_elim, arith}
+use Rattle.std.proofs.lemmas.Bool.{false≢true}
 use Rattle.std.specs.Option.{option_map}
-use Rattle.aprs_base.specs.Outside.{Rose}
+use Rattle.aprs_base.specs.Outside.{Rose, Told}
+use Rattle.aprs_base.specs.declared.events.Happening.TheVariants as did
 use Rattle.aprs_base.specs.Stores.{Holds, bytes_named}
 use Rattle.aprs_base.specs.declared.files.MemFile.{MemFile}
 use Rattle.aprs_history.specs.Setting.{Setting}
-use Rattle.aprs_history.specs.History.{History}
-use Rattle.aprs_history.specs.Runs.{AppendsRun}
+use Rattle.aprs_history.specs.History.{History, trace_of}
+use Rattle.aprs_history.specs.Acts.{IsRun}
+use Rattle.aprs_history.specs.Headline.{HasFreshLinks}
+use Rattle.aprs_history.specs.Runs.{AppendsRun, are_listens}
+use Rattle.aprs_history.proofs.HeadlineLemmas.{closes_have_reasons, links_take_prefixes, none_hear_themselves}
 use Rattle.server_core.specs.Meaning.{setting_of}
 use Rattle.aprs_conf.specs.Seen.{ConfSeen}
 use Rattle.aprs_conf.specs.Grammar.{conf_of}
@@ -17,7 +21,7 @@ use Rattle.aprsc_daemon.specs.Saying.{listen_failed_text, unread_text, usage_tex
 use Rattle.aprsc_daemon.specs.Configuring.{IsTrouble, is_built}
 use Rattle.aprsc_daemon.specs.declared.configuring.Trouble.{Trouble}
 use Rattle.aprsc_daemon.specs.declared.configuring.Trouble.TheVariants as trouble
-use Rattle.aprsc_daemon.specs.Causes.{Asks, Cause, Ended, HasNamed, HasNoListener, HasNoMemory, HasRefused, IsDue, IsOff, IsServed, IsUnused, Opening, OpensOnly, Outside, Reports, Said, code_of_status, status_of}
+use Rattle.aprsc_daemon.specs.Causes.{Asks, Cause, Ended, HasNamed, HasNoListener, HasNoMemory, HasRefused, IsDue, IsOff, IsServed, IsUnused, KeepsPromise, Opening, OpensOnly, Outside, Reports, Said, code_of_status, status_of}
 use Rattle.aprsc_daemon.specs.Words.{file_word}
 use Rattle.aprsc_daemon.specs.declared.serving.End.{End}
 use Rattle.aprsc_daemon.specs.declared.serving.End.TheVariants as ended
@@ -76,7 +80,7 @@ listener_cause o conf n result read within failed run said =
 
 -- ---- a status without a text
 
-pub memory_cause : (o : Outside) → o.sink_after.told ≡ o.sink.told → IsUnused o ⊎ IsServed o (λ s more. ⊤) → HasNoMemory o
+pub memory_cause : (o : Outside) → o.sink_after.told ≡ o.sink.told → IsUnused o ⊎ IsServed o (λ s. HasFreshLinks) → HasNoMemory o
 memory_cause o silent left = inl (record { run = left; silent = silent })
 
 pub ended_cause : (o : Outside) (conf : ConfSeen) (end : End) (result : Status) → result ≡ status_of end → HasNamed o.words o.files.told conf → o.sink_after.told ≡ o.sink.told
@@ -156,13 +160,26 @@ served_run o files conf P tells read served =
     let same = same_conf o.words files served.conf conf (at_files o files served.conf tells served.read) (at_files o files conf tells read) in
     subst (λ c. AppendsRun (setting_of c) o.wire.told o.wire_after.told (P (setting_of c))) same served.run
 
--- a run of which the end says nothing
-goes_on : (o : Outside) (files : List MemFile) (conf : ConfSeen) (code : ℕ) (P : Setting → History → Type 0) → o.files.told ≡ Some files → HasNamed o.words o.files.told conf
-    → ((s : Setting) (more : History) → Ended code s more) → IsUnused o ⊎ IsServed o P → AppendsRun (setting_of conf) o.wire.told o.wire_after.told (Ended code (setting_of conf))
-goes_on o files conf code P tells read any =
+-- where nothing but listeners was opened, no link was numbered
+listens_fresh : (more : History) → are_listens more ≡ true → HasFreshLinks more
+listens_fresh [] only = tt
+listens_fresh (did.Listen n ∷ more) only = listens_fresh more only
+listens_fresh (did.Event e ∷ more) only = absurd (false≢true only)
+listens_fresh (did.Sent link bytes outcome ∷ more) only = absurd (false≢true only)
+listens_fresh (did.Closed link ∷ more) only = absurd (false≢true only)
+listens_fresh (did.Dialled uplink ∷ more) only = absurd (false≢true only)
+listens_fresh (did.Cast peer bytes ∷ more) only = absurd (false≢true only)
+
+-- a run of which the end says no more
+goes_on : (o : Outside) (files : List MemFile) (conf : ConfSeen) (code : ℕ) → (code ≡ 0 → ⊥) → (code ≡ 5 → ⊥) → o.files.told ≡ Some files → HasNamed o.words o.files.told conf
+    → IsUnused o ⊎ IsServed o (λ s. HasFreshLinks) → AppendsRun (setting_of conf) o.wire.told o.wire_after.told (Ended code (setting_of conf))
+goes_on o files conf code not_0 not_5 tells read =
     ⊎_elim
-    (unused_run o (setting_of conf) (Ended code (setting_of conf)) (any (setting_of conf) []))
-    (λ served. served_run o files conf (Ended code) tells read (served_weaker o P (Ended code) (λ s more at. any s more) served))
+    (unused_run o (setting_of conf) (Ended code (setting_of conf)) (ends (setting_of conf) [] tt))
+    (λ served. served_run o files conf (Ended code) tells read (served_weaker o (λ s. HasFreshLinks) (Ended code) ends served))
+  where
+    ends : (s : Setting) (more : History) → HasFreshLinks more → Ended code s more
+    ends s more fresh = record { fresh = fresh; stopped = λ e. absurd (not_0 e); lost = λ e. absurd (not_5 e) }
 
 opens_some : (o : Outside) (text : List ℕ) → HasNoListener o text → IsServed o Opening
 opens_some o text due =
@@ -173,13 +190,13 @@ opens_some o text due =
       run = run_weaker s o.wire.told o.wire_after.told (OpensOnly due.number) (Opening s) (λ more opens. subst (λ m. m < length s.listens) (sym opens.0) due.within) due.run.run;
     }
 
--- where a text is due nothing happened, or not every listener was opened
-due_run : (wanted : Status) (o : Outside) (text : List ℕ) → IsDue wanted o text → IsUnused o ⊎ IsServed o Opening
+-- where a text is due nothing happened, or listeners alone were opened
+due_run : (wanted : Status) (o : Outside) (text : List ℕ) → IsDue wanted o text → IsUnused o ⊎ IsServed o (λ s. HasFreshLinks)
 due_run status.Stopped o text due = absurd due
 due_run status.BadWords o text due = inl due.unused
 due_run status.BadFile o text due = inl due.unused
 due_run status.UnreadFile o text due = inl due.unused
-due_run status.NoListener o text due = inr (opens_some o text due)
+due_run status.NoListener o text due = inr (served_weaker o (λ s. OpensOnly due.number) (λ s. HasFreshLinks) (λ s more opens. listens_fresh more opens.1) due.run)
 due_run status.LostWire o text due = absurd due
 due_run status.NoMemory o text due = absurd due
 due_run status.LostSink o text due = absurd due
@@ -188,12 +205,12 @@ due_run status.LostSink o text due = absurd due
 due_ended : (wanted : Status) (o : Outside) (text : List ℕ) (files : List MemFile) (conf : ConfSeen) (code : ℕ) → (code ≡ 0 → ⊥) → (code ≡ 5 → ⊥) → o.files.told ≡ Some files
     → HasNamed o.words o.files.told conf → IsDue wanted o text → AppendsRun (setting_of conf) o.wire.told o.wire_after.told (Ended code (setting_of conf))
 due_ended wanted o text files conf code not_0 not_5 tells read due =
-    goes_on o files conf code Opening tells read (λ s more. record { stopped = λ e. absurd (not_0 e); lost = λ e. absurd (not_5 e) }) (due_run wanted o text due)
+    goes_on o files conf code not_0 not_5 tells read (due_run wanted o text due)
 
 pub headline : (o : Outside) (files : List MemFile) (conf : ConfSeen) (ending : Status) → o.files.told ≡ Some files → HasNamed o.words o.files.told conf → Cause ending o
     → AppendsRun (setting_of conf) o.wire.told o.wire_after.told (Ended (code_of_status ending) (setting_of conf))
 headline o files conf status.Stopped tells read cause =
-    served_run o files conf (Ended 0) tells read (served_weaker o Finished (Ended 0) (λ s more at. record { stopped = λ e. at; lost = λ e. absurd (omega arith) }) cause.run)
+    served_run o files conf (Ended 0) tells read (served_weaker o Finished (Ended 0) (λ s more at. record { fresh = at.idle.fresh; stopped = λ e. at; lost = λ e. absurd (omega arith) }) cause.run)
 headline o files conf status.BadWords tells read cause =
     due_ended status.BadWords o cause.text files conf 1 (λ e. omega arith) (λ e. omega arith) tells read cause.due
 headline o files conf status.BadFile tells read cause =
@@ -203,14 +220,28 @@ headline o files conf status.UnreadFile tells read cause =
 headline o files conf status.NoListener tells read cause =
     due_ended status.NoListener o cause.text files conf 4 (λ e. omega arith) (λ e. omega arith) tells read cause.due
 headline o files conf status.LostWire tells read cause =
-    served_run o files conf (Ended 5) tells read (served_weaker o Idle (Ended 5) (λ s more at. record { stopped = λ e. absurd (omega arith); lost = λ e. at }) cause.run)
+    served_run o files conf (Ended 5) tells read (served_weaker o Idle (Ended 5) (λ s more at. record { fresh = at.fresh; stopped = λ e. absurd (omega arith); lost = λ e. at }) cause.run)
 headline o files conf status.NoMemory tells read cause =
     ⊎_elim
-    (λ short. goes_on o files conf 6 (λ s more. ⊤) tells read (λ s more. record { stopped = λ e. absurd (omega arith); lost = λ e. absurd (omega arith) }) short.run)
+    (λ short. goes_on o files conf 6 (λ e. omega arith) (λ e. omega arith) tells read short.run)
     (λ part. due_ended part.wanted o part.text files conf 6 (λ e. omega arith) (λ e. omega arith) tells read part.due)
     cause
 headline o files conf status.LostSink tells read cause =
     due_ended cause.part.wanted o cause.part.text files conf 7 (λ e. omega arith) (λ e. omega arith) tells read cause.part.due
+
+-- a run whose links were numbered freshly keeps its promise
+pub keeps_promise : (s : Setting) (start now : Option Told) (code : ℕ) → AppendsRun s start now (Ended code s) → AppendsRun s start now (KeepsPromise s)
+keeps_promise s None now code run = run
+keeps_promise s (Some told) now code run = (
+  run.0,
+  run.1,
+  run.2,
+  record {
+    takes = links_take_prefixes s run.0 run.2 run.3.fresh;
+    others = none_hear_themselves s (trace_of s run.0);
+    closes = λ later earlier link is. closes_have_reasons s later earlier link (subst (IsRun s) is run.2);
+  },
+)
 
 -- ---- the sink fails early
 

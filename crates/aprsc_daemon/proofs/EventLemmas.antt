@@ -9,8 +9,9 @@ use Rattle.aprs_base.specs.Outside.{Told, with_done, CountsLink, new_link}
 use Rattle.aprs_base.specs.declared.events.Event.{Event}
 use Rattle.aprs_base.specs.declared.events.Happening.TheVariants as did
 use Rattle.aprs_history.specs.Setting.{Setting}
-use Rattle.aprs_history.specs.History.{History, ends_round, is_round_event, is_stop, is_stopped, open_events, greater_link}
+use Rattle.aprs_history.specs.History.{History, ends_round, is_round_event, is_stop, is_stopped, open_events, greater_link, greatest_link}
 use Rattle.aprs_history.specs.Rounds.{is_whole, with_events, AreFresh, greatest_after}
+use Rattle.aprs_history.specs.Headline.{HasFreshLinks}
 use Rattle.aprs_history.specs.Acts.{Act, MayCome, due, acts_after}
 use Rattle.aprs_history.specs.Runs.{AppendsRun}
 use Rattle.server_core.specs.Meaning.{CoreMeaning, setting_of}
@@ -169,10 +170,27 @@ pub gathers_less : (was now : Bool) (events new : List Event) → was ≡ false 
 gathers_less was now events new is kept more =
     smaller was now (length events) (length new) is (partial_short events (subst (λ b. MatchBool b (is_whole 0 events ≡ true) (is_partial 0 events ≡ true)) is kept)) more
 
+-- events that bring links with numbers above all before keep the numbers fresh
+events_fresh : (events : List Event) (h : History) → HasFreshLinks h → AreFresh (greatest_link h) events → HasFreshLinks (with_events events h)
+events_fresh [] h fresh above = fresh
+events_fresh (e ∷ events) h fresh above = events_fresh events (did.Event e ∷ h) (fresh, above.0) above.1
+
+pub gathered_fresh : (core : CoreMeaning) (events : List Event) (more : History) → AreFresh core.seen.greatest events → Gathering core events more → HasFreshLinks more
+gathered_fresh core events more fresh phase =
+    subst HasFreshLinks (sym phase.since) (events_fresh events phase.before phase.resting.fresh (subst (λ g. AreFresh g events) phase.resting.stands.greatest fresh))
+
+-- and so do events that a wire counted
+pub counted_fresh : (core : CoreMeaning) (events : List Event) (first last : ℕ) (more : History) → core.seen.greatest ≤ first → Counted first events last → Gathering core events more → HasFreshLinks more
+counted_fresh core events first last more le counted = gathered_fresh core events more (fresh_above events core.seen.greatest first le counted.fresh).0
+
 -- where the wire failed within a round, no act is due
-pub gathering_idle : (core : CoreMeaning) (events : List Event) (s : Setting) (more : History) → setting_of core.conf ≡ s → is_partial 0 events ≡ true → Gathering core events more → Idle s more
-gathering_idle core events s more same partial phase =
-    record { none = gathered_none s core events more same partial phase; all = phase.all ∙ ap (λ s. length s.listens) same }
+pub gathering_idle : (core : CoreMeaning) (events : List Event) (first last : ℕ) (s : Setting) (more : History) → setting_of core.conf ≡ s → is_partial 0 events ≡ true → core.seen.greatest ≤ first → Counted first events last
+    → Gathering core events more → Idle s more
+gathering_idle core events first last s more same partial le counted phase = record {
+  none = gathered_none s core events more same partial phase;
+  all = phase.all ∙ ap (λ s. length s.listens) same;
+  fresh = counted_fresh core events first last more le counted phase;
+}
 
 pub err_inside : {T E : Type 0} (result : Result T E) (y x : E) → result ≡ Err y → result ≡ Err x → y ≡ x
 err_inside result y x is also = cc

@@ -71,12 +71,13 @@ run_listens s (Some old) now next n spec left took is run =
         rest = ap (λ specs. listens_after n specs run.0) (sym left) ∙ phase.rest;
         count = ap (λ m. m + 1) phase.count;
         only = phase.only;
+        fresh = phase.fresh;
       },
     )
 
 pub listens_begin : (s : Setting) → Listening s 0 []
 unfolding due
-listens_begin s = record { due = refl; rest = refl; count = refl; only = refl }
+listens_begin s = record { due = refl; rest = refl; count = refl; only = refl; fresh = tt }
 
 pub listened : (s : Setting) (start now next : Option Told) (n : ℕ) (spec : ListenSpec) (listens : List ListenSpec) → s.listens ≡ listens → n < length listens → spec ≡ get_or listens n spec
     → next ≡ option_map (with_listen n spec) now → AppendsRun s start now (Listening s n) → AppendsRun s start next (Listening s (n + 1))

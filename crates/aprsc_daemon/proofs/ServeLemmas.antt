@@ -9,18 +9,19 @@ use Rattle.aprs_base.specs.declared.events.Event.{Event}
 use Rattle.aprs_history.specs.Setting.{Setting}
 use Rattle.aprs_history.specs.History.{History, trace_of}
 use Rattle.aprs_history.specs.Texts.{untaken}
-use Rattle.aprs_history.specs.Rounds.{with_events, listens_after, only_listens}
+use Rattle.aprs_history.specs.Rounds.{AreFresh, with_events, listens_after, only_listens}
 use Rattle.aprs_history.specs.Acts.{Closes, due, listens_from, offer_to}
 use Rattle.aprs_history.specs.Runs.{AppendsRun}
 use Rattle.server_core.specs.ActsSeen.{ActsSeen}
 use Rattle.server_core.specs.Meaning.{AreActs, CoreMeaning, Stands, numbered, setting_of}
 use Rattle.aprsc_daemon.specs.Phases.{Finished, Gathering, Listening, Offering, Resting}
+use Rattle.aprsc_daemon.proofs.EventLemmas.{gathered_fresh}
 use Rattle.aprsc_daemon.proofs.RunLemmas.{run_weaker}
 
 pub begins_offers : (s : Setting) (start now : Option Told) (core new : CoreMeaning) (events : List Event) (acts : ActsSeen) (offers closes : List ℕ) → offers ≡ acts.offers → closes ≡ acts.closes → new.conf ≡ core.conf
-    → ((h : History) → Stands core h → Stands new (with_events events h)) → ((h : History) → Stands core h → AreActs (setting_of new.conf) (with_events events h) acts)
+    → AreFresh core.seen.greatest events → ((h : History) → Stands core h → Stands new (with_events events h)) → ((h : History) → Stands core h → AreActs (setting_of new.conf) (with_events events h) acts)
     → AppendsRun s start now (Gathering core events) → AppendsRun s start now (Offering new offers closes)
-begins_offers s start now core new events acts offers closes offers_are closes_are conf stands acts_are =
+begins_offers s start now core new events acts offers closes offers_are closes_are conf fresh stands acts_are =
     run_weaker s start now (Gathering core events) (Offering new offers closes) (λ more phase.
     record {
       stands = subst (Stands new) (sym phase.since) (stands phase.before phase.resting.stands);
@@ -31,11 +32,12 @@ begins_offers s start now core new events acts offers closes offers_are closes_a
             ∙ ap (λ links. map (offer_to (setting_of new.conf) (trace_of (setting_of new.conf) (with_events events phase.before))) offers ++ map Closes links) (sym closes_are);
         same = λ link member. ap (λ h. untaken (setting_of new.conf) (trace_of (setting_of new.conf) h) link) phase.since;
         all = phase.all ∙ ap (λ c. length (setting_of c).listens) (sym conf);
+        fresh = gathered_fresh core events more fresh phase;
       };
     })
 
 pub rests : (s : Setting) (start now : Option Told) (core : CoreMeaning) → AppendsRun s start now (Offering core [] []) → AppendsRun s start now (Resting core)
-rests s start now core = run_weaker s start now (Offering core [] []) (Resting core) (λ more phase. record { stands = phase.stands; none = phase.owing.owed; all = phase.owing.all })
+rests s start now core = run_weaker s start now (Offering core [] []) (Resting core) (λ more phase. record { stands = phase.stands; none = phase.owing.owed; all = phase.owing.all; fresh = phase.owing.fresh })
 
 pub begins_round : (s : Setting) (start now : Option Told) (core : CoreMeaning) → core.seen.stopped ≡ false → AppendsRun s start now (Resting core) → AppendsRun s start now (Gathering core [])
 begins_round s start now core going = run_weaker s start now (Resting core) (Gathering core []) (λ more phase.
@@ -43,7 +45,7 @@ begins_round s start now core going = run_weaker s start now (Resting core) (Gat
 
 pub finishes : (s : Setting) (start now : Option Told) (core : CoreMeaning) → setting_of core.conf ≡ s → core.seen.stopped ≡ true → AppendsRun s start now (Resting core) → AppendsRun s start now (Finished s)
 finishes s start now core same stopped = run_weaker s start now (Resting core) (Finished s) (λ more phase.
-    record { stopped = sym phase.stands.stopped ∙ stopped; idle = record { none = subst (λ t. due t more ≡ []) same phase.none; all = phase.all ∙ ap (λ s. length s.listens) same } })
+    record { stopped = sym phase.stands.stopped ∙ stopped; idle = record { none = subst (λ t. due t more ≡ []) same phase.none; all = phase.all ∙ ap (λ s. length s.listens) same; fresh = phase.fresh } })
 
 -- where every listener is open, and nothing else happened, a new core stands for what happened
 pub listening_rests : (core : CoreMeaning) (conf : ConfSeen) (more : History) → core.conf ≡ conf → Stands core (only_listens (setting_of conf))
@@ -57,6 +59,7 @@ listening_rests core conf more same stands phase =
       stands = subst (Stands core) (sym only) stands;
       none = ap (λ c. due (setting_of c) more) same ∙ phase.due ∙ ap (listens_from n) none;
       all = phase.count ∙ ap (λ c. length (numbered c.listens)) (sym same);
+      fresh = phase.fresh;
     }
 
 -- a listener has a number where it isn't idle

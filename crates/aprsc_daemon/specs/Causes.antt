@@ -1,10 +1,14 @@
 -- Why the program ends with each of its statuses, and what it leaves.
-use Rattle.std.specs.Prelude.{◌≡◌, ◌⊎◌, ℕ, ◌<◌, ◌≤◌, List, take, length, true, Option, Some, None, Ok, ⊤}
+use Rattle.std.specs.Prelude.{◌≡◌, ◌⊎◌, ℕ, ◌<◌, ◌≤◌, List, take, length, true, ◌∷◌, ◌++◌, Option, Some, None, Ok}
+use Rattle.std.specs.List.{All}
 use Rattle.aprs_base.specs.Outside.{Rose, WireShown}
 use Rattle.aprs_base.specs.Stores.{FilesShown, Holds, SinkShown}
+use Rattle.aprs_base.specs.declared.events.Happening.TheVariants as did
 use Rattle.aprs_base.specs.declared.files.MemFile.{MemFile}
 use Rattle.aprs_history.specs.Setting.{Setting}
-use Rattle.aprs_history.specs.History.{History}
+use Rattle.aprs_history.specs.Texts.{text_to}
+use Rattle.aprs_history.specs.History.{History, trace_of}
+use Rattle.aprs_history.specs.Headline.{HasEnded, HasFreshLinks, IsOfAnother, TakesPrefix}
 use Rattle.aprs_history.specs.Runs.{AppendsRun, are_listens, listens_in}
 use Rattle.aprs_conf.specs.Seen.{ConfSeen}
 use Rattle.aprs_conf.specs.Grammar.{conf_of}
@@ -145,7 +149,7 @@ pub record HasLostWire (o : Outside) : Type 0 where
 
 -- want of memory where no text is begun
 pub record RunsShort (o : Outside) : Type 0 where
-  pub run : IsUnused o ⊎ IsServed o (λ setting more. ⊤)
+  pub run : IsUnused o ⊎ IsServed o (λ setting. HasFreshLinks)
   pub silent : IsSilent o
 
 -- 6: want of memory, also in the writing of a text
@@ -190,10 +194,18 @@ HasCause code o = (ending : Status) × (code ≡ code_of_status ending) × Cause
 
 -- ---- the headline
 
--- how a run ends
+-- how a run ends; its links were numbered freshly
 pub record Ended (code : ℕ) (setting : Setting) (more : History) : Type 0 where
+  pub fresh : HasFreshLinks more
   pub stopped : code ≡ 0 → Finished setting more
   pub lost : code ≡ 5 → Idle setting more
+
+-- what a run keeps: the bytes that each link took are a prefix of its text, no line of a text is a packet that the link sent
+-- itself, and a link was closed only where it had ended by a reason that closes
+pub record KeepsPromise (setting : Setting) (more : History) : Type 0 where
+  pub takes : (link : ℕ) → TakesPrefix setting more link
+  pub others : (link : ℕ) → All (IsOfAnother link) (text_to setting (trace_of setting more) link).lines
+  pub closes : (later earlier : History) (link : ℕ) → more ≡ later ++ did.Closed link ∷ earlier → HasEnded (trace_of setting earlier) link
 
 -- before every listener is open
 abbrev pub Opening : Setting → History → Type 0

@@ -1,5 +1,5 @@
 -- How far the serving of a wire has come: what holds of the happenings so far.
-use Rattle.std.specs.Prelude.{◌≡◌, ℕ, ◌+◌, ◌&&◌, Bool, true, false, not, List, [], ◌∷◌, ◌++◌, length, drop, map, Option, Some, None, ⊤}
+use Rattle.std.specs.Prelude.{◌≡◌, ℕ, ◌+◌, ◌&&◌, Bool, true, false, not, List, [], ◌∷◌, ◌++◌, length, drop, map, Option, Some, None}
 use Rattle.aprs_base.specs.Outside.{Told}
 use Rattle.aprs_base.specs.declared.events.Event.{Event}
 use Rattle.aprs_base.specs.declared.events.Happening.{Happening}
@@ -10,6 +10,7 @@ use Rattle.aprs_history.specs.Texts.{untaken}
 use Rattle.aprs_history.specs.History.{History, ends_round, is_stopped, trace_of}
 use Rattle.aprs_history.specs.Rounds.{AreFresh, greatest_after, listens_after, only_listens, with_events}
 use Rattle.aprs_history.specs.Acts.{Closes, due, listens_from, offer_to}
+use Rattle.aprs_history.specs.Headline.{HasFreshLinks}
 use Rattle.aprs_history.specs.Runs.{are_listens, listens_in}
 use Rattle.aprsc_daemon.specs.declared.serving.End.{End}
 use Rattle.aprsc_daemon.specs.declared.serving.End.TheVariants as ended
@@ -22,17 +23,20 @@ pub record Listening (setting : Setting) (n : ℕ) (more : History) : Type 0 whe
   pub rest : listens_after n (drop n setting.listens) more ≡ only_listens setting
   pub count : listens_in more ≡ n
   pub only : are_listens more ≡ true
+  pub fresh : HasFreshLinks more
 
 -- every listener was opened, the core stands for the history, and no act is due
 pub record Resting (core : CoreMeaning) (more : History) : Type 0 where
   pub stands : Stands core more
   pub none : due (setting_of core.conf) more ≡ []
   pub all : listens_in more ≡ length (setting_of core.conf).listens
+  pub fresh : HasFreshLinks more
 
--- every listener was opened, and no act is due
+-- every listener was opened, no act is due, and the links were numbered freshly
 pub record Idle (setting : Setting) (more : History) : Type 0 where
   pub none : due setting more ≡ []
   pub all : listens_in more ≡ length setting.listens
+  pub fresh : HasFreshLinks more
 
 -- a stop was read, and every act that it makes due is done
 pub record Finished (setting : Setting) (more : History) : Type 0 where
@@ -55,6 +59,7 @@ pub record Owing (conf : ConfSeen) (offers closes : List ℕ) (more : History) :
   -- what is left to the links has not changed since
   pub same : (link : ℕ) → is_member link offers ≡ true → untaken (setting_of conf) (trace_of (setting_of conf) more) link ≡ untaken (setting_of conf) round link
   pub all : listens_in more ≡ length (setting_of conf).listens
+  pub fresh : HasFreshLinks more
 
 pub record Offering (core : CoreMeaning) (offers closes : List ℕ) (more : History) : Type 0 where
   pub stands : Stands core more
@@ -85,4 +90,4 @@ Brings events (Some old) new = (more : List Happening) × (new ≡ Some (record 
 abbrev pub Ends : Setting → End → History → Type 0
 Ends setting ended.Stopped more = Finished setting more
 Ends setting ended.Failed more = Idle setting more
-Ends setting ended.Memory more = ⊤
+Ends setting ended.Memory more = HasFreshLinks more

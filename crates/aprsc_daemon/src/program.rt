@@ -1,14 +1,15 @@
 //! The program: what its words name is read and served.
-ghost use Rattle.std.specs.Prelude.{◌≡◌, ◌⊎◌, ◌≤◌, ◌<◌, ℕ, List, Option, Ok, Some, IfOk, IfErr, IsTrue, OnErr, ⊤, length, map, string_bytes};
+ghost use Rattle.std.specs.Prelude.{◌≡◌, ◌⊎◌, ◌≤◌, ◌<◌, ℕ, List, Option, Ok, Some, IfOk, IfErr, IsTrue, OnErr, length, map, string_bytes};
 ghost use Rattle.aprs_base.specs.Bytes.{is_station};
 ghost use Rattle.aprs_base.specs.Outside.{Rose, Told, WireShown};
 ghost use Rattle.aprs_base.specs.Stores.{FilesShown, Holds, SinkShown};
 ghost use Rattle.aprs_base.specs.declared.files.MemFile.{MemFile};
+ghost use Rattle.aprs_history.specs.Headline.{HasFreshLinks};
 ghost use Rattle.aprs_history.specs.Runs.{AppendsRun};
 ghost use Rattle.aprs_conf.specs.Seen.{ConfSeen};
 ghost use Rattle.aprs_conf.specs.Grammar.{conf_of};
 ghost use Rattle.server_core.specs.Meaning.{numbered, setting_of};
-ghost use Rattle.aprsc_daemon.specs.Causes.{Asks, Cause, Ended, HasCause, HasNamed, Opening, OpensOnly, Said, code_of_status, status_of};
+ghost use Rattle.aprsc_daemon.specs.Causes.{Asks, Cause, Ended, HasCause, HasNamed, KeepsPromise, Opening, OpensOnly, Said, code_of_status, status_of};
 ghost use Rattle.aprsc_daemon.specs.Phases.{Ends, Listening};
 ghost use Rattle.aprsc_daemon.specs.Configuring.{is_built};
 ghost use Rattle.aprsc_daemon.specs.Words.{file_word};
@@ -95,7 +96,7 @@ fn open_and_serve<R: Threads + Sync + Wait, W: Wire>(
     ensures listen { IfErr result (λ e. (n : ℕ) → e ≡ ListenError.Failed n → Rose (W.shown wire.old).stops (W.shown wire.new).stops
         × AppendsRun (setting_of conf) (W.shown wire.old).told (W.shown wire.new).told (OpensOnly n)) }
     ensures within { IfErr result (λ e. (n : ℕ) → e ≡ ListenError.Failed n → n < length (numbered conf.listens)) }
-    ensures err { OnErr result (AppendsRun (setting_of conf) (W.shown wire.old).told (W.shown wire.new).told (λ more. ⊤)) }
+    ensures err { OnErr result (AppendsRun (setting_of conf) (W.shown wire.old).told (W.shown wire.new).told HasFreshLinks) }
 {
     let Ok(listens) = numbered_listens(alloc, conf.listens.as_slice()) else {
         return Err(ListenError::Memory);
@@ -268,6 +269,10 @@ pub fn aprsc<R: Threads + Sync + Wait, F: Files, W: Wire, S: Sink>(
     ensures run { (conf : ConfSeen) (told : List MemFile) → (F.shown files.old).told ≡ Some told
         → HasNamed (map string_bytes words.now) (F.shown files.old).told conf
         → AppendsRun (setting_of conf) (W.shown wire.old).told (W.shown wire.new).told (Ended result (setting_of conf)) }
+    // So the bytes that each link took are a prefix of its text, and a link was closed only for a reason.
+    ensures headline { (conf : ConfSeen) (told : List MemFile) → (F.shown files.old).told ≡ Some told
+        → HasNamed (map string_bytes words.now) (F.shown files.old).told conf
+        → AppendsRun (setting_of conf) (W.shown wire.old).told (W.shown wire.new).told (KeepsPromise (setting_of conf)) }
     // Each status has its cause, and its text stands on the sink.
     ensures cause { HasCause result (record {
       words = map string_bytes words.now;

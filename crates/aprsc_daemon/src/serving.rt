@@ -1,8 +1,9 @@
 //! The serving of a wire: listeners first, then round after round.
-ghost use Rattle.std.specs.Prelude.{◌≡◌, ◌≤◌, ◌<◌, ◌+◌, ℕ, List, [], ◌∷◌, ◌++◌, IfOk, OnOk, OnErr, IfErr, IsErrOf, MatchBool, Option, length, true, false, take, ⊤};
+ghost use Rattle.std.specs.Prelude.{◌≡◌, ◌≤◌, ◌<◌, ◌+◌, ℕ, List, [], ◌∷◌, ◌++◌, IfOk, OnOk, OnErr, IfErr, IsErrOf, MatchBool, Option, length, true, false, take};
 ghost use Rattle.aprs_base.specs.Outside.{Told, WireShown, Rose, CountsLink, new_link};
 ghost use Rattle.aprs_history.specs.Setting.{Setting};
 ghost use Rattle.aprs_history.specs.History.{History, ends_round, is_stopped};
+ghost use Rattle.aprs_history.specs.Headline.{HasFreshLinks};
 ghost use Rattle.aprs_history.specs.Rounds.{AreFresh, greatest_after, is_whole};
 ghost use Rattle.aprs_history.specs.Runs.{AppendsRun};
 ghost use Rattle.aprs_history.specs.Trace.{is_member};
@@ -38,7 +39,7 @@ pub(crate) fn listen_all<W: Wire>(wire: &mut W, listens: &[ListenSpec]) -> Resul
         × ((s : Setting) → s.listens ≡ listens.now → AppendsRun s (W.shown wire.old).told (W.shown wire.new).told (Listening s n))) }
     ensures within { IfErr result (λ e. (n : ℕ) → e ≡ ListenError.Failed n → n < length listens.now) }
     ensures err { (s : Setting) → s.listens ≡ listens.now
-        → OnErr result (AppendsRun s (W.shown wire.old).told (W.shown wire.new).told (λ more. ⊤)) }
+        → OnErr result (AppendsRun s (W.shown wire.old).told (W.shown wire.new).told HasFreshLinks) }
     ensures stops { (W.shown wire.old).stops ≤ (W.shown wire.new).stops }
 {
     let mut n = 0;
@@ -73,9 +74,10 @@ fn take_next<W: Wire>(wire: &mut W, events: &mut Vec<Event>) -> Result<bool, Wir
         → OnOk result (AppendsRun s start (W.shown wire.new).told (Gathering core events.new.items)) }
     ensures failed { IsErrOf result WireError.Failed → Rose (W.shown wire.old).stops (W.shown wire.new).stops
         × (events.new.items ≡ events.old.items) × ((W.shown wire.new).told ≡ (W.shown wire.old).told) }
-    ensures err { (s : Setting) (start : Option Told) (core : CoreMeaning) → setting_of core.conf ≡ s
+    ensures err { (s : Setting) (start : Option Told) (core : CoreMeaning) (first : ℕ) → setting_of core.conf ≡ s
+        → core.seen.greatest ≤ first → Counted first events.old.items (W.shown wire.old).links
         → AppendsRun s start (W.shown wire.old).told (Gathering core events.old.items)
-        → OnErr result (AppendsRun s start (W.shown wire.new).told (λ more. ⊤)) }
+        → OnErr result (AppendsRun s start (W.shown wire.new).told HasFreshLinks) }
     ensures stops { (W.shown wire.old).stops ≤ (W.shown wire.new).stops }
 {
     let event = wire.next()?;
@@ -95,11 +97,13 @@ fn gather<W: Wire>(wire: &mut W, events: &mut Vec<Event>) -> Result<(), WireErro
         → OnOk result (AppendsRun s start (W.shown wire.new).told (Gathering core events.new.items)) }
     ensures failed { IsErrOf result WireError.Failed → Rose (W.shown wire.old).stops (W.shown wire.new).stops }
     ensures idle { (s : Setting) (start : Option Told) (core : CoreMeaning) → setting_of core.conf ≡ s
+        → core.seen.greatest ≤ (W.shown wire.old).links
         → AppendsRun s start (W.shown wire.old).told (Gathering core [])
         → IsErrOf result WireError.Failed → AppendsRun s start (W.shown wire.new).told (Idle s) }
     ensures err { (s : Setting) (start : Option Told) (core : CoreMeaning) → setting_of core.conf ≡ s
+        → core.seen.greatest ≤ (W.shown wire.old).links
         → AppendsRun s start (W.shown wire.old).told (Gathering core [])
-        → OnErr result (AppendsRun s start (W.shown wire.new).told (λ more. ⊤)) }
+        → OnErr result (AppendsRun s start (W.shown wire.new).told HasFreshLinks) }
     ensures stops { (W.shown wire.old).stops ≤ (W.shown wire.new).stops }
 {
     let mut whole = false;
@@ -151,7 +155,7 @@ fn send_all<W: Wire>(
         → OnOk result (AppendsRun s start (W.shown wire.new).told (Offering core.new [] closes)) }
     ensures err { (s : Setting) (start : Option Told) (closes : List ℕ) → setting_of core.old.conf ≡ s
         → AppendsRun s start (W.shown wire.old).told (Offering core.old offers.now closes)
-        → OnErr result (AppendsRun s start (W.shown wire.new).told (λ more. ⊤)) }
+        → OnErr result (AppendsRun s start (W.shown wire.new).told HasFreshLinks) }
     ensures brings { OnOk result (Brings [] (W.shown wire.old).told (W.shown wire.new).told) }
     ensures rest { SameRest core.old core.new }
     ensures stops { (W.shown wire.new).stops ≡ (W.shown wire.old).stops }
@@ -170,7 +174,7 @@ fn close_all<W: Wire>(wire: &mut W, closes: &[u32]) -> Result<(), Memory>
         → OnOk result (AppendsRun s start (W.shown wire.new).told (Offering core [] [])) }
     ensures err { (s : Setting) (start : Option Told) (core : CoreMeaning) → setting_of core.conf ≡ s
         → AppendsRun s start (W.shown wire.old).told (Offering core [] closes.now)
-        → OnErr result (AppendsRun s start (W.shown wire.new).told (λ more. ⊤)) }
+        → OnErr result (AppendsRun s start (W.shown wire.new).told HasFreshLinks) }
     ensures brings { OnOk result (Brings [] (W.shown wire.old).told (W.shown wire.new).told) }
     ensures stops { (W.shown wire.new).stops ≡ (W.shown wire.old).stops }
     ensures links { (W.shown wire.new).links ≡ (W.shown wire.old).links }
@@ -199,7 +203,7 @@ fn act<R: Threads + Sync, W: Wire>(
         → OnOk result (AppendsRun s start (W.shown wire.new).told (Resting core.new)) }
     ensures err { (s : Setting) (start : Option Told) → setting_of core.old.conf ≡ s
         → AppendsRun s start (W.shown wire.old).told (Gathering core.old events.now)
-        → OnErr result (AppendsRun s start (W.shown wire.new).told (λ more. ⊤)) }
+        → OnErr result (AppendsRun s start (W.shown wire.new).told HasFreshLinks) }
     ensures brings { OnOk result (Brings [] (W.shown wire.old).told (W.shown wire.new).told) }
     ensures conf { OnOk result (core.new.conf ≡ core.old.conf) }
     ensures greatest { OnOk result (core.new.seen.greatest ≡ greatest_after events.now core.old.seen.greatest) }
@@ -234,7 +238,7 @@ fn serve_round<R: Threads + Sync, W: Wire>(
         → IsErrOf result WireError.Failed → AppendsRun s start (W.shown wire.new).told (Idle s) }
     ensures err { (s : Setting) (start : Option Told) → setting_of core.old.conf ≡ s
         → AppendsRun s start (W.shown wire.old).told (Resting core.old)
-        → OnErr result (AppendsRun s start (W.shown wire.new).told (λ more. ⊤)) }
+        → OnErr result (AppendsRun s start (W.shown wire.new).told HasFreshLinks) }
     ensures whole { OnOk result (is_whole 0 events.new.items ≡ true) }
     ensures brings { OnOk result (Brings events.new.items (W.shown wire.old).told (W.shown wire.new).told) }
     ensures failed { IsErrOf result WireError.Failed → Rose (W.shown wire.old).stops (W.shown wire.new).stops }

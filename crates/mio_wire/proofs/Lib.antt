@@ -1,2 +1,4 @@
 pub mod EndLemmas
 pub mod PieceLemmas
+pub mod WriteLemmas
+pub mod FindLemmas

@@ -1,6 +1,6 @@
 //! The bytes that were read and not yet handed up. One room serves all links, since each read is handed up before the next.
 ghost use Rattle.std.specs.Prelude.{◌≡◌, ◌↔◌, ◌≤◌, ◌==◌, [], IfOk, IfSome, IsSome, OnOk, OnErr, length, take, drop, if◌then◌else◌};
-ghost use Rattle.mio_wire.specs.Arrivals.{Brought};
+ghost use Rattle.std.specs.Io.KnownBytes.{Consumes, IsAtEnd};
 
 use aprs_base::Chunk;
 use std::alloc::{AllocError, Global};
@@ -22,14 +22,14 @@ pub(crate) struct Inbox {
 }
 
 impl Model for Inbox {
-    ghost use Rattle.std.specs.Prelude.{◌-◌, ◌≤◌, take, drop, length};
+    ghost use Rattle.std.specs.Prelude.{◌-◌, ◌<◌, ◌≤◌, take, drop, length};
     ghost use Rattle.mio_wire.specs.Arrivals.{Brought};
 
     ghost Value = { Brought };
 
     ghost view = { λ i. record { link = i.link; left = take (i.to - i.from) (drop i.from i.buffer.items) } };
 
-    ghost invariant = { λ i. (i.from ≤ i.to) × (i.to ≤ length i.buffer.items) };
+    ghost invariant = { λ i. (i.from ≤ i.to) × (i.to ≤ length i.buffer.items) × (0 < length i.buffer.items) };
 }
 
 impl Inbox {
@@ -53,6 +53,8 @@ impl Inbox {
     /// Reads what a link brings, in place of what is left.
     pub(crate) fn fill<F: Read>(&mut self, link: u32, from: &mut F) -> io::Result<usize>
         ensures count { IfOk result (λ n. length self.new.left ≡ n) }
+        ensures bytes { OnOk result (Consumes (F.remaining from.old) (F.remaining from.new) self.new.left) }
+        ensures end { IfOk result (λ n. n ≡ 0 → IsAtEnd (F.remaining from.new)) }
         ensures link { self.new.link ≡ link }
         ensures none { OnErr result (self.new.left ≡ []) }
     {

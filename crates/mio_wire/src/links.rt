@@ -1,5 +1,6 @@
 //! The links, and what is written to them.
-ghost use Rattle.std.specs.Prelude.{◌≡◌, ℕ, ◌≤◌, ◌<◌, IfSome, length};
+ghost use Rattle.std.specs.Prelude.{◌≡◌, ◌≤◌, ◌<◌, Some, IfSome, length, take, option_map, slice_get};
+ghost use Rattle.std.specs.Io.KnownBytes.{Appends};
 
 use mio::net::TcpStream;
 use std::io::{ErrorKind, Write};
@@ -19,7 +20,8 @@ pub(crate) struct Link {
 
 /// Where a link stands among links in rising number.
 pub(crate) fn place_of(links: &[Link], number: u32) -> Option<usize>
-    ensures { IfSome result (λ place. place < length links.now) }
+    ensures within { IfSome result (λ place. place < length links.now) }
+    ensures number { IfSome result (λ place. option_map (λ l. l.number) (slice_get links.now place) ≡ Some number) }
 {
     links.binary_search_by_key(&number, |link| link.number).ok()
 }
@@ -35,9 +37,10 @@ pub(crate) struct Written {
 /// How often a write goes on after a part was taken.
 const MOST_WRITES: usize = 8;
 
-/// Writes until all is taken or the link has no more room. `None` where the link is gone.
+/// Writes the first of the bytes, until all are taken or the link has no more room. `None` where the link is gone.
 pub(crate) fn write_on<F: Write>(to: &mut F, bytes: &[u8]) -> Option<Written>
-    ensures { IfSome result (λ w. w.taken ≤ length bytes.now) }
+    ensures within { IfSome result (λ w. w.taken ≤ length bytes.now) }
+    ensures bytes { IfSome result (λ w. Appends (F.contents to.old) (F.contents to.new) (take w.taken bytes.now)) }
 {
     let mut taken = 0;
     for _ in 0..MOST_WRITES {

@@ -1,5 +1,6 @@
 //! What is ready and is served in turn, and what waits for another turn.
-ghost use Rattle.std.specs.Prelude.{◌≡◌, true, false};
+ghost use Rattle.std.specs.Prelude.{◌≡◌, ◌≢◌, ◌↔◌, ◌+◌, ◌-◌, ◌^◌, true, false, List, [], ◌∷◌, ◌++◌, OnOk, IsTrue, min, slice_get};
+ghost use Rattle.mio_wire.specs.declared.turns.Ready.{Ready};
 
 use mio::Events;
 use mio::event::Event;
@@ -68,7 +69,9 @@ pub(crate) struct Turns {
 }
 
 impl Turns {
-    pub(crate) fn new(alloc: Global) -> Turns {
+    pub(crate) fn new(alloc: Global) -> Turns
+        ensures { (result.ready.items ≡ []) × (result.at ≡ 0) × (result.later.items ≡ []) }
+    {
         Turns {
             ready: Vec::new(alloc),
             at: 0,
@@ -77,27 +80,40 @@ impl Turns {
     }
 
     /// The source that is served now.
-    pub(crate) fn current(&self) -> Option<Ready> {
+    pub(crate) fn current(&self) -> Option<Ready>
+        ensures { result ≡ slice_get self.now.ready.items self.now.at }
+    {
         self.ready.get(self.at).copied()
     }
 
     /// Goes on to the next source.
-    pub(crate) fn advance(&mut self) {
+    pub(crate) fn advance(&mut self)
+        ensures { self.new ≡ record self.old { at = min (self.old.at + 1) (2 ^ 64 - 1) } }
+    {
         self.at = self.at.saturating_add(1);
     }
 
     /// Keeps a source for the next turn.
-    pub(crate) fn put_off(&mut self, ready: Ready) -> Result<(), AllocError> {
+    pub(crate) fn put_off(&mut self, ready: Ready) -> Result<(), AllocError>
+        ensures later { OnOk result (self.new.later.items ≡ self.old.later.items ++ ready ∷ []) }
+        ensures turn { (self.new.ready ≡ self.old.ready) × (self.new.at ≡ self.old.at) }
+    {
         self.later.push(ready)?;
         Ok(())
     }
 
-    pub(crate) fn has_later(&self) -> bool {
+    pub(crate) fn has_later(&self) -> bool
+        ensures { IsTrue result ↔ (self.now.later.items ≢ []) }
+    {
         !self.later.is_empty()
     }
 
     /// Begins a turn with what the poll brought and what waited.
-    pub(crate) fn begin(&mut self, events: &Events) -> Result<(), AllocError> {
+    pub(crate) fn begin(&mut self, events: &Events) -> Result<(), AllocError>
+        ensures first { self.new.at ≡ 0 }
+        ensures waited { OnOk result ((brought : List Ready) × (self.new.ready.items ≡ brought ++ self.old.later.items)) }
+        ensures later { OnOk result (self.new.later.items ≡ []) }
+    {
         self.ready.clear();
         self.at = 0;
         for event in events.iter() {

@@ -1,5 +1,5 @@
 //! The wire over the sockets of the system.
-ghost use Rattle.std.specs.Prelude.{◌≡◌, ℕ, ◌+◌, ◌≤◌, None, OnOk, OnErr, IfOk, IfSome, IsErrOf};
+ghost use Rattle.std.specs.Prelude.{◌≡◌, ℕ, ◌+◌, ◌≤◌, Some, None, false, OnOk, OnErr, IfOk, IfSome, IsErrOf};
 ghost use Rattle.aprs_base.specs.Outside.{AfterAct, AfterListen, AfterNext, AfterSend, CountsLink, Rose, new_link, with_cast, with_closed, with_dial};
 ghost use Rattle.aprs_base.specs.declared.events.Event.TheVariants.{Tick};
 ghost use Rattle.aprs_base.specs.declared.events.WireError.TheVariants as WireError;
@@ -110,6 +110,7 @@ impl<'a, R: Net + Clock> MioWire<'a, R> {
 
     fn tick(&mut self, moment: u64) -> Event
         ensures event { result ≡ Tick moment }
+        ensures anew { (self.new.second ≡ Some moment) × (self.new.pace ≡ record { handed = false; lines = 0; bytes = 0; whole = false }) }
         ensures counts { (self.new.stops ≡ self.old.stops) × (self.new.gones ≡ self.old.gones) × (self.new.made ≡ self.old.made) }
     {
         if self.second != Some(moment) {

@@ -2,13 +2,17 @@ use Rattle.std.proofs.Common.{◌≡◌, ◌⊎◌, sym, ◌∙◌, subst}
 use Rattle.aprs_history.specs.Runs.{AppendsRun}
 use Rattle.server_core.specs.Meaning.{setting_of}
 use Rattle.aprsc_daemon.specs.Causes.{Ended}
-use Rattle.aprsc_daemon.proofs.CauseLemmas.{complete, early, headline}
+use Rattle.aprsc_daemon.proofs.CauseLemmas.{complete, early, headline, keeps_promise}
 use Rattle.aprsc_daemon.proofs.program.aprsc.Goals as goal
 
 pub returns-clause-run : goal.returns-clause-run
 returns-clause-run g c = λ conf told tells read.
     subst (λ n. AppendsRun (setting_of conf) (g.W.Wire.shown c.args.wire.now).told (g.W.Wire.shown c.run.new.wire).told (Ended n (setting_of conf))) (sym c.code.ensures)
     (headline _ told conf c.run.result tells read c.run.ensures)
+
+pub returns-clause-headline : goal.returns-clause-headline
+returns-clause-headline g c = λ conf told tells read.
+    keeps_promise (setting_of conf) (g.W.Wire.shown c.args.wire.now).told (g.W.Wire.shown c.run.new.wire).told _ (headline _ told conf c.run.result tells read c.run.ensures)
 
 pub returns-clause-cause : goal.returns-clause-cause
 returns-clause-cause g c = (c.run.result, c.code.ensures, c.run.ensures)

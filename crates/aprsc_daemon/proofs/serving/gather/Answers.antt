@@ -9,13 +9,13 @@ use Rattle.aprsc_daemon.proofs.RunLemmas.{run_weaker, run_told}
 use Rattle.aprsc_daemon.proofs.serving.gather.Goals as goal
 
 pub returns-in_err-whole-clause-idle : goal.returns-in_err-whole-clause-idle
-returns-in_err-whole-clause-idle g c = λ s start core same run failed.
+returns-in_err-whole-clause-idle g c = λ s start core same le run failed.
     let events = c.loop-whole.events.items in
     let partial = subst (λ b. MatchBool b (is_whole 0 events ≡ true) (is_partial 0 events ≡ true)) c.loop-whole-test.true c.loop-whole.invariant.0 in
     let error = err_from_is_err_and c.from_residual.result c.from_residual.ensures.1 in
     let stays = c.in_err-whole.ensures.failed (ap Err (sym error.2 ∙ err_inside c.from_residual.result error.0 wire_error.Failed error.1 failed)) in
     run_told s start (g.W.Wire.shown c.loop-whole.wire).told (g.W.Wire.shown c.take_next.new.wire).told (Idle s) stays.2
-    (run_weaker s start (g.W.Wire.shown c.loop-whole.wire).told (Gathering core events) (Idle s) (λ more. gathering_idle core events s more same partial)
+    (run_weaker s start (g.W.Wire.shown c.loop-whole.wire).told (Gathering core events) (Idle s) (λ more. gathering_idle core events (g.W.Wire.shown c.args.wire.now).links (g.W.Wire.shown c.loop-whole.wire).links s more same partial le c.loop-whole.invariant.1)
     (c.loop-whole.invariant.4 s start core same run))
 
 pub loop-whole-smaller : goal.loop-whole-smaller
