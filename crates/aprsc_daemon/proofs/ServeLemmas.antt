@@ -1,11 +1,12 @@
 -- From one round to the next.
-use Rattle.std.proofs.Common.{drop, le_refl, arith, ⊎_elim, ◌≡◌, ℕ, ◌≤◌, true, false, List, [], ◌∷◌, ◌++◌, length, map, refl, sym, ap, ◌∙◌, subst, Option}
+use Rattle.std.proofs.Common.{Some, None, length-append, drop, le_refl, arith, ⊎_elim, ◌≡◌, ℕ, ◌≤◌, true, false, List, [], ◌∷◌, ◌++◌, length, map, refl, sym, ap, ◌∙◌, subst, Option}
 use Rattle.std.proofs.lemmas.Bool.{cases_Bool}
 use Rattle.std.proofs.lemmas.List.{drop_all}
 use Rattle.aprs_conf.specs.declared.types.Listen.{Listen}
 use Rattle.aprs_conf.specs.Seen.{ConfSeen}
 use Rattle.aprs_base.specs.Outside.{Told}
 use Rattle.aprs_base.specs.declared.events.Event.{Event}
+use Rattle.aprs_base.specs.declared.texts.Addr.{Addr}
 use Rattle.aprs_history.specs.Setting.{Setting}
 use Rattle.aprs_history.specs.History.{History, trace_of}
 use Rattle.aprs_history.specs.Texts.{untaken}
@@ -13,7 +14,7 @@ use Rattle.aprs_history.specs.Rounds.{AreFresh, with_events, listens_after, only
 use Rattle.aprs_history.specs.Acts.{Closes, due, listens_from, offer_to}
 use Rattle.aprs_history.specs.Runs.{AppendsRun}
 use Rattle.server_core.specs.ActsSeen.{ActsSeen}
-use Rattle.server_core.specs.Meaning.{AreActs, CoreMeaning, Stands, numbered, setting_of}
+use Rattle.server_core.specs.Meaning.{AreActs, CoreMeaning, Stands, group_listens, listeners, numbered, setting_of}
 use Rattle.aprsc_daemon.specs.Phases.{Finished, Gathering, Listening, Offering, Resting}
 use Rattle.aprsc_daemon.proofs.EventLemmas.{gathered_fresh}
 use Rattle.aprsc_daemon.proofs.RunLemmas.{run_weaker}
@@ -49,16 +50,16 @@ finishes s start now core same stopped = run_weaker s start now (Resting core) (
 
 -- where every listener is open, and nothing else happened, a new core stands for what happened
 pub listening_rests : (core : CoreMeaning) (conf : ConfSeen) (more : History) → core.conf ≡ conf → Stands core (only_listens (setting_of conf))
-    → Listening (setting_of conf) (length (numbered conf.listens)) more → Resting core more
+    → Listening (setting_of conf) (length (listeners conf)) more → Resting core more
 listening_rests core conf more same stands phase =
-    let listens = numbered conf.listens in
+    let listens = listeners conf in
     let n = length listens in
     let none : drop n listens ≡ [] = drop_all n listens (le_refl n) in
     let only : more ≡ only_listens (setting_of conf) = ap (λ specs. listens_after n specs more) (sym none) ∙ phase.rest in
     record {
       stands = subst (Stands core) (sym only) stands;
       none = ap (λ c. due (setting_of c) more) same ∙ phase.due ∙ ap (listens_from n) none;
-      all = phase.count ∙ ap (λ c. length (numbered c.listens)) (sym same);
+      all = phase.count ∙ ap (λ c. length (listeners c)) (sym same);
       fresh = phase.fresh;
     }
 
@@ -71,3 +72,11 @@ numbered_short (listen ∷ listens) =
     (λ idle. rw idle (omega arith))
     (λ busy. rw busy (omega arith))
     (cases_Bool listen.idle)
+
+-- with the peer group's there is one more at most
+pub few_listeners : (conf : ConfSeen) → length (numbered conf.listens) ≤ 16 → length (listeners conf) ≤ 17
+few_listeners conf few = let last = group_short conf.group in omega (arith, length-append (numbered conf.listens) (group_listens conf.group))
+  where
+    group_short : (group : Option Addr) → length (group_listens group) ≤ 1
+    group_short None = omega arith
+    group_short (Some at) = omega arith

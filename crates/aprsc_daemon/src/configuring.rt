@@ -3,7 +3,7 @@ ghost use Rattle.std.specs.Prelude.{◌≡◌, ◌&&◌, ◌||◌, Ok, IfOk, IsE
 ghost use Rattle.std.specs.List.{list_all};
 ghost use Rattle.aprs_conf.specs.Grammar.{conf_of};
 ghost use Rattle.aprs_conf.specs.Sound.{IsSound};
-ghost use Rattle.server_core.specs.Meaning.{numbered};
+ghost use Rattle.server_core.specs.Meaning.{listeners, numbered};
 ghost use Rattle.aprsc_daemon.specs.Configuring.{IsTrouble, is_built, is_built_kind, is_built_listen};
 
 use aprs_base::{ListenSpec, Memory, PortKind};
@@ -71,7 +71,7 @@ pub(crate) fn read_conf(alloc: Global, text: &[u8]) -> Result<Conf, Unfit>
 }
 
 /// The listeners that have a number, in order.
-pub(crate) fn numbered_listens(alloc: Global, listens: &[Listen]) -> Result<Vec<ListenSpec>, Memory>
+fn numbered_listens(alloc: Global, listens: &[Listen]) -> Result<Vec<ListenSpec>, Memory>
     ensures { IfOk result (λ specs. specs.items ≡ numbered listens.now) }
 {
     let mut specs = Vec::new(alloc);
@@ -79,6 +79,20 @@ pub(crate) fn numbered_listens(alloc: Global, listens: &[Listen]) -> Result<Vec<
         if !listen.idle {
             specs.push(listen.spec)?;
         }
+    }
+    Ok(specs)
+}
+
+/// All listeners, in the order of their numbers: those that aren't idle, and last that of the peer group.
+pub(crate) fn listeners(alloc: Global, conf: &Conf) -> Result<Vec<ListenSpec>, Memory>
+    ensures { IfOk result (λ specs. specs.items ≡ listeners conf.now) }
+{
+    let mut specs = numbered_listens(alloc, conf.listens.as_slice())?;
+    if let Some(at) = conf.group {
+        specs.push(ListenSpec {
+            kind: PortKind::Core,
+            at,
+        })?;
     }
     Ok(specs)
 }

@@ -8,13 +8,13 @@ ghost use Rattle.aprs_history.specs.Headline.{HasFreshLinks};
 ghost use Rattle.aprs_history.specs.Runs.{AppendsRun};
 ghost use Rattle.aprs_conf.specs.Seen.{ConfSeen};
 ghost use Rattle.aprs_conf.specs.Grammar.{conf_of};
-ghost use Rattle.server_core.specs.Meaning.{numbered, setting_of};
+ghost use Rattle.server_core.specs.Meaning.{listeners, numbered, setting_of};
 ghost use Rattle.aprsc_daemon.specs.Causes.{Asks, Cause, Ended, HasCause, HasNamed, KeepsPromise, Opening, OpensOnly, Said, code_of_status, status_of};
 ghost use Rattle.aprsc_daemon.specs.Phases.{Ends, Listening};
 ghost use Rattle.aprsc_daemon.specs.Configuring.{is_built};
 ghost use Rattle.aprsc_daemon.specs.Words.{file_word};
 
-use crate::configuring::{Unfit, numbered_listens, read_conf};
+use crate::configuring::{Unfit, listeners, read_conf};
 use crate::saying::{listen_failed, too_large, trouble, unread, usage, write_all};
 use crate::serving::{End, ListenError, listen_all, serve};
 use crate::words::file_word;
@@ -70,7 +70,7 @@ fn serve_conf<R: Threads + Sync + Wait, W: Wire>(
 ) -> End
     requires listens { length (numbered conf.listens) ≤ 16 }
     requires station { IsTrue (is_station conf.server) }
-    ensures run { (start : Option Told) → AppendsRun (setting_of conf) start (W.shown wire.old).told (Listening (setting_of conf) (length (numbered conf.listens)))
+    ensures run { (start : Option Told) → AppendsRun (setting_of conf) start (W.shown wire.old).told (Listening (setting_of conf) (length (listeners conf)))
         → AppendsRun (setting_of conf) start (W.shown wire.new).told (Ends (setting_of conf) result) }
     ensures failed { result ≡ End.Failed → Rose (W.shown wire.old).stops (W.shown wire.new).stops }
     ensures stops { (W.shown wire.old).stops ≤ (W.shown wire.new).stops }
@@ -95,10 +95,10 @@ fn open_and_serve<R: Threads + Sync + Wait, W: Wire>(
     ensures failed { IfOk result (λ end. end ≡ End.Failed → Rose (W.shown wire.old).stops (W.shown wire.new).stops) }
     ensures listen { IfErr result (λ e. (n : ℕ) → e ≡ ListenError.Failed n → Rose (W.shown wire.old).stops (W.shown wire.new).stops
         × AppendsRun (setting_of conf) (W.shown wire.old).told (W.shown wire.new).told (OpensOnly n)) }
-    ensures within { IfErr result (λ e. (n : ℕ) → e ≡ ListenError.Failed n → n < length (numbered conf.listens)) }
+    ensures within { IfErr result (λ e. (n : ℕ) → e ≡ ListenError.Failed n → n < length (listeners conf)) }
     ensures err { OnErr result (AppendsRun (setting_of conf) (W.shown wire.old).told (W.shown wire.new).told HasFreshLinks) }
 {
-    let Ok(listens) = numbered_listens(alloc, conf.listens.as_slice()) else {
+    let Ok(listens) = listeners(alloc, &conf) else {
         return Err(ListenError::Memory);
     };
     listen_all(wire, listens.as_slice())?;

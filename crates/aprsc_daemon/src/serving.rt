@@ -32,7 +32,7 @@ pub(crate) enum ListenError {
 
 /// Opens each listener, in rising number.
 pub(crate) fn listen_all<W: Wire>(wire: &mut W, listens: &[ListenSpec]) -> Result<(), ListenError>
-    requires { length listens.now ≤ 16 }
+    requires { length listens.now ≤ 17 }
     ensures run { (s : Setting) → s.listens ≡ listens.now
         → OnOk result (AppendsRun s (W.shown wire.old).told (W.shown wire.new).told (Listening s (length listens.now))) }
     ensures failed { IfErr result (λ e. (n : ℕ) → e ≡ ListenError.Failed n → Rose (W.shown wire.old).stops (W.shown wire.new).stops

@@ -1,7 +1,11 @@
 -- Members of lists of numbers.
-use Rattle.std.proofs.Common.{◌≡◌, ℕ, ◌==◌, Bool, true, false, ◌||◌, ◌&&◌, List, [], ◌∷◌, ◌++◌, filter, refl, sym, ap, ◌∙◌, ⊎_elim, eq-eqb, cond}
+use Rattle.std.proofs.Common.{◌≡◌, ℕ, zero, suc, Option, Some, None, slice_get, ◌==◌, Bool, true, false, ◌||◌, ◌&&◌, List, [], ◌∷◌, ◌++◌, filter, refl, sym, ap, ◌∙◌, ⊎_elim, eq-eqb, cond}
 use Rattle.std.proofs.lemmas.Bool.{eqb-true, cases_Bool, false_from_ne_true, true≢false}
+use Rattle.aprs_base.specs.declared.packets.ListenSpec.{ListenSpec}
+use Rattle.aprs_base.specs.declared.texts.Addr.{Addr}
+use Rattle.aprs_history.specs.Setting.{kind_of_spec}
 use Rattle.aprs_history.specs.Trace.{is_member}
+use Rattle.server_core.specs.Meaning.{group_listens}
 
 pub eqb_turned : (a b : ℕ) → (a == b) ≡ (b == a)
 eqb_turned a b =
@@ -84,3 +88,11 @@ member_later x (y ∷ xs) ys member = ap (λ b. (y == x) || b) (member_later x x
     or_true : (b : Bool) → b || true ≡ true
     or_true true = refl
     or_true false = refl
+
+-- the listener of the peer group, which comes last, serves no clients
+pub kind_with_group : (specs : List ListenSpec) (group : Option Addr) (n : ℕ) → kind_of_spec (slice_get (specs ++ group_listens group) n) ≡ kind_of_spec (slice_get specs n)
+kind_with_group [] None n = refl
+kind_with_group [] (Some at) zero = refl
+kind_with_group [] (Some at) (suc n) = refl
+kind_with_group (spec ∷ specs) group zero = refl
+kind_with_group (spec ∷ specs) group (suc n) = kind_with_group specs group n

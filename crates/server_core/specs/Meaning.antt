@@ -1,6 +1,8 @@
 -- The core as contracts see it: its configuration, and what it keeps.
-use Rattle.std.specs.Prelude.{◌≡◌, List, [], ◌∷◌, ◌++◌, map, None, if◌then◌else◌}
+use Rattle.std.specs.Prelude.{◌≡◌, List, [], ◌∷◌, ◌++◌, map, Option, Some, None, if◌then◌else◌}
 use Rattle.aprs_base.specs.declared.packets.ListenSpec.{ListenSpec}
+use Rattle.aprs_base.specs.declared.packets.PortKind.TheVariants as kind
+use Rattle.aprs_base.specs.declared.texts.Addr.{Addr}
 use Rattle.aprs_conf.specs.Seen.{ConfSeen}
 use Rattle.aprs_conf.specs.declared.types.Listen.{Listen}
 use Rattle.aprs_conf.specs.declared.types.PeerSpec.{PeerSpec}
@@ -15,6 +17,15 @@ abbrev pub numbered : List Listen → List ListenSpec
 numbered [] = []
 numbered (listen ∷ listens) = if listen.idle then numbered listens else listen.spec ∷ numbered listens
 
+-- that of the peer group, where there is one
+abbrev pub group_listens : Option Addr → List ListenSpec
+group_listens None = []
+group_listens (Some at) = record { kind = kind.Core; at = at } ∷ []
+
+-- all listeners, in the order of their numbers
+abbrev pub listeners : ConfSeen → List ListenSpec
+listeners conf = numbered conf.listens ++ group_listens conf.group
+
 abbrev pub peer_of : PeerSpec → Peer
 peer_of peer = record { call = peer.call; at = peer.at }
 
@@ -22,7 +33,7 @@ abbrev pub setting_of : ConfSeen → Setting
 setting_of conf = record {
   server = conf.server;
   code = conf.code;
-  listens = numbered conf.listens;
+  listens = listeners conf;
   uplinks = conf.uplinks;
   peers = map peer_of conf.peers;
   up_timeout = conf.up_timeout;

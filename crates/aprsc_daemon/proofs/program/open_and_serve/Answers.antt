@@ -1,18 +1,21 @@
-use Rattle.std.proofs.Common.{◌≡◌, ◌<◌, length, sym, ap, ◌∙◌, subst}
+use Rattle.std.proofs.Common.{◌≡◌, ◌<◌, ◌≤◌, length, sym, ◌∙◌, subst}
 use Rattle.std.proofs.lemmas.Result.{err_from_is_err_and}
-use Rattle.server_core.specs.Meaning.{numbered, setting_of}
+use Rattle.server_core.specs.Meaning.{listeners, setting_of}
 use Rattle.aprsc_daemon.specs.Causes.{OpensOnly}
 use Rattle.aprsc_daemon.specs.Phases.{Listening}
 use Rattle.aprsc_daemon.proofs.EventLemmas.{err_of}
 use Rattle.aprsc_daemon.proofs.RunLemmas.{run_weaker}
+use Rattle.aprsc_daemon.proofs.ServeLemmas.{few_listeners}
 use Rattle.aprsc_daemon.proofs.program.open_and_serve.Goals as goal
+
+pub listen_all-requires : goal.listen_all-requires
+listen_all-requires g c = subst (λ specs. length specs ≤ 17) (sym (c.as_slice.ensures.value ∙ c.in-Ok.ensures)) (few_listeners c.args.conf c.requires.listens)
 
 pub returns-in_err-listen_all-clause-listen : goal.returns-in_err-listen_all-clause-listen
 returns-in_err-listen_all-clause-listen g c =
     let error = err_from_is_err_and c.from_residual.result c.from_residual.ensures.1 in
     let s = setting_of c.args.conf in
-    let same : c.as_slice-2.result.now ≡ numbered c.args.conf.listens =
-    c.as_slice-2.ensures.value ∙ c.in-Ok.ensures ∙ ap numbered (c.as_slice.ensures.value ∙ ap (λ conf. conf.listens) c.conf.view_is) in
+    let same : c.as_slice.result.now ≡ listeners c.args.conf = c.as_slice.ensures.value ∙ c.in-Ok.ensures in
     err_of _ c.from_residual.result error.0 c.in_err-listen_all.field-0.0 error.1 error.2 (λ n is.
     let failed = c.in_err-listen_all.ensures.failed n is in (
       failed.0,
@@ -23,7 +26,6 @@ returns-in_err-listen_all-clause-listen g c =
 pub returns-in_err-listen_all-clause-within : goal.returns-in_err-listen_all-clause-within
 returns-in_err-listen_all-clause-within g c =
     let error = err_from_is_err_and c.from_residual.result c.from_residual.ensures.1 in
-    let same : c.as_slice-2.result.now ≡ numbered c.args.conf.listens =
-    c.as_slice-2.ensures.value ∙ c.in-Ok.ensures ∙ ap numbered (c.as_slice.ensures.value ∙ ap (λ conf. conf.listens) c.conf.view_is) in
+    let same : c.as_slice.result.now ≡ listeners c.args.conf = c.as_slice.ensures.value ∙ c.in-Ok.ensures in
     err_of _ c.from_residual.result error.0 c.in_err-listen_all.field-0.0 error.1 error.2 (λ n is.
     subst (λ specs. n < length specs) same (c.in_err-listen_all.ensures.within n is))

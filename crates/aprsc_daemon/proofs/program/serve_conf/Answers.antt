@@ -1,5 +1,5 @@
 use Rattle.std.proofs.Common.{length, ap}
-use Rattle.server_core.specs.Meaning.{numbered, setting_of}
+use Rattle.server_core.specs.Meaning.{listeners, setting_of}
 use Rattle.aprsc_daemon.specs.Phases.{Listening, Resting}
 use Rattle.aprsc_daemon.proofs.RunLemmas.{run_weaker}
 use Rattle.aprsc_daemon.proofs.ServeLemmas.{listening_rests}
@@ -9,5 +9,5 @@ pub returns-in-Ok-clause-run : goal.returns-in-Ok-clause-run
 returns-in-Ok-clause-run g c = λ start run.
     let s = setting_of c.args.conf in
     c.serve.ensures.run s start (ap setting_of c.in-Ok.ensures.conf)
-    (run_weaker s start (g.W.Wire.shown c.args.wire.now).told (Listening s (length (numbered c.args.conf.listens))) (Resting c.in-Ok.core)
+    (run_weaker s start (g.W.Wire.shown c.args.wire.now).told (Listening s (length (listeners c.args.conf))) (Resting c.in-Ok.core)
     (λ more phase. listening_rests c.in-Ok.core c.args.conf more c.in-Ok.ensures.conf c.in-Ok.ensures.stands phase) run)
