@@ -1,7 +1,7 @@
 -- Line ends counted at their first byte or at their last.
-use Rattle.std.proofs.Common.{◌≡◌, ℕ, ◌+◌, ◌≤◌, Bool, true, false, cond, eqb, not, ◌&&◌, ◌||◌, List, [], ◌∷◌, ◌++◌, length, drop, get_or, refl, sym, ap, ◌∙◌, arith}
+use Rattle.std.proofs.Common.{◌≡◌, ℕ, ◌+◌, Bool, cond, eqb, ◌&&◌, List, ◌∷◌, arith}
 use Rattle.std.proofs.lemmas.Bool.Decides.{nat_tests}
-use Rattle.mio_wire.specs.Pacing.{begins_end, begins_with_lf, ends_at, line_ends}
+use Rattle.mio_wire.specs.Pacing.{begins_end, begins_with_lf, line_ends}
 
 -- an end that was counted at its CR, before its LF
 abbrev pub open_end : Bool → List ℕ → ℕ

@@ -1,6 +1,4 @@
-use Rattle.std.proofs.Common.{rules, ◌≡◌, Some}
-use Rattle.std.specs.List.{slice_get}
-use Rattle.std.specs.Option.{IfSome, option_map}
+use Rattle.std.proofs.Common.{rules}
 use Rattle.std.proofs.lemmas.List.Sorted.{answers_always}
 use Rattle.mio_wire.proofs.FindLemmas.{found}
 use Rattle.mio_wire.proofs.links.place_of.Goals as goal

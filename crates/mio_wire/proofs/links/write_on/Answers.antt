@@ -1,5 +1,5 @@
-use Rattle.std.proofs.Common.{◌≡◌, ◌+◌, ◌≤◌, length, take, drop, sym, ap, subst, ◌∙◌, arith}
-use Rattle.std.specs.Io.KnownBytes.{Appends, Keeps}
+use Rattle.std.proofs.Common.{◌+◌, ◌≤◌, length, take, drop, subst}
+use Rattle.std.specs.Io.KnownBytes.{Appends}
 use Rattle.mio_wire.proofs.WriteLemmas.{appends_keeps, appends_more, rest_is, rest_within}
 use Rattle.mio_wire.proofs.links.write_on.Goals as goal
 use Rattle.mio_wire.proofs.links.write_on.Goals.{in-Ok, in-Err-2}

@@ -1,4 +1,4 @@
-use Rattle.std.proofs.Common.{◌≡◌, ◌+◌, ◌-◌, ◌≤◌, length, take, drop, min, refl, sym, ap, ◌∙◌, arith}
+use Rattle.std.proofs.Common.{◌≡◌, ◌+◌, ◌-◌, take, drop, min, refl, ap, ◌∙◌, arith}
 use Rattle.mio_wire.proofs.PieceLemmas.{first_piece, rest_piece}
 use Rattle.mio_wire.proofs.inbox.Inbox.take_chunk.Goals as goal
 
