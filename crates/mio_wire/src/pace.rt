@@ -1,6 +1,6 @@
 //! What was handed up since the last tick, and whether another is due before the next second.
 ghost use Rattle.std.specs.Prelude.{◌≡◌, ◌+◌, ◌-◌, ◌^◌, ◌||◌, true, false, min, length, nat_le};
-ghost use Rattle.mio_wire.specs.Pacing.{begins_end, line_ends};
+ghost use Rattle.mio_wire.specs.Pacing.{begins_end, is_full, line_ends};
 
 /// So many line ends make a tick due, so that no round brings more lines than a queue holds.
 const MOST_LINES: usize = 400;
@@ -34,7 +34,7 @@ impl Pace {
 
     /// Whether a tick is due at once, before anything else is handed up.
     pub(crate) fn is_full(&self) -> bool
-        ensures { result ≡ (nat_le 400 self.now.lines || nat_le 48000 self.now.bytes) }
+        ensures { result ≡ is_full self.now }
     {
         self.lines >= MOST_LINES || self.bytes >= MOST_BYTES
     }

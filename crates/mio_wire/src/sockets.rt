@@ -1,8 +1,8 @@
 //! The poll with the sockets that it watches.
-ghost use Rattle.std.specs.Prelude.{◌≡◌, ℕ, ◌≤◌, ◌<◌, None, IfOk, IfSome, length};
+ghost use Rattle.std.specs.Prelude.{◌≡◌, ◌≢◌, ℕ, ◌≤◌, ◌<◌, None, IfOk, IfSome, length};
 ghost use Rattle.mio_wire.specs.Arrivals.{TakesNext};
 ghost use Rattle.aprs_base.specs.Outside.{IsOutcome, new_link};
-ghost use Rattle.aprs_base.specs.declared.events.Event.TheVariants.{Ended};
+ghost use Rattle.aprs_base.specs.declared.events.Event.TheVariants.{Ended, Stop};
 
 use crate::inbox::{Inbox, MOST_READ};
 use crate::links::{Link, place_of, write_on};
@@ -161,7 +161,7 @@ impl Sockets {
 
     /// Serves the source whose turn it is. `next` is the number of the next link, where there is one.
     pub(crate) fn serve(&mut self, next: Option<u32>) -> Result<Option<Event>, AllocError>
-        ensures { IfOk result (λ o. IfSome o (TakesNext next)) }
+        ensures { IfOk result (λ o. IfSome o (λ e. TakesNext next e × (e ≢ Stop))) }
     {
         let Some(ready) = self.turns.current() else {
             return Ok(None);
@@ -174,7 +174,7 @@ impl Sockets {
 
     /// Opens a link, or goes on where none waits.
     fn serve_ear(&mut self, place: usize, next: Option<u32>) -> Result<Option<Event>, AllocError>
-        ensures { IfOk result (λ o. IfSome o (TakesNext next)) }
+        ensures { IfOk result (λ o. IfSome o (λ e. TakesNext next e × (e ≢ Stop))) }
     {
         let opened = self.open_link(place, next)?;
         if opened.is_none() {
@@ -184,7 +184,7 @@ impl Sockets {
     }
 
     fn open_link(&mut self, place: usize, next: Option<u32>) -> Result<Option<Event>, AllocError>
-        ensures { IfOk result (λ o. IfSome o (TakesNext next)) }
+        ensures { IfOk result (λ o. IfSome o (λ e. TakesNext next e × (e ≢ Stop))) }
     {
         let Some(number) = next else {
             return Ok(None);
@@ -217,7 +217,7 @@ impl Sockets {
 
     /// Says that a link has room again, or reads what it brings.
     fn serve_link(&mut self, number: u32, ready: Ready) -> Result<Option<Event>, AllocError>
-        ensures { IfOk result (λ o. IfSome o (λ e. new_link e ≡ None)) }
+        ensures { IfOk result (λ o. IfSome o (λ e. (new_link e ≡ None) × (e ≢ Stop))) }
     {
         let Some(place) = place_of(self.links.as_slice(), number) else {
             self.turns.advance();
@@ -240,7 +240,7 @@ impl Sockets {
     /// Reads once from a link, which has another turn where more may be there.
     fn read(&mut self, place: usize, number: u32) -> Result<Option<Event>, AllocError>
         requires { place < length self.old.links.items }
-        ensures { IfOk result (λ o. IfSome o (λ e. new_link e ≡ None)) }
+        ensures { IfOk result (λ o. IfSome o (λ e. (new_link e ≡ None) × (e ≢ Stop))) }
     {
         let link = &mut self.links[place];
         let more = match self.inbox.fill(number, &mut link.stream) {

@@ -1,9 +1,10 @@
 //! The wire over the sockets of the system.
-ghost use Rattle.std.specs.Prelude.{◌≡◌, ℕ, ◌+◌, ◌≤◌, Some, None, false, OnOk, OnErr, IfOk, IfSome, IsErrOf};
-ghost use Rattle.aprs_base.specs.Outside.{AfterAct, AfterListen, AfterNext, AfterSend, CountsLink, Rose, new_link, with_cast, with_closed, with_dial};
-ghost use Rattle.aprs_base.specs.declared.events.Event.TheVariants.{Tick};
+ghost use Rattle.std.specs.Prelude.{◌≡◌, ℕ, ◌+◌, ◌≤◌, ◌≢◌, ◌++◌, [], ◌∷◌, Some, None, Ok, false, IsTrue, OnOk, OnErr, IfOk, IfSome, IsErrOf};
+ghost use Rattle.aprs_base.specs.Outside.{AfterAct, AfterNext, CountsLink, Rose, new_link, with_dial};
+ghost use Rattle.aprs_base.specs.declared.events.Event.TheVariants.{Stop, Tick};
 ghost use Rattle.aprs_base.specs.declared.events.WireError.TheVariants as WireError;
-ghost use Rattle.mio_wire.specs.Arrivals.{CountsStep, TakesNext, next_number};
+ghost use Rattle.mio_wire.specs.Pacing.{ComesNext, StepGives, has_stopped, is_full, is_tick};
+ghost use Rattle.mio_wire.specs.Arrivals.{CountsStep, TakesNext, counts, next_number};
 
 use crate::pace::Pace;
 use crate::sockets::Sockets;
@@ -49,7 +50,9 @@ impl<'a, R: Net + Clock> MioWire<'a, R> {
     /// A wire that gives a stop once it has given so many ends of links, where a number is given. It takes no memory and
     /// opens nothing until it is called.
     pub fn new(rt: &'a R, alloc: Global, stop_after: Option<u32>) -> MioWire<'a, R>
-        ensures { (result.stops ≡ 0) × (result.gones ≡ 0) × (result.made ≡ 0) }
+        ensures counts { (result.stops ≡ 0) × (result.gones ≡ 0) × (result.made ≡ 0) × (result.ended ≡ 0) }
+        ensures opens { (result.sockets ≡ None) × (result.dialled.items ≡ []) × (result.second ≡ None) }
+        ensures stop { result.stop_after ≡ stop_after }
     {
         MioWire {
             rt,
@@ -71,6 +74,7 @@ impl<'a, R: Net + Clock> MioWire<'a, R> {
         ensures same { result ≡ error }
         ensures stops { (self.old.stops ≤ self.new.stops) × (error ≡ WireError.Failed → Rose self.old.stops self.new.stops) }
         ensures others { (self.new.gones ≡ self.old.gones) × (self.new.made ≡ self.old.made) }
+        ensures kept { (self.new.second ≡ self.old.second) × (self.new.stop_after ≡ self.old.stop_after) × (self.new.ended ≡ self.old.ended) × (self.new.pace ≡ self.old.pace) }
     {
         if error == WireError::Failed {
             self.stops = self.stops.saturating_add(1);
@@ -82,6 +86,7 @@ impl<'a, R: Net + Clock> MioWire<'a, R> {
     fn open(&mut self) -> Result<(), WireError>
         ensures stops { (self.old.stops ≤ self.new.stops) × (IsErrOf result WireError.Failed → Rose self.old.stops self.new.stops) }
         ensures others { (self.new.gones ≡ self.old.gones) × (self.new.made ≡ self.old.made) }
+        ensures kept { (self.new.second ≡ self.old.second) × (self.new.stop_after ≡ self.old.stop_after) × (self.new.ended ≡ self.old.ended) × (self.new.pace ≡ self.old.pace) }
     {
         if self.sockets.is_none() {
             match Sockets::open(self.rt, self.alloc) {
@@ -101,7 +106,7 @@ impl<'a, R: Net + Clock> MioWire<'a, R> {
     }
 
     fn tick_now(&mut self) -> Event
-        ensures event { new_link result ≡ None }
+        ensures event { (new_link result ≡ None) × IsTrue (is_tick result) }
         ensures counts { (self.new.stops ≡ self.old.stops) × (self.new.gones ≡ self.old.gones) × (self.new.made ≡ self.old.made) }
     {
         let moment = self.clock().as_secs();
@@ -124,8 +129,13 @@ impl<'a, R: Net + Clock> MioWire<'a, R> {
     }
 
     /// Whether as many links ended as were asked for.
-    fn is_stopped(&self) -> bool {
-        self.stop_after.is_some_and(|count| self.ended >= count)
+    fn is_stopped(&self) -> bool
+        ensures { result ≡ has_stopped self.now.stop_after self.now.ended }
+    {
+        match self.stop_after {
+            Some(count) => self.ended >= count,
+            None => false,
+        }
     }
 
     /// Whether something has come that is not handed up, or not looked at.
@@ -143,6 +153,8 @@ impl<'a, R: Net + Clock> MioWire<'a, R> {
         ensures err { OnErr result (self.new.made ≡ self.old.made) }
         ensures memory { IsErrOf result WireError.Failed → ⊥ }
         ensures others { (self.new.stops ≡ self.old.stops) × (self.new.gones ≡ self.old.gones) }
+        ensures no_stop { IfOk result (λ o. IfSome o (λ e. e ≢ Stop)) }
+        ensures kept { result ≡ Ok None → (self.new.second ≡ self.old.second) × (self.new.stop_after ≡ self.old.stop_after) × (self.new.ended ≡ self.old.ended) × (self.new.pace ≡ self.old.pace) }
     {
         let Some(sockets) = &mut self.sockets else {
             return Ok(None);
@@ -182,6 +194,8 @@ impl<'a, R: Net + Clock> MioWire<'a, R> {
         ensures err { OnErr result (self.new.made ≡ self.old.made) }
         ensures stops { (self.old.stops ≤ self.new.stops) × (IsErrOf result WireError.Failed → Rose self.old.stops self.new.stops) }
         ensures gones { self.new.gones ≡ self.old.gones }
+        ensures gives { IfOk result (StepGives self.old.second (has_stopped self.old.stop_after self.old.ended) (is_full self.old.pace)) }
+        ensures kept { result ≡ Ok None → (self.new.second ≡ self.old.second) × (self.new.stop_after ≡ self.old.stop_after) × (self.new.ended ≡ self.old.ended) × (self.new.pace ≡ self.old.pace) }
     {
         let Some(second) = self.second else {
             return Ok(Some(self.tick_now()));
@@ -207,6 +221,7 @@ impl<'a, R: Net + Clock> MioWire<'a, R> {
     fn wait(&mut self, now: Duration) -> Result<(), WireError>
         ensures stops { (self.old.stops ≤ self.new.stops) × (IsErrOf result WireError.Failed → Rose self.old.stops self.new.stops) }
         ensures others { (self.new.gones ≡ self.old.gones) × (self.new.made ≡ self.old.made) }
+        ensures kept { (self.new.second ≡ self.old.second) × (self.new.stop_after ≡ self.old.stop_after) × (self.new.ended ≡ self.old.ended) × (self.new.pace ≡ self.old.pace) }
     {
         let left = 1000u64.saturating_sub(u64::from(now.subsec_millis()));
         let Some(sockets) = &mut self.sockets else {
@@ -228,7 +243,7 @@ fn takes_links(kind: PortKind) -> bool {
 }
 
 impl<'a, R: Net + Clock + Wait> Wire for MioWire<'a, R> {
-    ghost shown = { λ w. record { told = None; stops = w.stops; gones = w.gones; links = w.made } };
+    ghost shown = { λ w. counts w.stops w.gones w.made };
 
     /// Listens over TCP. Listeners for datagrams are not built: they are `Failed`.
     fn listen(&mut self, n: u16, spec: &ListenSpec) -> Result<(), WireError> {
@@ -243,7 +258,10 @@ impl<'a, R: Net + Clock + Wait> Wire for MioWire<'a, R> {
         }
     }
 
-    fn next(&mut self) -> Result<Event, WireError> {
+    fn next(&mut self) -> Result<Event, WireError>
+        ensures next { AfterNext (counts self.old.stops self.old.gones self.old.made) (counts self.new.stops self.new.gones self.new.made) result }
+        ensures comes { IfOk result (ComesNext self.old.second (has_stopped self.old.stop_after self.old.ended) (is_full self.old.pace)) }
+    {
         self.open()?;
         for _ in self.rt.forever() {
             if let Some(event) = self.step()? {
@@ -273,7 +291,10 @@ impl<'a, R: Net + Clock + Wait> Wire for MioWire<'a, R> {
     }
 
     /// Dials are not built: the answer is `Unjoined`.
-    fn dial(&mut self, uplink: u16, _spec: &UplinkSpec) -> Result<(), Memory> {
+    fn dial(&mut self, uplink: u16, spec: &UplinkSpec) -> Result<(), Memory>
+        ensures dial { AfterAct (counts self.old.stops self.old.gones self.old.made) (counts self.new.stops self.new.gones self.new.made) (with_dial uplink spec.now) result }
+        ensures answer { OnOk result (self.new.dialled.items ≡ self.old.dialled.items ++ uplink ∷ []) }
+    {
         self.dialled.push(uplink)?;
         Ok(())
     }
