@@ -1,5 +1,5 @@
 -- Small histories with endings and comment lines, and what the definitions say of them.
-use Rattle.std.proofs.Common.{◌≡◌, refl, ℕ, ◌+◌, zero, suc, List, [], ◌∷◌, ◌++◌, codes, map, length, true, false}
+use Rattle.std.proofs.Common.{◌≡◌, refl, ℕ, ◌+◌, zero, suc, List, [], ◌∷◌, ◌++◌, codes}
 use Rattle.aprs_base.specs.declared.events.Event.TheVariants as event
 use Rattle.aprs_base.specs.declared.events.Happening.{Happening}
 use Rattle.aprs_base.specs.declared.events.Happening.TheVariants as did
@@ -11,10 +11,9 @@ use Rattle.q_construct.specs.Rule.{process_of, given_drops, built_drops, built_r
 use Rattle.tnc2_line.specs.Packet.{parts_of, text_of, via_of, head_of}
 use Rattle.aprs_history.specs.Dates.{comment_text}
 use Rattle.aprs_history.specs.Setting.{Setting}
-use Rattle.aprs_history.specs.Trace.{Trace, Entry, Ended, EndReason, NoLogin, Silent, Overfull, Full, ByPeer, FoundGone, ByStop, live_links}
+use Rattle.aprs_history.specs.Trace.{Trace, Ended, EndReason, NoLogin, Silent, Overfull, Full, ByPeer, live_links}
 use Rattle.aprs_history.specs.History.{History, trace_of}
 use Rattle.aprs_history.specs.Acts.{Closes, Offers, due}
-use Rattle.link_queue.specs.Lines.{text_bytes}
 use Rattle.aprs_history.specs.Texts.{banner, lines_of}
 use Rattle.aprs_history.proofs.Rows.{client, crlf, listen, server_on, told_in}
 

@@ -1,5 +1,5 @@
 -- Small histories with sends, and the bytes that their links took.
-use Rattle.std.proofs.Common.{◌≡◌, refl, List, [], ◌∷◌, codes}
+use Rattle.std.proofs.Common.{◌≡◌, refl, [], ◌∷◌, codes}
 use Rattle.aprs_base.specs.declared.events.Sent.TheVariants as sent
 use Rattle.aprs_base.specs.declared.events.Happening.TheVariants as did
 use Rattle.aprs_history.specs.History.{History}

@@ -11,7 +11,7 @@ use Rattle.aprs_base.specs.declared.events.Sent.TheVariants as sent
 use Rattle.aprs_base.specs.declared.events.Happening.TheVariants as did
 use Rattle.aprs_history.specs.Setting.{Setting}
 use Rattle.aprs_history.specs.History.{History, trace_of}
-use Rattle.aprs_history.specs.Texts.{Comment, LineKind, TextLine, lines_of, banner, text_to}
+use Rattle.aprs_history.specs.Texts.{Comment, LineKind, lines_of, banner, text_to}
 use Rattle.aprs_history.specs.Acts.{Offers, Closes, Listens, due}
 use Rattle.tnc2_line.specs.Packet.{parts_of, text_of, via_of, head_of}
 use Rattle.login_pass.specs.Login.{login_of}

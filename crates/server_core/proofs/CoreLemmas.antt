@@ -1,5 +1,5 @@
 -- The steps of the core, and the trace that it follows.
-use Rattle.std.proofs.Common.{◌≡◌, ℕ, ◌<◌, ◌==◌, ◌/◌, nat_lt, length, if◌then◌else◌, ◌∷◌, ◌++◌, [], List, map, filter, refl, sym, ap, ◌∙◌, subst, Bool, true, false, Option, Some, None, max, min, append-nil, arith, ⊎_elim, ◌||◌, not, cond, ◌^◌, IfOk, Result, Ok, Err, Vec, Global}
+use Rattle.std.proofs.Common.{◌≡◌, ℕ, ◌<◌, ◌==◌, ◌/◌, nat_lt, length, if◌then◌else◌, ◌∷◌, ◌++◌, [], List, map, filter, refl, sym, ap, ◌∙◌, subst, Bool, true, false, Some, None, max, min, append-nil, arith, ⊎_elim, ◌||◌, not, cond, ◌^◌, IfOk, Result, Ok, Err, Vec, Global}
 use Rattle.std.specs.List.{flat_map}
 use Rattle.std.proofs.lemmas.Bool.{true≢false, cases_Bool}
 use Rattle.std.proofs.lemmas.List.{length-map}

@@ -1,6 +1,6 @@
 -- Each entry of a trace, and what it changes of what there is to keep of the links.
-use Rattle.std.proofs.Common.{◌≡◌, ℕ, ◌+◌, ◌-◌, ◌≤◌, ◌<◌, ◌==◌, Bool, true, false, not, ◌&&◌, ◌||◌, List, [], ◌∷◌, ◌++◌, length, map, refl, sym, ap, ◌∙◌, subst, arith, Option, Some, None, ⊎_elim, append-nil, length-append, length-drop, nat_lt, nat_le, is_some, drop, eq-eqb, append_assoc, min, if◌then◌else◌}
-use Rattle.std.proofs.lemmas.Bool.{true≢false, eqb-true, cases_Bool, leb-true, leb-false, le-leb, lt-leb, ltb-true, ltb-false, false_from_ne_true, true_from_ne_false}
+use Rattle.std.proofs.Common.{◌≡◌, ℕ, ◌+◌, ◌-◌, ◌≤◌, ◌<◌, ◌==◌, Bool, true, false, not, ◌&&◌, ◌||◌, List, [], ◌∷◌, ◌++◌, length, map, refl, sym, ap, ◌∙◌, subst, arith, Option, Some, None, ⊎_elim, append-nil, length-append, length-drop, nat_lt, nat_le, is_some, drop, eq-eqb, min, if◌then◌else◌}
+use Rattle.std.proofs.lemmas.Bool.{true≢false, eqb-true, cases_Bool, leb-true, le-leb, lt-leb, ltb-true, ltb-false, false_from_ne_true, true_from_ne_false}
 use Rattle.std.proofs.Math.Nat.{le-max_right}
 use Rattle.std.proofs.Math.Seq.{drop-append-add}
 use Rattle.std.proofs.lemmas.List.Concat.{flat_map-append}

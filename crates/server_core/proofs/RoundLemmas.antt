@@ -19,7 +19,7 @@ use Rattle.aprs_history.specs.History.{History, open_events, ends_round, is_stop
 use Rattle.aprs_history.specs.Rounds.{is_whole, with_events, events_trace, greatest_after, stopped_after}
 use Rattle.aprs_history.specs.Acts.{acts_after, due, is_offered, offered_links}
 use Rattle.aprs_history.specs.Stands.{CoreSeen, link_seen, Follows}
-use Rattle.server_core.specs.LinkSteps.{is_ready, number_of, numbers}
+use Rattle.server_core.specs.LinkSteps.{is_ready, number_of}
 use Rattle.server_core.proofs.FollowLemmas.{left_over, queued-bytes}
 use Rattle.server_core.proofs.WalkLemmas.{filter_seen, going_after, late_goes, numbers_seen, refused_goes}
 
