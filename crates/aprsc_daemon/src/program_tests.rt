@@ -293,6 +293,7 @@ fn only_stop(alloc: Global) -> Result<Vec<Event>, Fail> {
 
 fn one_link(alloc: Global) -> Result<Vec<Event>, Fail> {
     let mut events = Vec::new(alloc);
+    events.push(Event::Tick(1000))?;
     events.push(opened(1))?;
     events.push(Event::Tick(1000))?;
     events.push(Event::Tick(1001))?;
@@ -340,6 +341,7 @@ fn waits_for_room(rt: HostRuntime) -> Result<(), Fail> {
     let left = run_over(&rt, alloc, CONF, one_link(alloc)?, outside)?;
     let want = [
         Happening::Listen(0),
+        Happening::Event(Event::Tick(1000)),
         Happening::Event(opened(1)),
         Happening::Event(Event::Tick(1000)),
         Happening::Sent(1, Text::copied(alloc, BANNER)?, Sent::Took(5)),
@@ -362,6 +364,7 @@ fn closes_no_link_that_is_gone(rt: HostRuntime) -> Result<(), Fail> {
     let left = run_over(&rt, alloc, CONF, one_link(alloc)?, outside)?;
     let want = [
         Happening::Listen(0),
+        Happening::Event(Event::Tick(1000)),
         Happening::Event(opened(1)),
         Happening::Event(Event::Tick(1000)),
         Happening::Sent(1, Text::copied(alloc, BANNER)?, Sent::Gone),
