@@ -1,6 +1,11 @@
 //! Links that the server ends, and the date that it tells.
 use super::cores::Limits;
 use super::session::{Row, USUAL, repeated, run_within};
+use std::alloc::Global;
+use std::marker::Sync;
+use std::process::Abort;
+use std::random::RandomSource;
+use std::thread::Threads;
 
 const BANNER: &[u8] = b"# aprsc 1.0\r\n";
 
@@ -66,38 +71,41 @@ fn ends_links_by_time_and_number(rt: HostRuntime) {
 }
 
 /// A link that takes nothing: its banner, the reply to its login and 998 more lines wait, and one more is too many. What it
-/// says later in that round still counts.
+/// says later in that round still counts. It asks for `many` replies six times, and then for the rest.
+fn check_slow<'a, R: Threads + Sync + RandomSource + Abort>(
+    rt: &R,
+    alloc: Global,
+    many: &'a [u8],
+    rest: &'a [u8],
+) {
+    let rows = [
+        Row::Opens(1, 0),
+        Row::Opens(2, 0),
+        Row::Says(1, b"user N0CALL pass 13023\r\n"),
+        Row::Says(2, b"user K1ABC pass 14993\r\n"),
+        Row::Drains(1),
+        Row::Says(2, many),
+        Row::Says(2, many),
+        Row::Says(2, many),
+        Row::Says(2, many),
+        Row::Says(2, many),
+        Row::Says(2, many),
+        Row::Says(2, rest),
+        Row::Tick(1000),
+        Row::Closes(&[]),
+        Row::Says(2, b"#filter\r\nK1ABC>APRS:>hi\r\n"),
+        Row::Tick(1000),
+        Row::Closes(&[2]),
+        Row::Offers(&[1]),
+        Row::Lacks(2),
+        Row::Gets(1, b"K1ABC>APRS,TCPIP*,qAC,T2TEST:>hi\r\n"),
+    ];
+    run_within(rt, alloc, USUAL, &rows);
+}
+
 #[test]
 fn ends_links_that_take_too_little(rt: HostRuntime) {
-    let alloc = rt.alloc();
-    let many = repeated(&rt, alloc, b"", b"#filter\r\n", 162, b"");
-    let rest = repeated(&rt, alloc, b"", b"#filter\r\n", 26, b"");
-    let (many, rest) = (many.as_slice(), rest.as_slice());
-    run_within(
-        &rt,
-        alloc,
-        USUAL,
-        &[
-            Row::Opens(1, 0),
-            Row::Opens(2, 0),
-            Row::Says(1, b"user N0CALL pass 13023\r\n"),
-            Row::Says(2, b"user K1ABC pass 14993\r\n"),
-            Row::Drains(1),
-            Row::Says(2, many),
-            Row::Says(2, many),
-            Row::Says(2, many),
-            Row::Says(2, many),
-            Row::Says(2, many),
-            Row::Says(2, many),
-            Row::Says(2, rest),
-            Row::Tick(1000),
-            Row::Closes(&[]),
-            Row::Says(2, b"#filter\r\nK1ABC>APRS:>hi\r\n"),
-            Row::Tick(1000),
-            Row::Closes(&[2]),
-            Row::Offers(&[1]),
-            Row::Lacks(2),
-            Row::Gets(1, b"K1ABC>APRS,TCPIP*,qAC,T2TEST:>hi\r\n"),
-        ],
-    );
+    let many = repeated(&rt, rt.alloc(), b"", b"#filter\r\n", 162, b"");
+    let rest = repeated(&rt, rt.alloc(), b"", b"#filter\r\n", 26, b"");
+    check_slow(&rt, rt.alloc(), many.as_slice(), rest.as_slice());
 }
