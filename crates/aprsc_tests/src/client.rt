@@ -16,19 +16,30 @@ pub(crate) struct Client {
     line: Vec<u8>,
 }
 
+fn address(port: u16) -> SocketAddr {
+    SocketAddr::from(([127, 0, 0, 1], port))
+}
+
 /// Connects to a port as soon as the server listens.
 fn connect<R: Clock + Net<Stream = TcpStream>>(rt: &R, port: u16) -> io::Result<TcpStream> {
-    let address = SocketAddr::from(([127, 0, 0, 1], port));
     for _ in 0..500 {
-        if let Ok(stream) = TcpStream::connect(rt, address) {
+        if let Ok(stream) = TcpStream::connect(rt, address(port)) {
             return Ok(stream);
         }
         thread::sleep(rt, Duration::from_millis(10));
     }
-    TcpStream::connect(rt, address)
+    TcpStream::connect(rt, address(port))
+}
+
+/// Opens and ends so many links, so that a server whose clients gave up early stops.
+pub(crate) fn release<R: Net<Stream = TcpStream>>(rt: &R, port: u16, ends: u32) {
+    for _ in 0..ends {
+        let _ = TcpStream::connect(rt, address(port));
+    }
 }
 
 impl Client {
+    /// Opens a link, and hears the banner.
     pub(crate) fn open<R: Clock + Net<Stream = TcpStream>>(
         rt: &R,
         alloc: Global,
@@ -36,31 +47,45 @@ impl Client {
     ) -> io::Result<Client> {
         let stream = connect(rt, port)?;
         stream.set_read_timeout(Some(Duration::from_secs(PATIENCE)))?;
-        Ok(Client {
+        let mut client = Client {
             stream: BufReader::new(alloc, stream)?,
             line: Vec::new(alloc),
-        })
+        };
+        client.hears(b"# aprsc 1.0\r\n")?;
+        Ok(client)
     }
 
-    /// Says a line.
-    pub(crate) fn says(&mut self, line: &[u8]) -> io::Result<()> {
-        self.stream.get_mut().write_all(line)
+    /// Logs in with a call and its passcode.
+    pub(crate) fn log_in(&mut self, alloc: Global, call: &str, code: u16) -> io::Result<()> {
+        let login = format!(in alloc; "user {call} pass {code} vers t 1\r\n")?;
+        self.says(login.as_bytes())?;
+        let reply = format!(in alloc; "# logresp {call} verified, server T2TEST\r\n")?;
+        self.hears(reply.as_bytes())
     }
 
-    /// Whether this is the next line but for the date that all links are told.
-    pub(crate) fn hears(&mut self, line: &[u8]) -> io::Result<bool> {
+    /// Says these bytes.
+    pub(crate) fn says(&mut self, bytes: &[u8]) -> io::Result<()> {
+        self.stream.get_mut().write_all(bytes)
+    }
+
+    /// The next line but for the dates that all links are told: nothing at the link's end.
+    pub(crate) fn next_line(&mut self) -> io::Result<&[u8]> {
         for _ in 0..10 {
             self.line.clear();
             self.stream.read_until(b'\n', &mut self.line)?;
             if !self.line.starts_with(b"# aprsc 1.0 ") {
-                return Ok(self.line.as_slice() == line);
+                break;
             }
         }
-        Ok(false)
+        Ok(self.line.as_slice())
     }
 
-    /// Whether the server has ended the link.
-    pub(crate) fn hears_the_end(&mut self) -> io::Result<bool> {
-        self.hears(b"")
+    /// Hears the next line, which is to be this one.
+    pub(crate) fn hears(&mut self, line: &[u8]) -> io::Result<()> {
+        if self.next_line()? == line {
+            Ok(())
+        } else {
+            Err(io::Error::from(io::ErrorKind::InvalidData))
+        }
     }
 }

@@ -4,6 +4,8 @@
 #[cfg(test)]
 mod client;
 #[cfg(test)]
+mod packets;
+#[cfg(test)]
 mod server;
 #[cfg(test)]
 mod tests;
