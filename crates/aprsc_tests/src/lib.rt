@@ -1,0 +1,11 @@
+//! Whole runs of the server over the system's sockets. The crate holds nothing but tests.
+#![tactic(auto)]
+
+#[cfg(test)]
+mod client;
+#[cfg(test)]
+mod packets;
+#[cfg(test)]
+mod server;
+#[cfg(test)]
+mod tests;
