@@ -1,5 +1,6 @@
 //! A client of the server, over loopback.
 
+use crate::packets::heard;
 use std::alloc::Global;
 use std::io::{self, BufRead, BufReader, Write};
 use std::net::{Net, SocketAddr, TcpStream};
@@ -39,11 +40,12 @@ pub(crate) fn release<R: Net<Stream = TcpStream>>(rt: &R, port: u16, ends: u32) 
 }
 
 impl Client {
-    /// Opens a link, and hears the banner.
+    /// Opens a link, and logs in with a call and its passcode.
     pub(crate) fn open<R: Clock + Net<Stream = TcpStream>>(
         rt: &R,
         alloc: Global,
         port: u16,
+        (call, code): (&str, u16),
     ) -> io::Result<Client> {
         let stream = connect(rt, port)?;
         stream.set_read_timeout(Some(Duration::from_secs(PATIENCE)))?;
@@ -52,11 +54,11 @@ impl Client {
             line: Vec::new(alloc),
         };
         client.hears(b"# aprsc 1.0\r\n")?;
+        client.log_in(alloc, call, code)?;
         Ok(client)
     }
 
-    /// Logs in with a call and its passcode.
-    pub(crate) fn log_in(&mut self, alloc: Global, call: &str, code: u16) -> io::Result<()> {
+    fn log_in(&mut self, alloc: Global, call: &str, code: u16) -> io::Result<()> {
         let login = format!(in alloc; "user {call} pass {code} vers t 1\r\n")?;
         self.says(login.as_bytes())?;
         let reply = format!(in alloc; "# logresp {call} verified, server T2TEST\r\n")?;
@@ -87,5 +89,19 @@ impl Client {
         } else {
             Err(io::Error::from(io::ErrorKind::InvalidData))
         }
+    }
+
+    /// How many of the first packets it hears before its link ends, perhaps within one.
+    pub(crate) fn hears_some(&mut self, alloc: Global, most: u32) -> io::Result<u32> {
+        for number in 0..most {
+            let packet = heard(alloc, number)?;
+            let line = self.next_line()?;
+            if line != packet.as_slice() {
+                let is_part = packet.starts_with(line);
+                self.hears(b"")?;
+                return Ok(if is_part { number } else { most });
+            }
+        }
+        Ok(most)
     }
 }
