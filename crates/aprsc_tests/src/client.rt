@@ -1,6 +1,5 @@
 //! A client of the server, over loopback.
 
-use crate::packets::heard;
 use std::alloc::Global;
 use std::io::{self, BufRead, BufReader, Write};
 use std::net::{Net, SocketAddr, TcpStream};
@@ -89,19 +88,5 @@ impl Client {
         } else {
             Err(io::Error::from(io::ErrorKind::InvalidData))
         }
-    }
-
-    /// How many of the first packets it hears before its link ends, perhaps within one.
-    pub(crate) fn hears_some(&mut self, alloc: Global, most: u32) -> io::Result<u32> {
-        for number in 0..most {
-            let packet = heard(alloc, number)?;
-            let line = self.next_line()?;
-            if line != packet.as_slice() {
-                let is_part = packet.starts_with(line);
-                self.hears(b"")?;
-                return Ok(if is_part { number } else { most });
-            }
-        }
-        Ok(most)
     }
 }

@@ -4,8 +4,6 @@
 #[cfg(test)]
 mod client;
 #[cfg(test)]
-mod packets;
-#[cfg(test)]
 mod server;
 #[cfg(test)]
 mod tests;
