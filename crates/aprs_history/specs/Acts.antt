@@ -1,5 +1,5 @@
 -- The acts that are due, and the histories that are runs: each happening is the first act due, or an event where none is.
-use Rattle.std.specs.Prelude.{◌≡◌, ℕ, ◌+◌, ◌&&◌, Bool, false, not, nat_lt, List, [], ◌∷◌, ◌++◌, length, take, map, filter, if◌then◌else◌, ⊤}
+use Rattle.std.specs.Prelude.{◌≡◌, ℕ, ◌+◌, ◌&&◌, Bool, false, not, nat_lt, List, [], ◌∷◌, ◌++◌, length, take, map, filter, Option, Some, None, if◌then◌else◌, ⊤}
 use Rattle.aprs_base.specs.Outside.{IsOutcome}
 use Rattle.aprs_base.specs.declared.events.Happening.{Happening}
 use Rattle.aprs_base.specs.declared.events.Happening.TheVariants as did
@@ -7,12 +7,15 @@ use Rattle.aprs_base.specs.declared.packets.ListenSpec.{ListenSpec}
 use Rattle.aprs_history.specs.Setting.{Setting}
 use Rattle.aprs_history.specs.Trace.{Trace, closed_links, served_links}
 use Rattle.aprs_history.specs.Links.{is_blocked, taken_by}
-use Rattle.link_queue.specs.Lines.{text_bytes}
+use Rattle.link_queue.specs.Lines.{ended_line, text_bytes}
+use Rattle.aprs_history.specs.Dials.{CastSeen, casts_of, dial_of}
 use Rattle.aprs_history.specs.Texts.{lines_of, untaken}
 use Rattle.aprs_history.specs.History.{History, open_events, ends_round, is_stopped, trace_of}
 
 pub data Act : Type 0 where
   Listens : (n : ℕ) → Act
+  Dials : (uplink : ℕ) → Act
+  Casts : (peer : ℕ) → (bytes : List ℕ) → Act
   Offers : (link : ℕ) → (bytes : List ℕ) → Act
   Closes : (link : ℕ) → Act
 
@@ -32,9 +35,18 @@ offered_links setting trace = filter (is_offered setting trace) (served_links tr
 abbrev pub offer_to : Setting → Trace → ℕ → Act
 offer_to setting trace link = Offers link (take 65536 (untaken setting trace link))
 
--- after a round: an offer to each such link, and then a close of each that the server ended, in order
+abbrev pub dials : Option ℕ → List Act
+dials None = []
+dials (Some uplink) = Dials uplink ∷ []
+
+-- a line with its end, in one datagram
+abbrev pub cast_act : CastSeen → Act
+cast_act cast = Casts cast.peer (ended_line cast.line)
+
+-- after a round: the dial, the casts, an offer to each such link, and then a close of each that the server ended, in order
 abbrev pub acts_after : Setting → Trace → List Act
-acts_after setting trace = map (offer_to setting trace) (offered_links setting trace) ++ map Closes (closed_links trace)
+acts_after setting trace =
+    dials (dial_of setting trace) ++ (map cast_act (casts_of setting trace) ++ (map (offer_to setting trace) (offered_links setting trace) ++ map Closes (closed_links trace)))
 
 abbrev pub but_first : List Act → List Act
 but_first [] = []
@@ -51,32 +63,23 @@ due setting (did.Closed link ∷ earlier) = but_first (due setting earlier)
 due setting (did.Dialled uplink ∷ earlier) = but_first (due setting earlier)
 due setting (did.Cast peer bytes ∷ earlier) = but_first (due setting earlier)
 
--- a happening may come next: it is the first act due, or none is due, Stop hasn't come, and it is an event
+-- a happening is what an act asks for
+abbrev pub Fulfils : Act → Happening → Type 0
+Fulfils (Listens n) (did.Listen m) = m ≡ n
+Fulfils (Dials uplink) (did.Dialled dialled) = dialled ≡ uplink
+Fulfils (Casts peer bytes) (did.Cast to given) = (to ≡ peer) × (given ≡ bytes)
+Fulfils (Offers link bytes) (did.Sent to given outcome) = (to ≡ link) × (given ≡ bytes) × IsOutcome given outcome
+Fulfils (Closes link) (did.Closed closed) = closed ≡ link
+Fulfils act x = ⊥
+
+abbrev pub IsEvent : Happening → Type 0
+IsEvent (did.Event e) = ⊤
+IsEvent x = ⊥
+
+-- a happening may come next: it is what the first act due asks for, or none is due, Stop hasn't come, and it is an event
 abbrev pub MayCome : List Act → Bool → Happening → Type 0
-MayCome [] stopped (did.Event e) = stopped ≡ false
-MayCome [] stopped (did.Listen n) = ⊥
-MayCome [] stopped (did.Sent link bytes outcome) = ⊥
-MayCome [] stopped (did.Closed link) = ⊥
-MayCome [] stopped (did.Dialled uplink) = ⊥
-MayCome [] stopped (did.Cast peer bytes) = ⊥
-MayCome (Listens n ∷ acts) stopped (did.Listen m) = m ≡ n
-MayCome (Listens n ∷ acts) stopped (did.Event e) = ⊥
-MayCome (Listens n ∷ acts) stopped (did.Sent link bytes outcome) = ⊥
-MayCome (Listens n ∷ acts) stopped (did.Closed link) = ⊥
-MayCome (Listens n ∷ acts) stopped (did.Dialled uplink) = ⊥
-MayCome (Listens n ∷ acts) stopped (did.Cast peer bytes) = ⊥
-MayCome (Offers link bytes ∷ acts) stopped (did.Sent to given outcome) = (to ≡ link) × (given ≡ bytes) × IsOutcome given outcome
-MayCome (Offers link bytes ∷ acts) stopped (did.Event e) = ⊥
-MayCome (Offers link bytes ∷ acts) stopped (did.Listen n) = ⊥
-MayCome (Offers link bytes ∷ acts) stopped (did.Closed other) = ⊥
-MayCome (Offers link bytes ∷ acts) stopped (did.Dialled uplink) = ⊥
-MayCome (Offers link bytes ∷ acts) stopped (did.Cast peer sent) = ⊥
-MayCome (Closes link ∷ acts) stopped (did.Closed closed) = closed ≡ link
-MayCome (Closes link ∷ acts) stopped (did.Event e) = ⊥
-MayCome (Closes link ∷ acts) stopped (did.Listen n) = ⊥
-MayCome (Closes link ∷ acts) stopped (did.Sent to given outcome) = ⊥
-MayCome (Closes link ∷ acts) stopped (did.Dialled uplink) = ⊥
-MayCome (Closes link ∷ acts) stopped (did.Cast peer bytes) = ⊥
+MayCome [] stopped x = (stopped ≡ false) × IsEvent x
+MayCome (act ∷ acts) stopped x = Fulfils act x
 
 -- a run of the server
 abbrev pub IsRun : Setting → History → Type 0

@@ -1,5 +1,5 @@
 -- What every run keeps: the bytes that links take, whose packets their texts have, and why links end and are closed.
-use Rattle.std.specs.Prelude.{◌≡◌, ◌≢◌, ℕ, ◌==◌, ◌<◌, List, [], ◌∷◌, ◌++◌, take, Bool, true, false, IfSome, IsTrue, IsFalse, if◌then◌else◌, ⊤}
+use Rattle.std.specs.Prelude.{◌≡◌, ◌≢◌, ℕ, ◌==◌, ◌<◌, List, [], ◌∷◌, ◌++◌, take, Bool, true, false, Option, Some, None, IfSome, IsTrue, IsFalse, if◌then◌else◌, ⊤}
 use Rattle.std.specs.List.{All, list_any}
 use Rattle.aprs_base.specs.Outside.{new_link}
 use Rattle.aprs_base.specs.PacketSeen.{PacketSeen}
@@ -10,10 +10,10 @@ use Rattle.aprs_base.specs.declared.events.Sent.TheVariants as sent
 use Rattle.aprs_base.specs.declared.events.Happening.{Happening}
 use Rattle.aprs_base.specs.declared.events.Happening.TheVariants as did
 use Rattle.aprs_history.specs.Setting.{Setting}
-use Rattle.aprs_history.specs.Trace.{Trace, Entry, EndReason, ByPeer, FoundGone, NoLogin, Silent, Overfull, Full, ByStop, RoundBegan, Ended, is_closing, is_member, turned_links}
+use Rattle.aprs_history.specs.Trace.{Trace, Entry, EndReason, ByPeer, FoundGone, NoLogin, Silent, Overfull, Full, Unasked, ByStop, RoundBegan, Ended, is_closing, is_member, is_unasked, turned_links}
 use Rattle.aprs_history.specs.Links.{is_gone, is_nameless, is_silent}
 use Rattle.link_queue.specs.Lines.{text_bytes}
-use Rattle.aprs_history.specs.Texts.{TextLine, Relayed, lines_of, text_to, untaken}
+use Rattle.aprs_history.specs.Texts.{LineKind, TextLine, Relayed, Shown, lines_of, text_to, untaken}
 use Rattle.aprs_history.specs.History.{History, greatest_link, is_stopped, trace_of}
 use Rattle.aprs_history.specs.Acts.{IsRun}
 
@@ -42,9 +42,15 @@ TakesPrefix setting history link =
 abbrev pub LinksTakePrefixes : Type 0
 LinksTakePrefixes = (setting : Setting) (history : History) → IsRun setting history → HasFreshLinks history → (link : ℕ) → TakesPrefix setting history link
 
+-- the packet that a line of a text is
+abbrev pub packet_in : LineKind → Option PacketSeen
+packet_in (Relayed packet) = Some packet
+packet_in (Shown packet) = Some packet
+packet_in other = None
+
 -- a line isn't a packet that the link sent itself
 abbrev pub IsOfAnother : ℕ → TextLine → Type 0
-IsOfAnother link line = (packet : PacketSeen) → line.kind ≡ Relayed packet → packet.from ≢ source.Link link
+IsOfAnother link line = IfSome (packet_in line.kind) (λ packet. packet.from ≢ source.Link link)
 
 abbrev pub NoneHearThemselves : Type 0
 NoneHearThemselves = (setting : Setting) (trace : Trace) (link : ℕ) → All (IsOfAnother link) (text_to setting trace link).lines
@@ -76,9 +82,10 @@ abbrev pub EndsBy : Setting → History → Trace → ℕ → EndReason → Type
 EndsBy setting history earlier link ByPeer = IsTrue (list_any (is_end_by_peer link) history)
 EndsBy setting history earlier link FoundGone = IsTrue (is_gone earlier link)
 EndsBy setting history earlier link NoLogin = IsTrue (is_nameless earlier link)
-EndsBy setting history earlier link Silent = IsTrue (is_silent setting.client_timeout earlier link)
+EndsBy setting history earlier link Silent = IsTrue (is_silent setting earlier link)
 EndsBy setting history earlier link Overfull = IsTrue (text_to setting earlier link).over
 EndsBy setting history earlier link Full = IsTrue (is_member link (turned_links earlier))
+EndsBy setting history earlier link Unasked = IsTrue (is_unasked earlier link)
 EndsBy setting history earlier link ByStop = IsTrue (is_stopped history)
 
 -- a link ends only by its reason's rule

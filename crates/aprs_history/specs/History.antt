@@ -1,5 +1,5 @@
 -- Histories: what happened on a wire, the newest first; their rounds, and their traces.
-use Rattle.std.specs.Prelude.{ℕ, ◌==◌, ◌+◌, ◌/◌, ◌||◌, Bool, true, false, nat_lt, max, List, [], ◌∷◌, ◌++◌, length, Option, Some, None, if◌then◌else◌}
+use Rattle.std.specs.Prelude.{ℕ, ◌==◌, ◌+◌, ◌/◌, ◌||◌, Bool, true, false, nat_lt, max, List, [], ◌∷◌, ◌++◌, length, Option, Some, None, Result, Ok, Err, if◌then◌else◌}
 use Rattle.aprs_base.specs.Cuts.{cuts_by}
 use Rattle.aprs_base.specs.Outside.{new_link}
 use Rattle.aprs_base.specs.declared.cutting.Cut.{Cut}
@@ -10,13 +10,25 @@ use Rattle.aprs_base.specs.declared.events.Sent.TheVariants as sent
 use Rattle.aprs_base.specs.declared.events.Happening.{Happening}
 use Rattle.aprs_base.specs.declared.events.Happening.TheVariants as did
 use Rattle.aprs_base.specs.declared.packets.PortKind.{PortKind}
-use Rattle.aprs_history.specs.Setting.{Setting, kind_at}
-use Rattle.aprs_history.specs.Verdicts.{verdict_of}
+use Rattle.aprs_base.specs.declared.packets.PortKind.TheVariants as kind
+use Rattle.aprs_base.specs.declared.packets.Source.{Source}
+use Rattle.aprs_base.specs.declared.packets.Source.TheVariants as source
+use Rattle.aprs_base.specs.declared.texts.Addr.{Addr}
+use Rattle.q_construct.specs.declared.origins.Origin.TheVariants as origin
+use Rattle.uplinks_peers.specs.declared.uplinks.UpEvent.TheVariants as up
+use Rattle.uplinks_peers.specs.Uplinks.{acts_at}
+use Rattle.aprs_history.specs.Setting.{Setting, is_client_kind, kind_at, peer_from}
+use Rattle.aprs_history.specs.Verdicts.{Scene, submitter_of, verdict_of}
 use Rattle.aprs_history.specs.declared.verdicts.Admission.{Admission}
-use Rattle.aprs_history.specs.declared.verdicts.Admission.TheVariants.{NoPort, TurnedAway, Served}
-use Rattle.aprs_history.specs.Trace.{Trace, Entry, EndReason, ByPeer, FoundGone, Overfull, Full, ByStop, RoundBegan, Dated, Ticked, Opened, Brought, Said, Roomed, Took, Lost, Ended, live_links, is_live, is_member, moment_of, placed_all, turned_links}
-use Rattle.aprs_history.specs.Links.{brought_by, gone_links, late_links, late_reason}
-use Rattle.aprs_history.specs.Scenes.{scene_of}
+use Rattle.aprs_history.specs.declared.verdicts.Admission.TheVariants.{NoPort, NotAsked, TurnedAway, Served}
+use Rattle.aprs_history.specs.declared.verdicts.LinkKind.TheVariants.{Client, Uplink}
+use Rattle.aprs_history.specs.declared.verdicts.Refusal.{Refusal}
+use Rattle.aprs_history.specs.declared.verdicts.Refusal.TheVariants as refusal
+use Rattle.aprs_history.specs.declared.verdicts.Verdict.TheVariants.{Refused}
+use Rattle.aprs_history.specs.Trace.{Trace, Entry, EndReason, ByPeer, FoundGone, Overfull, Full, Unasked, ByStop, AtListener, ByUplink, RoundBegan, Dated, Looked, Unjoined, Ticked, Opened, Brought, Said, Roomed, Took, Lost, Ended, live_links, is_live, is_member, is_unasked, moment_of, placed_all, turned_links}
+use Rattle.aprs_history.specs.Links.{brought_by, client_links, gone_links, late_links, late_reason}
+use Rattle.aprs_history.specs.Scenes.{datagram_scene, scene_of}
+use Rattle.aprs_history.specs.Dials.{uplinks_of}
 use Rattle.aprs_history.specs.Texts.{over_links}
 
 abbrev pub History : Type 0
@@ -83,10 +95,10 @@ end_each reason (link ∷ links) trace = end_each reason links (Ended link (reas
 abbrev pub end_all : EndReason → List ℕ → Trace → Trace
 end_all reason links trace = end_each (λ link. reason) links trace
 
--- a link says these lines, one after another; each is judged by what came before it
-abbrev pub say_all : Setting → ℕ → List Cut → Trace → Trace
-say_all setting link [] trace = trace
-say_all setting link (cut ∷ cuts) trace = say_all setting link cuts (Said link cut (verdict_of (scene_of setting trace link) cut) ∷ trace)
+-- these lines are said from there, one after another; each is judged by what it meets
+abbrev pub say_all : (Trace → Scene) → Source → List Cut → Trace → Trace
+say_all scene from [] trace = trace
+say_all scene from (cut ∷ cuts) trace = say_all scene from cuts (Said from cut (verdict_of (scene trace) cut) ∷ trace)
 
 -- the links that were found gone end
 abbrev pub end_gone : Trace → Trace
@@ -101,7 +113,8 @@ abbrev pub refused_links : Setting → Trace → List ℕ
 refused_links setting trace = placed_all (turned_links trace) (over_links setting trace)
 
 abbrev pub refused_reason : Trace → ℕ → EndReason
-refused_reason trace link = if is_member link (turned_links trace) then Full else Overfull
+refused_reason trace link =
+    if is_member link (turned_links trace) then (if is_unasked trace link then Unasked else Full) else Overfull
 
 -- after a stop all links that live end
 abbrev pub end_stopped : Bool → Trace → Trace
@@ -115,42 +128,73 @@ end_round setting stop trace = end_stopped stop (end_each (refused_reason trace)
 -- a connection is served where the listener is one for clients, and fewer are there than may be
 abbrev pub admitted : ℕ → ℕ → Option PortKind → Admission
 admitted most there None = NoPort
-admitted most there (Some kind) = if nat_lt there most then Served kind else TurnedAway
+admitted most there (Some kind) = if is_client_kind kind then (if nat_lt there most then Served (Client kind) else TurnedAway) else NoPort
 
 abbrev pub admission : Setting → Trace → ℕ → Admission
-admission setting trace listener = admitted setting.max_clients (length (live_links trace)) (kind_at setting listener)
+admission setting trace listener = admitted setting.max_clients (length (client_links trace)) (kind_at setting listener)
+
+-- a link to an uplink is served where that uplink is being dialled
+abbrev pub joined_admission : Setting → Trace → ℕ → ℕ → Admission
+joined_admission setting trace uplink link =
+    if (acts_at (up.Joined uplink link) (moment_of trace) (uplinks_of setting trace)).login then Served (Uplink uplink) else NotAsked
 
 -- the seconds between two comment lines
 abbrev pub comment_seconds : ℕ
 comment_seconds = 20
 
--- the links that live are told the date where the moment has passed a border since
+-- the clients that live are told the date where the moment has passed a border since
 abbrev pub dated : ℕ → Trace → Trace
 dated before trace = if nat_lt (before / comment_seconds) (moment_of trace / comment_seconds) then Dated (moment_of trace) ∷ trace else trace
 
--- a tick: the moment goes on, links end by time, and the others are told the date
+-- a tick: the moment goes on, links end by time, the clients are told the date, and an uplink may be dialled
 abbrev pub with_tick : Setting → ℕ → Trace → Trace
 with_tick setting moment trace =
     let now = Ticked moment ∷ trace in
-    dated (moment_of trace) (end_each (late_reason now) (late_links setting.client_timeout now) now)
+    Looked ∷ dated (moment_of trace) (end_each (late_reason now) (late_links setting now) now)
 
 abbrev pub bring : Setting → ℕ → List ℕ → Trace → Trace
-bring setting link bytes trace = say_all setting link (cuts_by (brought_by trace link) bytes) (Brought link bytes ∷ trace)
+bring setting link bytes trace =
+    say_all (λ now. scene_of setting now link) (source.Link link) (cuts_by (brought_by trace link) bytes) (Brought link bytes ∷ trace)
 
 abbrev pub with_bytes_of : Setting → ℕ → List ℕ → Trace → Trace
 with_bytes_of setting link bytes trace = if is_live trace link then bring setting link bytes trace else trace
 
+-- the lines of a datagram, whose end ends the last one
+abbrev pub datagram_cuts : List ℕ → List Cut
+datagram_cuts bytes = cuts_by [] (bytes ++ 10 ∷ [])
+
+-- a datagram that is refused whole, for what its first line is
+abbrev pub refuse_datagram : ℕ → Cut → Refusal → Trace → Trace
+refuse_datagram listener cut why trace = Said (source.Submit listener) cut (Refused why) ∷ trace
+
+-- a station submits a datagram: after its login come its packets
+abbrev pub submit : Setting → ℕ → Cut → List Cut → Result (List ℕ) Refusal → Trace → Trace
+submit setting listener cut cuts (Err why) trace = refuse_datagram listener cut why trace
+submit setting listener cut cuts (Ok login) trace = say_all (datagram_scene setting (origin.Udp login)) (source.Submit listener) cuts trace
+
+-- a datagram comes to the peer group: where it is a peer's, its lines are packets
+abbrev pub relay : Setting → ℕ → Cut → List Cut → Option (ℕ × List ℕ) → Trace → Trace
+relay setting listener cut cuts None trace = refuse_datagram listener cut refusal.Stranger trace
+relay setting listener cut cuts (Some peer) trace = say_all (datagram_scene setting (origin.Peer peer.1)) (source.Peer peer.0) (cut ∷ cuts) trace
+
+-- a datagram with some line, on a listener of that kind
+abbrev pub with_lines : Setting → Option PortKind → ℕ → Addr → List Cut → Trace → Trace
+with_lines setting served listener from [] trace = trace
+with_lines setting (Some kind.Submit) listener from (cut ∷ cuts) trace = submit setting listener cut cuts (submitter_of setting.server cut) trace
+with_lines setting (Some kind.Core) listener from (cut ∷ cuts) trace = relay setting listener cut cuts (peer_from 0 setting.peers from) trace
+with_lines setting served listener from (cut ∷ cuts) trace = trace
+
 -- what an event adds; one that names a link that doesn't live adds nothing
 abbrev pub with_event : Setting → Event → Trace → Trace
 with_event setting (event.Tick moment) trace = with_tick setting moment trace
-with_event setting (event.Opened listener link from) trace = Opened listener (admission setting trace listener) link from ∷ trace
+with_event setting (event.Opened listener link from) trace = Opened (AtListener listener) (admission setting trace listener) link from ∷ trace
 with_event setting (event.Bytes link bytes) trace = with_bytes_of setting link bytes trace
 with_event setting (event.Ended link) trace = if is_live trace link then Ended link ByPeer ∷ trace else trace
 with_event setting (event.Room link) trace = if is_live trace link then Roomed link ∷ trace else trace
 with_event setting event.Stop trace = trace
-with_event setting (event.Joined uplink link at) trace = trace
-with_event setting (event.Unjoined uplink) trace = trace
-with_event setting (event.Datagram listener from bytes) trace = trace
+with_event setting (event.Joined uplink link at) trace = Opened (ByUplink uplink) (joined_admission setting trace uplink link) link at ∷ trace
+with_event setting (event.Unjoined uplink) trace = Unjoined uplink ∷ trace
+with_event setting (event.Datagram listener from bytes) trace = with_lines setting (kind_at setting listener) listener from (datagram_cuts bytes) trace
 
 -- the trace where an event comes after so many in its round
 abbrev pub begun : ℕ → Trace → Trace

@@ -15,3 +15,4 @@ pub mod Stands
 pub mod Texts
 pub mod Trace
 pub mod Verdicts
+pub mod Dials

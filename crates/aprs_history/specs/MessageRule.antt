@@ -22,14 +22,14 @@ HeardIsLastAccepted = (setting : Setting) (history : History) (later trace : Tra
 -- an entry accepts a message of the sender that goes to the link for what it heard
 abbrev pub is_routed_message : Trace → Entry → ℕ → List ℕ → Bool
 is_routed_message earlier (Said from cut (Accepted parts line)) link sender =
-    is_text sender parts.source && promises earlier from (packet_of from (moment_of earlier) parts line) link
+    is_text sender parts.source && promises earlier (packet_of from (moment_of earlier) parts line) link
 is_routed_message earlier entry link sender = false
 
 -- an entry accepts a position of the sender, from whichever link, or opens the link
 abbrev pub ends_promise : Trace → Entry → ℕ → List ℕ → Bool
 ends_promise earlier (Said from cut (Accepted parts line)) link sender =
     is_text sender parts.source && is_position (packet_of from (moment_of earlier) parts line)
-ends_promise earlier (Opened listener admission opened from) link sender = link == opened
+ends_promise earlier (Opened door admission opened from) link sender = link == opened
 ends_promise earlier entry link sender = false
 
 -- none of these later entries is a message that makes the promise anew, nor ends it

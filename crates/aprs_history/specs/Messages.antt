@@ -2,6 +2,7 @@
 use Rattle.std.specs.Prelude.{ℕ, ◌==◌, ◌&&◌, ◌||◌, Bool, false, not, List, [], ◌∷◌, Option, Some, None, if◌then◌else◌}
 use Rattle.aprs_base.specs.Bytes.{is_call}
 use Rattle.aprs_base.specs.PacketSeen.{PacketSeen}
+use Rattle.aprs_base.specs.declared.packets.Source.{Source}
 use Rattle.aprs_body.specs.Classes.{message_bit, position_bit}
 use Rattle.filter_eval.specs.Passes.{has_class, is_some_and}
 use Rattle.heard_routing.specs.Heard.{heard_age, is_recent, promise_age}
@@ -9,9 +10,9 @@ use Rattle.aprs_history.specs.Keys.{is_text}
 use Rattle.aprs_history.specs.declared.verdicts.Session.{Session}
 use Rattle.aprs_history.specs.declared.verdicts.Verdict.{Verdict}
 use Rattle.aprs_history.specs.declared.verdicts.Verdict.TheVariants.{PassedOver, Refused, LoggedIn, Filtered, Accepted}
-use Rattle.aprs_history.specs.Trace.{Trace, Opened, Said, is_live, moment_of}
-use Rattle.aprs_history.specs.Links.{opening_of, session_of}
-use Rattle.aprs_history.specs.Scenes.{has_filters, packet_of}
+use Rattle.aprs_history.specs.Trace.{Trace, Opened, Said, is_from, is_live, moment_of}
+use Rattle.aprs_history.specs.Links.{has_filters, opening_of, session_of}
+use Rattle.aprs_history.specs.Scenes.{packet_of}
 
 abbrev pub is_message : PacketSeen → Bool
 is_message packet = has_class packet.body.class message_bit
@@ -21,8 +22,8 @@ is_position packet = has_class packet.body.class position_bit
 
 -- ---- what a link heard
 
-abbrev pub heard_after : ℕ → ℕ → Verdict → ℕ → List ℕ → Option ℕ → Option ℕ
-heard_after now from (Accepted parts line) link call before = if link == from && is_text call parts.source then Some now else before
+abbrev pub heard_after : ℕ → Source → Verdict → ℕ → List ℕ → Option ℕ → Option ℕ
+heard_after now from (Accepted parts line) link call before = if is_from link from && is_text call parts.source then Some now else before
 heard_after now from PassedOver link call before = before
 heard_after now from (Refused refusal) link call before = before
 heard_after now from (LoggedIn session answer) link call before = before
@@ -31,7 +32,7 @@ heard_after now from (Filtered answer) link call before = before
 -- when a packet of that source was last accepted from a link
 abbrev pub heard_of : Trace → ℕ → List ℕ → Option ℕ
 heard_of [] link call = None
-heard_of (Opened listener admission opened from ∷ earlier) link call = if link == opened then None else heard_of earlier link call
+heard_of (Opened door admission opened from ∷ earlier) link call = if link == opened then None else heard_of earlier link call
 heard_of (Said from cut verdict ∷ earlier) link call = heard_after (moment_of earlier) from verdict link call (heard_of earlier link call)
 heard_of (entry ∷ earlier) link call = heard_of earlier link call
 
@@ -53,18 +54,18 @@ is_to_heard trace packet link = is_message packet && is_some_and (has_heard trac
 -- ---- courtesy
 
 -- a message went to a link since it had heard the receiver: its sender's next position is to go there too
-abbrev pub promises : Trace → ℕ → PacketSeen → ℕ → Bool
-promises trace from packet link =
-    not (from == link) && is_live trace link && has_filters (opening_of trace link) && is_to_heard trace packet link
+abbrev pub promises : Trace → PacketSeen → ℕ → Bool
+promises trace packet link =
+    not (is_from link packet.from) && is_live trace link && has_filters (opening_of trace link) && is_to_heard trace packet link
 
 -- a message makes a promise, and a position spends it
 abbrev pub promise_after : Bool → Bool → ℕ → Option ℕ → Option ℕ
 promise_after promised spent now before = if promised then Some now else if spent then None else before
 
-abbrev pub promise_by : Trace → ℕ → Verdict → ℕ → List ℕ → Option ℕ → Option ℕ
+abbrev pub promise_by : Trace → Source → Verdict → ℕ → List ℕ → Option ℕ → Option ℕ
 promise_by earlier from (Accepted parts line) link sender before =
     let packet = packet_of from (moment_of earlier) parts line in
-    if is_text sender parts.source then promise_after (promises earlier from packet link) (is_position packet) (moment_of earlier) before else before
+    if is_text sender parts.source then promise_after (promises earlier packet link) (is_position packet) (moment_of earlier) before else before
 promise_by earlier from PassedOver link sender before = before
 promise_by earlier from (Refused refusal) link sender before = before
 promise_by earlier from (LoggedIn session answer) link sender before = before
@@ -73,7 +74,7 @@ promise_by earlier from (Filtered answer) link sender before = before
 -- when a message of that sender last went to a link by hearing, with no position of the sender since
 abbrev pub promise_of : Trace → ℕ → List ℕ → Option ℕ
 promise_of [] link sender = None
-promise_of (Opened listener admission opened from ∷ earlier) link sender = if link == opened then None else promise_of earlier link sender
+promise_of (Opened door admission opened from ∷ earlier) link sender = if link == opened then None else promise_of earlier link sender
 promise_of (Said from cut verdict ∷ earlier) link sender = promise_by earlier from verdict link sender (promise_of earlier link sender)
 promise_of (entry ∷ earlier) link sender = promise_of earlier link sender
 

@@ -2,26 +2,30 @@
 use Rattle.std.specs.Prelude.{ℕ, Bool, true, false, List, [], ◌∷◌, ◌++◌, Option, Some, None, filter, if◌then◌else◌}
 use Rattle.std.specs.List.{flat_map}
 use Rattle.aprs_base.specs.PacketSeen.{PacketSeen}
-use Rattle.aprs_base.specs.declared.packets.PortKind.{PortKind}
 use Rattle.aprs_base.specs.declared.packets.PortKind.TheVariants as kind
-use Rattle.aprs_base.specs.declared.packets.Source.TheVariants as source
+use Rattle.aprs_base.specs.declared.packets.Source.{Source}
+use Rattle.aprs_base.specs.declared.texts.Addr.{Addr}
 use Rattle.aprs_body.specs.Bodies.{body_of}
 use Rattle.aprs_base.specs.declared.packets.Parts.{Parts}
-use Rattle.aprs_history.specs.Setting.{Setting, is_filter_kind}
+use Rattle.q_construct.specs.declared.origins.Origin.{Origin}
+use Rattle.q_construct.specs.declared.origins.Origin.TheVariants as origin
+use Rattle.aprs_history.specs.Setting.{Setting}
+use Rattle.aprs_history.specs.declared.verdicts.LinkKind.{LinkKind}
+use Rattle.aprs_history.specs.declared.verdicts.LinkKind.TheVariants.{Client, Uplink}
 use Rattle.aprs_history.specs.declared.verdicts.Session.{Session}
 use Rattle.aprs_history.specs.declared.verdicts.Verdict.{Verdict}
 use Rattle.aprs_history.specs.declared.verdicts.Verdict.TheVariants.{PassedOver, Refused, LoggedIn, Filtered, Accepted}
 use Rattle.aprs_history.specs.Trace.{Trace, Said, live_links, is_other, moment_of}
 use Rattle.aprs_history.specs.Links.{Opening, opening_of, session_of}
-use Rattle.aprs_history.specs.Verdicts.{Scene}
+use Rattle.aprs_history.specs.Verdicts.{Carrier, Scene, Speaker, Visitor}
 
--- a packet of a link as it is accepted
-abbrev pub packet_of : ℕ → ℕ → Parts → List ℕ → PacketSeen
+-- a packet as it is accepted from there
+abbrev pub packet_of : Source → ℕ → Parts → List ℕ → PacketSeen
 packet_of from moment parts line =
-    record { from = source.Link from; moment = moment; parts = parts; body = body_of parts.dest parts.body; line = line }
+    record { from = from; moment = moment; parts = parts; body = body_of parts.dest parts.body; line = line }
 
 -- the packet that a verdict accepts
-abbrev pub accepted_by : ℕ → ℕ → Verdict → List PacketSeen
+abbrev pub accepted_by : Source → ℕ → Verdict → List PacketSeen
 accepted_by from moment PassedOver = []
 accepted_by from moment (Refused refusal) = []
 accepted_by from moment (LoggedIn session answer) = []
@@ -39,34 +43,39 @@ abbrev pub verified_login : Option Session → List (List ℕ)
 verified_login None = []
 verified_login (Some session) = if session.verified then session.call ∷ [] else []
 
+-- the logins of those of these links that are verified
+abbrev pub logins_of : Trace → List ℕ → List (List ℕ)
+logins_of trace links = flat_map (λ link. verified_login (session_of trace link)) links
+
 -- the logins of the verified links that live, but this one
 abbrev pub others_of : Trace → ℕ → List (List ℕ)
-others_of trace link = flat_map (λ other. verified_login (session_of trace other)) (filter (is_other link) (live_links trace))
+others_of trace link = logins_of trace (filter (is_other link) (live_links trace))
 
--- the kind of port that only serves clients
-abbrev pub is_only_kind : PortKind → Bool
-is_only_kind kind.Only = true
-is_only_kind kind.Full = false
-is_only_kind kind.Igate = false
-is_only_kind kind.Dupe = false
-is_only_kind kind.Submit = false
-is_only_kind kind.Core = false
+-- who speaks on a link
+abbrev pub speaker_by : LinkKind → Addr → Option Session → Speaker
+speaker_by (Client kind) from session = Visitor kind session
+speaker_by (Uplink uplink) from session = Carrier (origin.Uplink from)
 
-abbrev pub is_only : Option Opening → Bool
-is_only None = false
-is_only (Some opening) = is_only_kind opening.kind
+abbrev pub speaker_of : Option Opening → Option Session → Speaker
+speaker_of None session = Visitor kind.Full session
+speaker_of (Some opening) session = speaker_by opening.kind opening.from session
 
-abbrev pub has_filters : Option Opening → Bool
-has_filters None = false
-has_filters (Some opening) = is_filter_kind opening.kind
-
+-- what a line of a link meets
 abbrev pub scene_of : Setting → Trace → ℕ → Scene
 scene_of setting trace link = record {
   server = setting.server;
-  only = is_only (opening_of trace link);
-  filters = has_filters (opening_of trace link);
-  session = session_of trace link;
+  speaker = speaker_of (opening_of trace link) (session_of trace link);
   others = others_of trace link;
+  moment = moment_of trace;
+  accepted = accepted_of trace;
+}
+
+-- what a line of a datagram meets
+abbrev pub datagram_scene : Setting → Origin → Trace → Scene
+datagram_scene setting origin trace = record {
+  server = setting.server;
+  speaker = Carrier origin;
+  others = logins_of trace (live_links trace);
   moment = moment_of trace;
   accepted = accepted_of trace;
 }

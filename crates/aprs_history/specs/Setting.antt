@@ -1,9 +1,10 @@
 -- What a history is judged by: the server and its passcode, where it listens, the servers that it speaks to, and its limits.
-use Rattle.std.specs.Prelude.{ℕ, Bool, true, false, List, Option, Some, None, slice_get}
+use Rattle.std.specs.Prelude.{ℕ, ◌==◌, ◌+◌, ◌&&◌, Bool, true, false, List, [], ◌∷◌, Option, Some, None, slice_get, if◌then◌else◌}
+use Rattle.std.specs.Cmp.Lexicographic.{pointwise}
 use Rattle.aprs_base.specs.declared.packets.ListenSpec.{ListenSpec}
 use Rattle.aprs_base.specs.declared.packets.PortKind.{PortKind}
 use Rattle.aprs_base.specs.declared.packets.PortKind.TheVariants as kind
-use Rattle.aprs_base.specs.declared.packets.UplinkSpec.{UplinkSpec}
+use Rattle.aprs_base.specs.UplinkSeen.{UplinkSeen}
 use Rattle.aprs_base.specs.declared.texts.Addr.{Addr}
 
 -- a server with which datagrams are exchanged
@@ -17,34 +18,60 @@ pub record Setting : Type 0 where
   pub code : ℕ
   -- the numbered listeners, and last that of the peer group, where there is one
   pub listens : List ListenSpec
-  pub uplinks : List UplinkSpec
+  pub uplinks : List UplinkSeen
   pub peers : List Peer
   pub up_timeout : ℕ
   pub client_timeout : ℕ
   pub max_clients : ℕ
 
--- the kinds of port to which clients connect; datagrams come to the others
-abbrev pub client_kind : PortKind → Option PortKind
-client_kind kind.Full = Some kind.Full
-client_kind kind.Igate = Some kind.Igate
-client_kind kind.Only = Some kind.Only
-client_kind kind.Dupe = Some kind.Dupe
-client_kind kind.Submit = None
-client_kind kind.Core = None
-
 abbrev pub kind_of_spec : Option ListenSpec → Option PortKind
 kind_of_spec None = None
-kind_of_spec (Some spec) = client_kind spec.kind
+kind_of_spec (Some spec) = Some spec.kind
 
--- what the listener of that number serves to clients
+-- what the listener of that number serves
 abbrev pub kind_at : Setting → ℕ → Option PortKind
 kind_at setting listener = kind_of_spec (slice_get setting.listens listener)
 
+-- the kinds of port to which clients connect; datagrams come to the others
+abbrev pub is_client_kind : PortKind → Bool
+is_client_kind kind.Full = true
+is_client_kind kind.Igate = true
+is_client_kind kind.Only = true
+is_client_kind kind.Dupe = true
+is_client_kind kind.Submit = false
+is_client_kind kind.Core = false
+
 -- the kinds of port whose links have a filter
 abbrev pub is_filter_kind : PortKind → Bool
+is_filter_kind kind.Full = false
 is_filter_kind kind.Igate = true
 is_filter_kind kind.Only = true
-is_filter_kind kind.Full = false
 is_filter_kind kind.Dupe = false
 is_filter_kind kind.Submit = false
 is_filter_kind kind.Core = false
+
+-- the kind of port that only serves clients
+abbrev pub is_only_kind : PortKind → Bool
+is_only_kind kind.Full = false
+is_only_kind kind.Igate = false
+is_only_kind kind.Only = true
+is_only_kind kind.Dupe = false
+is_only_kind kind.Submit = false
+is_only_kind kind.Core = false
+
+-- the kind of port that only shows refused duplicates
+abbrev pub is_dupe_kind : PortKind → Bool
+is_dupe_kind kind.Full = false
+is_dupe_kind kind.Igate = false
+is_dupe_kind kind.Only = false
+is_dupe_kind kind.Dupe = true
+is_dupe_kind kind.Submit = false
+is_dupe_kind kind.Core = false
+
+abbrev pub is_same_addr : Addr → Addr → Bool
+is_same_addr a b = pointwise ◌==◌ a.ip b.ip && a.port == b.port
+
+-- the number and the call of the first peer that has this address, port and all
+abbrev pub peer_from : ℕ → List Peer → Addr → Option (ℕ × List ℕ)
+peer_from n [] at = None
+peer_from n (peer ∷ peers) at = if is_same_addr peer.at at then Some (n, peer.call) else peer_from (n + 1) peers at

@@ -11,8 +11,10 @@ use Rattle.heard_routing.specs.Heard.{HeardSeen, heard_at, promised_at}
 use Rattle.aprs_history.specs.Setting.{Setting}
 use Rattle.aprs_history.specs.declared.verdicts.Session.{Session}
 use Rattle.aprs_history.specs.Trace.{Trace, closed_links, is_live, moment_of, served_links, turned_links}
-use Rattle.aprs_history.specs.Links.{Opening, opening_of, last_heard, brought_by, session_of, filter_of, taken_by, is_blocked, is_gone}
+use Rattle.aprs_history.specs.Links.{Opening, is_client, opening_of, last_heard, brought_by, session_of, filter_of, taken_by, is_blocked, is_gone}
 use Rattle.aprs_history.specs.Scenes.{accepted_of}
+use Rattle.uplinks_peers.specs.Uplinks.{UplinksSeen}
+use Rattle.aprs_history.specs.Dials.{CastSeen, casts_of, dial_of, uplinks_of}
 use Rattle.aprs_history.specs.Sights.{friends_of, own_place}
 use Rattle.aprs_history.specs.Messages.{heard_of, promise_of}
 use Rattle.link_queue.specs.Lines.{Queued, queued, text_bytes}
@@ -34,10 +36,17 @@ pub record LinkSeen : Type 0 where
   pub blocked : Bool
   pub gone : Bool
 
+-- what a core keeps for other servers: its uplinks, and what the last round has for them
+pub record ReachSeen : Type 0 where
+  pub uplinks : UplinksSeen
+  pub dial : Option ℕ
+  pub casts : List CastSeen
+
 -- what a core keeps
 pub record CoreSeen : Type 0 where
   pub moment : ℕ
   pub links : List LinkSeen
+  pub reach : ReachSeen
   -- the links that were turned away in this round, and those that ended in it and are to be closed
   pub turned : List ℕ
   pub closing : List ℕ
@@ -70,11 +79,12 @@ link_seen setting trace link = record {
 abbrev pub TookNoMore : Setting → Trace → Type 0
 TookNoMore setting trace = (link : ℕ) → taken_by trace link ≤ length (text_bytes (lines_of setting trace link))
 
--- a table has once each when the links that live last heard each call, and what they were last promised; and nothing of other links
+-- a table has once each when the clients that live last heard each call, and what the links that live were last promised; and
+-- nothing of other links
 pub record Remembers (table : HeardSeen) (trace : Trace) : Type 0 where
   pub once_heard : HasEachOnce table.heard
   pub once_promised : HasEachOnce table.promises
-  pub heard : (link : ℕ) (call : List ℕ) → heard_at table link call ≡ (if is_live trace link then heard_of trace link call else None)
+  pub heard : (link : ℕ) (call : List ℕ) → heard_at table link call ≡ (if is_client trace link then heard_of trace link call else None)
   pub promised : (link : ℕ) (sender : List ℕ) → promised_at table link sender ≡ (if is_live trace link then promise_of trace link sender else None)
 
 -- the tables have the accepted packets, and what they told of stations and links
@@ -83,9 +93,14 @@ pub record Keeps (packets : List PacketSeen) (sights : StationsSeen) (routes : H
   pub stations : Agrees sights (accepted_of trace)
   pub heard : Remembers routes trace
 
+-- what there is for other servers
+abbrev pub reach_of : Setting → Trace → ReachSeen
+reach_of setting trace = record { uplinks = uplinks_of setting trace; dial = dial_of setting trace; casts = casts_of setting trace }
+
 -- the points of a core that hold after each entry of a trace
 pub record Follows (setting : Setting) (core : CoreSeen) (trace : Trace) : Type 0 where
   pub moment : core.moment ≡ moment_of trace
+  pub reach : core.reach ≡ reach_of setting trace
   pub turned : core.turned ≡ turned_links trace
   pub closing : core.closing ≡ closed_links trace
   pub links : core.links ≡ map (link_seen setting trace) (served_links trace)

@@ -4,9 +4,12 @@ use Rattle.std.specs.Fmt.{decimal}
 use Rattle.aprs_base.specs.PacketSeen.{PacketSeen}
 use Rattle.aprs_base.specs.declared.packets.PortKind.{PortKind}
 use Rattle.aprs_base.specs.declared.packets.PortKind.TheVariants as kind
+use Rattle.aprs_base.specs.declared.packets.Source.{Source}
 use Rattle.link_queue.specs.Lines.{queued, text_bytes}
 use Rattle.aprs_history.specs.Dates.{comment_text}
-use Rattle.aprs_history.specs.Setting.{Setting}
+use Rattle.aprs_history.specs.Setting.{Setting, is_dupe_kind}
+use Rattle.aprs_history.specs.declared.verdicts.LinkKind.{LinkKind}
+use Rattle.aprs_history.specs.declared.verdicts.LinkKind.TheVariants.{Client, Uplink}
 use Rattle.login_pass.specs.declared.login_line.LoginFault.{LoginFault}
 use Rattle.login_pass.specs.declared.login_line.LoginFault.TheVariants as fault
 use Rattle.aprs_history.specs.declared.verdicts.FilterAnswer.{FilterAnswer}
@@ -19,9 +22,9 @@ use Rattle.aprs_history.specs.declared.verdicts.Refusal.TheVariants as refusal
 use Rattle.aprs_history.specs.declared.verdicts.Verdict.{Verdict}
 use Rattle.aprs_history.specs.declared.verdicts.Verdict.TheVariants.{PassedOver, Refused, LoggedIn, Filtered, Accepted}
 use Rattle.aprs_history.specs.declared.verdicts.Admission.{Admission}
-use Rattle.aprs_history.specs.declared.verdicts.Admission.TheVariants.{NoPort, TurnedAway, Served}
-use Rattle.aprs_history.specs.Trace.{Trace, Opened, Said, Dated, is_live, live_links, moment_of}
-use Rattle.aprs_history.specs.Links.{Opening, opening_of, session_of, taken_by}
+use Rattle.aprs_history.specs.declared.verdicts.Admission.TheVariants.{NoPort, NotAsked, TurnedAway, Served}
+use Rattle.aprs_history.specs.Trace.{Trace, Opened, Said, Dated, is_from, is_live, live_links, moment_of}
+use Rattle.aprs_history.specs.Links.{Opening, is_client, is_submitted, opening_of, session_of, taken_by}
 use Rattle.aprs_history.specs.Scenes.{packet_of}
 use Rattle.aprs_history.specs.Messages.{is_asked}
 use Rattle.aprs_history.specs.Sights.{filter_passes}
@@ -52,6 +55,8 @@ abbrev pub refusal_reply : Refusal → Option (List ℕ)
 refusal_reply (refusal.Login why) = Some (refused_login (fault_word why))
 refusal_reply refusal.OwnName = Some (refused_login (codes "own name"))
 refusal_reply refusal.Long = None
+refusal_reply refusal.ReadOnly = None
+refusal_reply refusal.Stranger = None
 refusal_reply (refusal.Packet why) = None
 refusal_reply (refusal.Path why) = None
 refusal_reply (refusal.Duplicate parts line) = None
@@ -82,9 +87,12 @@ filter_reply (Denied why) = refused_filter (filter_words why)
 -- where a line of a text comes from
 pub data LineKind : Type 0 where
   Banner : LineKind
+  Login : LineKind
   Reply : LineKind
   Comment : LineKind
   Relayed : (packet : PacketSeen) → LineKind
+  -- a refused duplicate
+  Shown : (packet : PacketSeen) → LineKind
 
 pub record TextLine : Type 0 where
   pub kind : LineKind
@@ -96,6 +104,9 @@ reply_of line = record { kind = Reply; line = line }
 abbrev pub relayed : PacketSeen → TextLine
 relayed packet = record { kind = Relayed packet; line = packet.line }
 
+abbrev pub shown : PacketSeen → TextLine
+shown packet = record { kind = Shown packet; line = packet.line }
+
 abbrev pub login_filter_reply : Option FilterAnswer → List TextLine
 login_filter_reply None = []
 login_filter_reply (Some answer) = reply_of (filter_reply answer) ∷ []
@@ -104,39 +115,73 @@ abbrev pub reply_lines : Option (List ℕ) → List TextLine
 reply_lines None = []
 reply_lines (Some line) = reply_of line ∷ []
 
-abbrev pub banner_of : Admission → List TextLine
-banner_of NoPort = []
-banner_of TurnedAway = []
-banner_of (Served kind) = record { kind = Banner; line = banner } ∷ []
+-- the line by which the server logs in at an uplink
+abbrev pub uplink_login : Setting → List ℕ
+uplink_login setting = codes "user " ++ (setting.server ++ (codes " pass " ++ (decimal setting.code ++ codes " vers aprsc 1.0")))
+
+-- what the text of a link begins with
+abbrev pub first_line : Setting → LinkKind → TextLine
+first_line setting (Client port) = record { kind = Banner; line = banner }
+first_line setting (Uplink uplink) = record { kind = Login; line = uplink_login setting }
+
+abbrev pub first_lines : Setting → Admission → List TextLine
+first_lines setting NoPort = []
+first_lines setting TurnedAway = []
+first_lines setting NotAsked = []
+first_lines setting (Served link) = first_line setting link ∷ []
 
 -- whether a port of that kind sends an accepted packet of another link, as the link's filter or the message rule asks for it or not
-abbrev pub kind_wants : PortKind → Bool → Bool
-kind_wants kind.Full asked = true
-kind_wants kind.Igate asked = asked
-kind_wants kind.Only asked = asked
-kind_wants kind.Dupe asked = false
-kind_wants kind.Submit asked = false
-kind_wants kind.Core asked = false
+abbrev pub port_wants : PortKind → (asked : Bool) → Bool
+port_wants kind.Full asked = true
+port_wants kind.Igate asked = asked
+port_wants kind.Only asked = asked
+port_wants kind.Dupe asked = false
+port_wants kind.Submit asked = false
+port_wants kind.Core asked = false
 
-abbrev pub port_wants : Option Opening → Bool → Bool
-port_wants None asked = false
-port_wants (Some opening) asked = kind_wants opening.kind asked
+-- a client's port must want it, and the client must have logged in; an uplink is sent what was submitted here
+abbrev pub link_wants : LinkKind → (named submitted asked : Bool) → Bool
+link_wants (Client port) named submitted asked = named && port_wants port asked
+link_wants (Uplink uplink) named submitted asked = submitted
 
--- whether a link is sent an accepted packet: it lives, has logged in, isn't the one that it came from, and its port wants it
-abbrev pub wants : Trace → ℕ → PacketSeen → ℕ → Bool
-wants trace from packet link =
-    not (from == link) && is_live trace link && is_some (session_of trace link) && port_wants (opening_of trace link) (filter_passes trace packet link || is_asked trace packet link)
+abbrev pub opening_wants : Option Opening → (named submitted asked : Bool) → Bool
+opening_wants None named submitted asked = false
+opening_wants (Some opening) named submitted asked = link_wants opening.kind named submitted asked
 
--- what a verdict on a line of one link adds to the text of another or of the same
-abbrev pub added_by : Setting → Trace → ℕ → Verdict → ℕ → List TextLine
+-- whether a link is sent an accepted packet: it lives, isn't the one that it came from, and wants it
+abbrev pub wants : Trace → PacketSeen → ℕ → Bool
+wants trace packet link =
+    not (is_from link packet.from) && is_live trace link
+    && opening_wants (opening_of trace link) (is_some (session_of trace link)) (is_submitted trace packet.from) (filter_passes trace packet link || is_asked trace packet link)
+
+-- a client that is shown the duplicates that others are refused
+abbrev pub is_dupe_of : LinkKind → Bool
+is_dupe_of (Client port) = is_dupe_kind port
+is_dupe_of (Uplink uplink) = false
+
+abbrev pub shows_duplicates : Option Opening → Option Session → Bool
+shows_duplicates None session = false
+shows_duplicates (Some opening) session = is_dupe_of opening.kind && is_some session
+
+abbrev pub is_shown : Trace → Source → ℕ → Bool
+is_shown trace from link = not (is_from link from) && is_live trace link && shows_duplicates (opening_of trace link) (session_of trace link)
+
+-- what a refusal adds to the text of the link whose line it is, and to those of others
+abbrev pub refused_lines : Trace → Source → Refusal → ℕ → List TextLine
+refused_lines earlier from (refusal.Duplicate parts line) link =
+    if is_shown earlier from link then shown (packet_of from (moment_of earlier) parts line) ∷ [] else []
+refused_lines earlier from why link = if is_from link from then reply_lines (refusal_reply why) else []
+
+-- what a verdict on a line adds to the text of a link
+abbrev pub added_by : Setting → Trace → Source → Verdict → ℕ → List TextLine
 added_by setting earlier from PassedOver link = []
-added_by setting earlier from (Refused why) link = if link == from then reply_lines (refusal_reply why) else []
+added_by setting earlier from (Refused why) link = refused_lines earlier from why link
 added_by setting earlier from (LoggedIn session answer) link =
-    if link == from then reply_of (login_reply setting.server session) ∷ login_filter_reply answer else []
-added_by setting earlier from (Filtered answer) link = if link == from then reply_of (filter_reply answer) ∷ [] else []
+    if is_from link from then reply_of (login_reply setting.server session) ∷ login_filter_reply answer else []
+added_by setting earlier from (Filtered answer) link = if is_from link from then reply_of (filter_reply answer) ∷ [] else []
 added_by setting earlier from (Accepted parts line) link =
     let packet = packet_of from (moment_of earlier) parts line in
-    if wants earlier from packet link then relayed packet ∷ [] else []
+    if wants earlier packet link then relayed packet ∷ [] else []
 
 -- the comment line that tells the date
 abbrev pub comment_line : List ℕ → ℕ → TextLine
@@ -174,12 +219,12 @@ with_text_lines taken (line ∷ lines) text = with_text_lines taken lines (with_
 
 abbrev pub text_to : Setting → Trace → ℕ → Text
 text_to setting [] link = record { lines = []; over = false }
-text_to setting (Opened listener admission opened from ∷ earlier) link =
-    if link == opened then record { lines = banner_of admission; over = false } else text_to setting earlier link
+text_to setting (Opened door admission opened from ∷ earlier) link =
+    if link == opened then record { lines = first_lines setting admission; over = false } else text_to setting earlier link
 text_to setting (Said from cut verdict ∷ earlier) link =
     with_text_lines (taken_by earlier link) (added_by setting earlier from verdict link) (text_to setting earlier link)
 text_to setting (Dated moment ∷ earlier) link =
-    with_text_lines (taken_by earlier link) (if is_live earlier link then comment_line setting.server moment ∷ [] else []) (text_to setting earlier link)
+    with_text_lines (taken_by earlier link) (if is_client earlier link then comment_line setting.server moment ∷ [] else []) (text_to setting earlier link)
 text_to setting (entry ∷ earlier) link = text_to setting earlier link
 
 -- the links that are overfull

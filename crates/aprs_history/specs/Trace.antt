@@ -3,8 +3,10 @@ use Rattle.std.specs.Prelude.{ℕ, ◌==◌, Bool, true, false, not, nat_le, Lis
 use Rattle.std.specs.List.{list_any}
 use Rattle.aprs_base.specs.declared.texts.Addr.{Addr}
 use Rattle.aprs_base.specs.declared.cutting.Cut.{Cut}
+use Rattle.aprs_base.specs.declared.packets.Source.{Source}
+use Rattle.aprs_base.specs.declared.packets.Source.TheVariants as source
 use Rattle.aprs_history.specs.declared.verdicts.Admission.{Admission}
-use Rattle.aprs_history.specs.declared.verdicts.Admission.TheVariants.{NoPort, Served, TurnedAway}
+use Rattle.aprs_history.specs.declared.verdicts.Admission.TheVariants.{NoPort, NotAsked, Served, TurnedAway}
 use Rattle.aprs_history.specs.declared.verdicts.Verdict.{Verdict}
 
 -- why a link ended
@@ -16,23 +18,33 @@ pub data EndReason : Type 0 where
   Silent : EndReason
   -- it takes its text too slowly
   Overfull : EndReason
-  -- it was turned away
+  -- it was turned away, or nobody had asked for it
   Full : EndReason
+  Unasked : EndReason
   ByStop : EndReason
+
+-- where a link comes from: it was opened at a listener, or an uplink has joined
+pub data Door : Type 0 where
+  AtListener : (listener : ℕ) → Door
+  ByUplink : (uplink : ℕ) → Door
 
 pub data Entry : Type 0 where
   -- the entries of a round stand after this one
   RoundBegan : Entry
   Ticked : (moment : ℕ) → Entry
-  Opened : (listener : ℕ) → (admission : Admission) → (link : ℕ) → (from : Addr) → Entry
+  Opened : (door : Door) → (admission : Admission) → (link : ℕ) → (from : Addr) → Entry
   Brought : (link : ℕ) → (bytes : List ℕ) → Entry
-  Said : (link : ℕ) → (cut : Cut) → (verdict : Verdict) → Entry
+  Said : (from : Source) → (cut : Cut) → (verdict : Verdict) → Entry
   Roomed : (link : ℕ) → Entry
   Took : (link : ℕ) → (offered taken : ℕ) → Entry
   Lost : (link : ℕ) → Entry
   Ended : (link : ℕ) → (reason : EndReason) → Entry
-  -- the links that live are told the date of this moment
+  -- the clients that live are told the date of this moment
   Dated : (moment : ℕ) → Entry
+  -- the time has come to look whether an uplink is to be dialled
+  Looked : Entry
+  -- a dial came to nothing
+  Unjoined : (uplink : ℕ) → Entry
 
 abbrev pub Trace : Type 0
 Trace = List Entry
@@ -50,15 +62,22 @@ moment_of (entry ∷ earlier) = moment_of earlier
 abbrev pub is_other : ℕ → ℕ → Bool
 is_other link other = not (other == link)
 
+-- whether a line is that link's
+abbrev pub is_from : ℕ → Source → Bool
+is_from link (source.Link number) = link == number
+is_from link (source.Submit listener) = false
+is_from link (source.Peer peer) = false
+
 abbrev pub opened_link : Admission → ℕ → List ℕ
 opened_link NoPort link = []
 opened_link TurnedAway link = []
+opened_link NotAsked link = []
 opened_link (Served kind) link = link ∷ []
 
 -- the links that live, in the order of their opening, which is that of their numbers
 abbrev pub live_links : Trace → List ℕ
 live_links [] = []
-live_links (Opened listener admission link from ∷ earlier) = live_links earlier ++ opened_link admission link
+live_links (Opened door admission link from ∷ earlier) = live_links earlier ++ opened_link admission link
 live_links (Ended link reason ∷ earlier) = filter (is_other link) (live_links earlier)
 live_links (entry ∷ earlier) = live_links earlier
 
@@ -75,6 +94,7 @@ stopped_link NoLogin link = []
 stopped_link Silent link = []
 stopped_link Overfull link = []
 stopped_link Full link = []
+stopped_link Unasked link = []
 stopped_link ByStop link = link ∷ []
 
 -- the links that a stop ended, in order
@@ -95,6 +115,7 @@ is_closing NoLogin = true
 is_closing Silent = true
 is_closing Overfull = true
 is_closing Full = true
+is_closing Unasked = true
 is_closing ByStop = true
 
 -- a number in its place among rising ones
@@ -116,11 +137,24 @@ closed_links (entry ∷ earlier) = closed_links earlier
 abbrev pub turned_link : Admission → ℕ → List ℕ
 turned_link NoPort link = []
 turned_link TurnedAway link = link ∷ []
+turned_link NotAsked link = link ∷ []
 turned_link (Served kind) link = []
 
--- the links that were turned away in this round, in order
+-- the links that were turned away in this round or that nobody had asked for, in order
 abbrev pub turned_links : Trace → List ℕ
 turned_links [] = []
 turned_links (RoundBegan ∷ earlier) = []
-turned_links (Opened listener admission link from ∷ earlier) = turned_links earlier ++ turned_link admission link
+turned_links (Opened door admission link from ∷ earlier) = turned_links earlier ++ turned_link admission link
 turned_links (entry ∷ earlier) = turned_links earlier
+
+abbrev pub is_stray : Admission → Bool
+is_stray NoPort = false
+is_stray TurnedAway = false
+is_stray NotAsked = true
+is_stray (Served kind) = false
+
+-- nobody had asked for the link
+abbrev pub is_unasked : Trace → ℕ → Bool
+is_unasked [] link = false
+is_unasked (Opened door admission opened from ∷ earlier) link = if link == opened then is_stray admission else is_unasked earlier link
+is_unasked (entry ∷ earlier) link = is_unasked earlier link

@@ -3,6 +3,7 @@ use Rattle.std.specs.Prelude.{ℕ, ◌-◌, ◌==◌, ◌&&◌, Bool, true, nat_
 use Rattle.std.specs.List.{list_any, prefix_len, starts_with}
 use Rattle.aprs_base.specs.Bytes.{is_blank}
 use Rattle.aprs_base.specs.PacketSeen.{PacketSeen}
+use Rattle.aprs_base.specs.declared.packets.PortKind.{PortKind}
 use Rattle.aprs_base.specs.declared.packets.Parts.{Parts}
 use Rattle.aprs_base.specs.declared.cutting.Cut.{Cut}
 use Rattle.aprs_base.specs.declared.cutting.Cut.TheVariants as cut
@@ -20,6 +21,8 @@ use Rattle.q_construct.specs.Rule.{process_of}
 use Rattle.q_construct.specs.declared.origins.Origin.{Origin}
 use Rattle.q_construct.specs.declared.origins.Origin.TheVariants as origin
 use Rattle.q_construct.specs.declared.drops.QDrop.{QDrop}
+use Rattle.q_construct.specs.declared.drops.QDrop.TheVariants.{Unverified}
+use Rattle.aprs_history.specs.Setting.{is_dupe_kind, is_filter_kind, is_only_kind}
 use Rattle.aprs_history.specs.Keys.{Key, key_of, is_same_key, is_text}
 use Rattle.aprs_history.specs.declared.verdicts.FilterAnswer.{FilterAnswer}
 use Rattle.aprs_history.specs.declared.verdicts.FilterAnswer.TheVariants.{Active, Denied}
@@ -30,13 +33,17 @@ use Rattle.aprs_history.specs.declared.verdicts.Refusal.TheVariants as refusal
 use Rattle.aprs_history.specs.declared.verdicts.Verdict.{Verdict}
 use Rattle.aprs_history.specs.declared.verdicts.Verdict.TheVariants.{PassedOver, Refused, LoggedIn, Filtered, Accepted}
 
--- what a line meets: the server's call; whether the link's port is for clients alone, and whether it has filters; the link's
--- login, and those of the other verified links; and the packets that were accepted before, up to this moment
+-- who says a line: a client on a port of that kind, which may have logged in; or another server or a station that sends its
+-- packets in datagrams, from whom packets alone are taken
+pub data Speaker : Type 0 where
+  Visitor : (kind : PortKind) → (session : Option Session) → Speaker
+  Carrier : (origin : Origin) → Speaker
+
+-- what a line meets: the server's call, who says it, the logins of the other verified links, and the packets that were
+-- accepted before, up to this moment
 pub record Scene : Type 0 where
   pub server : List ℕ
-  pub only : Bool
-  pub filters : Bool
-  pub session : Option Session
+  pub speaker : Speaker
   pub others : List (List ℕ)
   pub moment : ℕ
   pub accepted : List PacketSeen
@@ -131,13 +138,37 @@ packet_verdict now accepted (Err why) = Refused why
 packet_verdict now accepted (Ok parts) =
     if is_duplicate now accepted parts then Refused (refusal.Duplicate parts (text_of parts)) else Accepted parts (text_of parts)
 
--- the verdict on a line that is no comment: before the login it is a login, after it a packet
-abbrev pub line_verdict : Scene → Option Session → List ℕ → Verdict
-line_verdict scene None text = login_verdict scene.server scene.filters text (login_of text)
-line_verdict scene (Some session) text =
-    packet_verdict scene.moment scene.accepted (read_and_routed scene.server (client_origin scene.only session) scene.others (parts_of text))
+abbrev pub carried_verdict : Scene → Origin → List ℕ → Verdict
+carried_verdict scene from text = packet_verdict scene.moment scene.accepted (read_and_routed scene.server from scene.others (parts_of text))
 
--- the verdict on what a link said
+-- the verdict on a line of a client that is no comment: before the login it is a login, after it a packet, unless its port
+-- only shows refused duplicates
+abbrev pub visitor_verdict : Scene → PortKind → Option Session → List ℕ → Verdict
+visitor_verdict scene kind None text = login_verdict scene.server (is_filter_kind kind) text (login_of text)
+visitor_verdict scene kind (Some session) text =
+    if is_dupe_kind kind then Refused refusal.ReadOnly else carried_verdict scene (client_origin (is_only_kind kind) session) text
+
+abbrev pub spoken_verdict : Scene → Speaker → List ℕ → Verdict
+spoken_verdict scene (Visitor kind session) text =
+    if is_comment text then command_verdict (is_filter_kind kind) session (filter_command text) else visitor_verdict scene kind session text
+spoken_verdict scene (Carrier from) text = if is_comment text then PassedOver else carried_verdict scene from text
+
+-- the verdict on what was said
 abbrev pub verdict_of : Scene → Cut → Verdict
 verdict_of scene cut.Long = Refused refusal.Long
-verdict_of scene (cut.Line text) = if is_comment text then command_verdict scene.filters scene.session (filter_command text) else line_verdict scene scene.session text
+verdict_of scene (cut.Line text) = spoken_verdict scene scene.speaker text
+
+-- ---- datagrams
+
+-- the login that a datagram begins with
+abbrev pub submitter_by : List ℕ → Result Login LoginFault → Result (List ℕ) Refusal
+submitter_by server (Err fault) = Err (refusal.Login fault)
+submitter_by server (Ok login) =
+    if is_text login.call server then Err refusal.OwnName
+    else if is_verified login then Ok login.call
+    else Err (refusal.Path Unverified)
+
+-- who submits a datagram by its first line, or why the whole is refused
+abbrev pub submitter_of : List ℕ → Cut → Result (List ℕ) Refusal
+submitter_of server cut.Long = Err refusal.Long
+submitter_of server (cut.Line text) = submitter_by server (login_of text)

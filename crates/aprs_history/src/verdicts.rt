@@ -14,6 +14,15 @@ pub struct Session {
     pub verified: bool,
 }
 
+/// What a link is to the server.
+#[derive(Clone, Copy, PartialEq, Eq, Debug)]
+pub enum LinkKind {
+    /// A client, on a port of this kind.
+    Client(PortKind),
+    /// The uplink of this number, which the server has dialled.
+    Uplink(u16),
+}
+
 /// What becomes of a connection.
 #[derive(Clone, Copy, PartialEq, Eq, Debug)]
 pub enum Admission {
@@ -21,7 +30,9 @@ pub enum Admission {
     NoPort,
     /// As many clients as may are there.
     TurnedAway,
-    Served(PortKind),
+    /// The uplink isn't being dialled.
+    NotAsked,
+    Served(LinkKind),
 }
 
 /// Why a line is refused.
@@ -35,7 +46,11 @@ pub enum Refusal {
     OwnName,
     /// It is no packet.
     Packet(LineFault),
-    /// The q construct rule drops the packet.
+    /// Its port only shows refused duplicates.
+    ReadOnly,
+    /// A datagram that is none of a peer's.
+    Stranger,
+    /// The q construct rule drops the packet, or a login that isn't verified its datagram.
     Path(QDrop),
     /// The same packet was accepted less than 30 seconds before. With it the packet's parts and its line as they would be
     /// sent on.
