@@ -1,0 +1,4 @@
+pub mod Attempts
+pub mod Sides
+pub mod UplinkLaws
+pub mod Uplinks
