@@ -5,4 +5,6 @@ mod laws;
 mod verdicts;
 
 pub use laws::{messages_follow_the_rule, runs_keep_the_promise};
-pub use verdicts::{Admission, FilterAnswer, FilterFault, Refusal, Session, Verdict, copy_session};
+pub use verdicts::{
+    Admission, FilterAnswer, FilterFault, LinkKind, Refusal, Session, Verdict, copy_session,
+};
