@@ -116,8 +116,14 @@ reply_lines None = []
 reply_lines (Some line) = reply_of line ∷ []
 
 -- the line by which the server logs in at an uplink
+abbrev pub login_by : (call digits : List ℕ) → List ℕ
+login_by call digits = codes "user " ++ (call ++ (codes " pass " ++ (digits ++ codes " vers aprsc 1.0")))
+
+abbrev pub login_with : (call : List ℕ) (code : ℕ) → List ℕ
+login_with call code = login_by call (decimal code)
+
 abbrev pub uplink_login : Setting → List ℕ
-uplink_login setting = codes "user " ++ (setting.server ++ (codes " pass " ++ (decimal setting.code ++ codes " vers aprsc 1.0")))
+uplink_login setting = login_with setting.server setting.code
 
 -- what the text of a link begins with
 abbrev pub first_line : Setting → LinkKind → TextLine

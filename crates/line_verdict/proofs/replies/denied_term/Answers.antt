@@ -1,7 +1,7 @@
 use Rattle.std.proofs.Common.{◌≤◌, ◌++◌, ap, codes, length, subst, sym, List, ℕ, ◌∙◌}
 use Rattle.aprs_base.specs.Bytes.{IsInner}
-use Rattle.server_core.proofs.VerdictLemmas.{term_words}
-use Rattle.server_core.proofs.replies.denied_term.Goals as goal
+use Rattle.line_verdict.proofs.VerdictLemmas.{term_words}
+use Rattle.line_verdict.proofs.replies.denied_term.Goals as goal
 
 pub denied_for-requires : goal.denied_for-requires
 denied_for-requires c =

@@ -1,6 +1,6 @@
 -- What a login's verdict says of its call, and that replies are lines.
 use Rattle.std.proofs.lemmas.Bool.Decides.{nat_tests}
-use Rattle.std.proofs.Common.{if◌then◌else◌, Result, Ok, Err, Option, Some, None, sym, ap, ◌∙◌, ◌≡◌, ℕ, ◌≤◌, ◌<◌, ◌^◌, Bool, true, false, List, ◌++◌, length, refl, IsTrue, arith, not, codes, length-append}
+use Rattle.std.proofs.Common.{if◌then◌else◌, Result, Ok, Err, Option, Some, None, sym, subst, ap, ◌∙◌, ◌≡◌, ℕ, ◌≤◌, ◌<◌, ◌^◌, Bool, true, false, List, ◌++◌, length, refl, IsTrue, arith, not, codes, length-append}
 use Rattle.std.specs.Prelude.{⊤}
 use Rattle.std.proofs.lemmas.Bool.{le-leb}
 use Rattle.std.proofs.lemmas.List.Folds.{list_all-append}
@@ -12,17 +12,23 @@ use Rattle.filter_lang.specs.Terms.{TermSeen}
 use Rattle.filter_lang.specs.declared.errors.FilterError.{FilterError}
 use Rattle.filter_lang.specs.declared.errors.FilterError.TheVariants as error
 use Rattle.filter_lang.proofs.ReadBounds.{few_terms}
-use Rattle.server_core.specs.LinkSteps.{all_few, has_few}
+use Rattle.line_verdict.specs.Fit.{IsFit, all_few, has_few}
+use Rattle.line_verdict.specs.Voices.{comment_verdict, filtered, line_verdict, voice_of, voice_verdict}
+use Rattle.line_verdict.specs.declared.voices.Voice.{Voice}
+use Rattle.line_verdict.specs.declared.voices.Voice.TheVariants as voice
+use Rattle.aprs_base.specs.declared.packets.PortKind.{PortKind}
+use Rattle.aprs_base.specs.declared.packets.PortKind.TheVariants as kind
+use Rattle.q_construct.specs.declared.origins.Origin.{Origin}
 use Rattle.aprs_history.specs.declared.verdicts.Verdict.{Verdict}
 use Rattle.comment_date.specs.Dates.{date_at}
 use Rattle.comment_date.proofs.TextLemmas.{date_prints, is_printed}
 use Rattle.aprs_history.specs.Dates.{comment_text}
 use Rattle.aprs_history.specs.declared.verdicts.Session.{Session}
-use Rattle.aprs_history.specs.Texts.{login_reply, verified_word}
+use Rattle.aprs_history.specs.Texts.{login_by, login_reply, verified_word}
 use Rattle.aprs_base.specs.Bytes.{IsCall, is_digit, is_inner, is_station, IsInner, IsLine}
 use Rattle.aprs_base.specs.declared.packets.Parts.{Parts}
 use Rattle.tnc2_line.specs.Packet.{parts_of, text_of}
-use Rattle.aprs_history.specs.Verdicts.{Scene, answer_by, answer_of, command_verdict, filter_command, login_answer, login_verdict, line_verdict, text_at, verdict_of, packet_verdict, read_and_routed, client_origin, is_comment, is_duplicate}
+use Rattle.aprs_history.specs.Verdicts.{Carrier, Scene, Speaker, Visitor, answer_by, answer_of, carried_verdict, command_verdict, filter_command, login_answer, login_verdict, spoken_verdict, text_at, verdict_of, packet_verdict, read_and_routed, is_comment, is_duplicate}
 use Rattle.login_pass.specs.Login.{login_of, login_with, words_of, later, first_text, is_keyword, code_of, filter_in, is_verified}
 use Rattle.login_pass.specs.declared.login_line.LoginFault.{LoginFault}
 use Rattle.login_pass.specs.declared.login_line.LoginFault.TheVariants as fault
@@ -74,6 +80,24 @@ term_words n small =
     let digits = decimal_is n (omega arith) in
     (rw list_all-append (rw (each_weaker is_digit is_inner no_line_end (decimal n) digits.digits) refl), omega (arith, length-append (codes "term ") (decimal n), short))
 
+-- the line by which the server logs in is one
+pub code_digits : (n : ℕ) → n < 100000 → (IsInner (decimal n)) × (length (decimal n) ≤ 5)
+code_digits n small =
+    let short : length (decimal n) ≤ 5 = decimal_short n 5 (omega arith) (omega arith) (omega arith) in
+    let digits = decimal_is n (omega arith) in
+    (each_weaker is_digit is_inner no_line_end (decimal n) digits.digits, short)
+
+pub login_is_line : (server digits : List ℕ) → IsCall server → IsInner digits → length digits ≤ 5 → IsLine (login_by server digits)
+login_is_line server digits h inner_digits short =
+    let last = digits ++ codes " vers aprsc 1.0" in
+    let last_inner : IsInner last = rw list_all-append (rw inner_digits refl) in
+    let rest = codes " pass " ++ last in
+    let rest_inner : IsInner rest = rw list_all-append (rw last_inner refl) in
+    let inner : IsInner (server ++ rest) = rw list_all-append (rw (call_inner server h, rest_inner) refl) in
+    let size : length (login_by server digits) ≤ 510 = omega (arith, length-append server rest, length-append digits (codes " vers aprsc 1.0"), call_short server h, short) in
+    let some : 1 ≤ length (login_by server digits) = omega arith in
+    rw (le-leb 1 (length (login_by server digits)) some, le-leb (length (login_by server digits)) 510 size) inner
+
 -- ---- a login that is read names a station
 
 with_call : (call : List ℕ) (code : Option (Option ℕ)) (filter : Option (ℕ × ℕ)) (login : Login) → login_with call code filter ≡ Ok login → call ≡ login.call
@@ -89,7 +113,7 @@ station_in true false pass result login is = absurd (cc)
 station_in true true false result login is = absurd (cc)
 station_in true true true result login is = (refl, is)
 
-login_station : (line : List ℕ) (login : Login) → login_of line ≡ Ok login → IsTrue (is_station login.call)
+pub login_station : (line : List ℕ) (login : Login) → login_of line ≡ Ok login → IsTrue (is_station login.call)
 unfolding login_of
 login_station line login is =
     let words = words_of line in
@@ -100,14 +124,6 @@ login_station line login is =
     ap is_station (sym (with_call (first_text call) (code_of (first_text code)) (filter_in line (later code)) login parts.1)) ∙ parts.0
 
 -- ---- what the verdicts on a line say
-
--- a login is a station's, and filters have few terms
-abbrev pub IsFit : Verdict → Type 0
-IsFit PassedOver = ⊤
-IsFit (Refused why) = ⊤
-IsFit (LoggedIn session answer) = IsTrue (is_station session.call) × IsTrue (all_few answer)
-IsFit (Filtered answer) = IsTrue (has_few answer)
-IsFit (Accepted parts line) = ⊤
 
 few_by : (text : List ℕ) (read : Result (List TermSeen) FilterError) → terms_of text ≡ read → IsTrue (has_few (answer_by read))
 few_by text (Ok terms) is = le-leb (length terms) 64 (few_terms text terms is)
@@ -141,20 +157,55 @@ packet_fit now accepted (Ok parts) = by_copy (is_duplicate now accepted parts)
     by_copy true = tt
     by_copy false = tt
 
-command_fit : (filters : Bool) (session : Option Session) (command : Option (List ℕ)) → IsFit (command_verdict filters session command)
-command_fit filters None command = tt
-command_fit filters (Some session) None = tt
-command_fit filters (Some session) (Some text) = few_answer filters text
+carried_fit : (scene : Scene) (origin : Origin) (text : List ℕ) → IsFit (carried_verdict scene origin text)
+carried_fit scene origin text = packet_fit scene.moment scene.accepted (read_and_routed scene.server origin scene.others (parts_of text))
 
-line_fit : (scene : Scene) (before : Option Session) (text : List ℕ) → IsFit (line_verdict scene before text)
-line_fit scene None text = login_fit scene.server scene.filters text (login_of text) refl
-line_fit scene (Some before) text =
-    packet_fit scene.moment scene.accepted (read_and_routed scene.server (client_origin scene.only before) scene.others (parts_of text))
+filtered_fit : (filters : Bool) (command : Option (List ℕ)) → IsFit (filtered filters command)
+filtered_fit filters None = tt
+filtered_fit filters (Some text) = few_answer filters text
+
+comment_fit : (who : Voice) (text : List ℕ) → IsFit (comment_verdict who text)
+comment_fit (voice.Nameless filters) text = tt
+comment_fit voice.Reader text = filtered_fit false (filter_command text)
+comment_fit (voice.Client filters origin) text = filtered_fit filters (filter_command text)
+comment_fit (voice.Carrier origin) text = tt
+
+line_fit : (scene : Scene) (who : Voice) (text : List ℕ) → IsFit (line_verdict scene who text)
+line_fit scene (voice.Nameless filters) text = login_fit scene.server filters text (login_of text) refl
+line_fit scene voice.Reader text = tt
+line_fit scene (voice.Client filters origin) text = carried_fit scene origin text
+line_fit scene (voice.Carrier origin) text = carried_fit scene origin text
+
+voice_fit : (scene : Scene) (who : Voice) (text : List ℕ) → IsFit (voice_verdict scene who text)
+voice_fit scene who text = by_mark (is_comment text)
+  where
+    by_mark : (comment : Bool) → IsFit (if comment then comment_verdict who text else line_verdict scene who text)
+    by_mark true = comment_fit who text
+    by_mark false = line_fit scene who text
+
+-- ---- the verdict goes by the voice
+
+by_command : (filters : Bool) (session : Session) (command : Option (List ℕ)) → command_verdict filters (Some session) command ≡ filtered filters command
+by_command filters session None = refl
+by_command filters session (Some text) = refl
+
+by_comment : (b : Bool) (v w x y : Verdict) → v ≡ x → w ≡ y → (if b then v else w) ≡ (if b then x else y)
+by_comment true v w x y first second = first
+by_comment false v w x y first second = second
+
+visitor_says : (scene : Scene) (port : PortKind) (session : Option Session) (text : List ℕ) → spoken_verdict scene (Visitor port session) text ≡ voice_verdict scene (voice_of (Visitor port session)) text
+visitor_says scene port None text = refl
+visitor_says scene kind.Full (Some session) text = by_comment (is_comment text) _ _ _ _ (by_command false session (filter_command text)) refl
+visitor_says scene kind.Igate (Some session) text = by_comment (is_comment text) _ _ _ _ (by_command true session (filter_command text)) refl
+visitor_says scene kind.Only (Some session) text = by_comment (is_comment text) _ _ _ _ (by_command true session (filter_command text)) refl
+visitor_says scene kind.Dupe (Some session) text = by_comment (is_comment text) _ _ _ _ (by_command false session (filter_command text)) refl
+visitor_says scene kind.Submit (Some session) text = by_comment (is_comment text) _ _ _ _ (by_command false session (filter_command text)) refl
+visitor_says scene kind.Core (Some session) text = by_comment (is_comment text) _ _ _ _ (by_command false session (filter_command text)) refl
+
+pub voice_says : (scene : Scene) (speaker : Speaker) (text : List ℕ) → spoken_verdict scene speaker text ≡ voice_verdict scene (voice_of speaker) text
+voice_says scene (Visitor port session) text = visitor_says scene port session text
+voice_says scene (Carrier origin) text = refl
 
 pub verdict_fit : (scene : Scene) (cut : Cut) → IsFit (verdict_of scene cut)
 verdict_fit scene cut.Long = tt
-verdict_fit scene (cut.Line text) = by_mark (is_comment text)
-  where
-    by_mark : (comment : Bool) → IsFit (if comment then command_verdict scene.filters scene.session (filter_command text) else line_verdict scene scene.session text)
-    by_mark true = command_fit scene.filters scene.session (filter_command text)
-    by_mark false = line_fit scene scene.session text
+verdict_fit scene (cut.Line text) = subst IsFit (sym (voice_says scene scene.speaker text)) (voice_fit scene (voice_of scene.speaker) text)

@@ -1,13 +1,13 @@
 //! What the server answers.
-ghost use Rattle.std.specs.Prelude.{◌≡◌, ◌++◌, ◌+◌, ◌≤◌, IfOk, Ok, codes, length};
-ghost use Rattle.aprs_base.specs.Bytes.{IsInner};
+ghost use Rattle.std.specs.Prelude.{◌≡◌, ◌++◌, ◌+◌, ◌≤◌, ◌<◌, IfOk, Ok, codes, length};
+ghost use Rattle.aprs_base.specs.Bytes.{IsInner, IsLine};
 ghost use Rattle.aprs_history.specs.Dates.{comment_text};
 ghost use Rattle.aprs_history.specs.Verdicts.{active_reply};
 ghost use Rattle.filter_lang.specs.Grammar.{terms_of};
 ghost use Rattle.std.specs.Fmt.{decimal};
-ghost use Rattle.aprs_history.specs.Texts.{excess_words, fault_word, filter_words, login_reply, refusal_reply, refused_filter, refused_login, verified_word};
+ghost use Rattle.aprs_history.specs.Texts.{banner, excess_words, fault_word, filter_words, login_reply, refusal_reply, refused_filter, refused_login, verified_word};
+ghost use Rattle.aprs_history.specs.Texts.{login_by, login_with};
 
-use crate::link::known_line;
 use aprs_base::{Call, Line, Memory};
 use aprs_history::{FilterFault, Refusal, Session};
 use arrayvec::ArrayVec;
@@ -17,7 +17,7 @@ use login_pass::LoginFault;
 use std::alloc::Global;
 
 /// The reply to a good login.
-pub(crate) fn login_line(server: &Call, session: &Session) -> Line
+pub fn login_line(server: &Call, session: &Session) -> Line
     ensures { result ≡ login_reply server.now session.now }
 {
     let mut text = ArrayVec::new();
@@ -28,8 +28,44 @@ pub(crate) fn login_line(server: &Call, session: &Session) -> Line
     known_line(text.as_slice())
 }
 
+/// What a client is told first.
+pub fn banner_line() -> Line
+    ensures { result ≡ banner }
+{
+    known_line(b"# aprsc 1.0")
+}
+
+/// The line by which the server logs in at an uplink.
+pub fn uplink_line(alloc: Global, server: &Call, code: u32) -> Result<Line, Memory>
+    requires { code < 100000 }
+    ensures { IfOk result (λ line. line ≡ login_with server.now code) }
+{
+    let digits = code.to_string(alloc)?;
+    Ok(login_by(server, digits.as_bytes()))
+}
+
+fn login_by(server: &Call, digits: &[u8]) -> Line
+    requires { IsInner digits.now × (length digits.now ≤ 5) }
+    ensures { result ≡ login_by server.now digits.now }
+{
+    let mut text = ArrayVec::new();
+    append(&mut text, b"user ");
+    append(&mut text, server.bytes());
+    append_code(&mut text, digits);
+    known_line(text.as_slice())
+}
+
+fn append_code(text: &mut ArrayVec<u8, 510>, digits: &[u8])
+    requires { length text.old.items + length digits.now ≤ 480 }
+    ensures { text.new.items ≡ text.old.items ++ (codes " pass " ++ (digits.now ++ codes " vers aprsc 1.0")) }
+{
+    append(text, b" pass ");
+    append(text, digits);
+    append(text, b" vers aprsc 1.0");
+}
+
 /// The comment line that tells the date.
-pub(crate) fn comment_of(server: &Call, moment: u64) -> Line
+pub fn comment_of(server: &Call, moment: u64) -> Line
     ensures { result ≡ comment_text server.now moment }
 {
     let mut text = ArrayVec::new();
@@ -41,13 +77,18 @@ pub(crate) fn comment_of(server: &Call, moment: u64) -> Line
 }
 
 /// The reply to a line that is refused, where there is one.
-pub(crate) fn refusal_line(refusal: &Refusal) -> Option<Line>
+pub fn refusal_line(refusal: &Refusal) -> Option<Line>
     ensures { result ≡ refusal_reply refusal.now }
 {
     match refusal {
         Refusal::Login(fault) => Some(refused_line(word_of(*fault))),
         Refusal::OwnName => Some(refused_line(b"own name")),
-        Refusal::Long | Refusal::Packet(_) | Refusal::Path(_) | Refusal::Duplicate(..) => None,
+        Refusal::Long
+        | Refusal::ReadOnly
+        | Refusal::Stranger
+        | Refusal::Packet(_)
+        | Refusal::Path(_)
+        | Refusal::Duplicate(..) => None,
     }
 }
 
@@ -88,7 +129,7 @@ pub(crate) fn active_line(alloc: Global, _text: &[u8], filter: &FilterSet) -> Re
 }
 
 /// The reply to a filter that is refused.
-pub(crate) fn denied_line(alloc: Global, fault: FilterFault) -> Result<Line, Memory>
+pub fn denied_line(alloc: Global, fault: FilterFault) -> Result<Line, Memory>
     ensures { IfOk result (λ line. line ≡ refused_filter (filter_words fault)) }
 {
     match fault {
@@ -142,6 +183,14 @@ fn word_for(verified: bool) -> &'static [u8]
     } else {
         b" unverified, server ".as_slice()
     }
+}
+
+/// A line whose text is known to be one.
+fn known_line(text: &[u8]) -> Line
+    requires { IsLine text.now }
+    ensures { result ≡ text.now }
+{
+    Line::new(text).unwrap()
 }
 
 fn append(text: &mut ArrayVec<u8, 510>, bytes: &[u8])

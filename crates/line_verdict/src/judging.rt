@@ -1,16 +1,17 @@
 //! The verdict on a line.
-ghost use Rattle.std.specs.Prelude.{◌≡◌, ◌-◌, ◌≤◌, ◌&&◌, IsTrue, IfOk, Option, Result, is_some, length, option_map};
+ghost use Rattle.std.specs.Prelude.{◌≡◌, ◌-◌, ◌≤◌, ◌&&◌, IsTrue, IfOk, Result, length, option_map};
 ghost use Rattle.std.specs.List.{prefix_len, suffix_len};
 ghost use Rattle.filter_lang.specs.Grammar.{terms_of};
-ghost use Rattle.aprs_history.specs.declared.verdicts.Session.{Session};
 ghost use Rattle.aprs_base.specs.Bytes.{is_blank, is_station};
 ghost use Rattle.aprs_history.specs.Keys.{is_same_key, key_of, without_last_blanks};
-ghost use Rattle.aprs_history.specs.Verdicts.{after_filter, answer_by, answer_of, command_verdict, filter_command, is_comment, is_duplicate, is_repeat, login_answer, login_verdict, packet_verdict, read_and_routed, text_at, unpadded};
+ghost use Rattle.aprs_history.specs.Verdicts.{after_filter, answer_by, answer_of, filter_command, is_comment, is_duplicate, is_repeat, login_answer, login_verdict, packet_verdict, read_and_routed, text_at, unpadded};
 ghost use Rattle.login_pass.specs.Login.{login_of};
+ghost use Rattle.line_verdict.specs.Voices.{comment_verdict, filtered};
 ghost use Rattle.q_construct.specs.Rule.{has_station};
 ghost use Rattle.tnc2_line.specs.Packet.{IsParts, parts_of, text_of};
 
 use crate::replies::active_line;
+use crate::voices::Voice;
 use aprs_base::{Call, Line, Memory, Packet, Parts};
 use aprs_history::{FilterAnswer, FilterFault, Refusal, Session, Verdict};
 use filter_lang::FilterError;
@@ -23,7 +24,7 @@ use tnc2_line::{read, write};
 const DUPLICATE_SECONDS: u64 = 30;
 
 /// Whether a line is a comment or a command.
-pub(crate) fn is_comment_line(line: &Line) -> bool
+pub fn is_comment_line(line: &Line) -> bool
     ensures { result ≡ is_comment line.now }
 {
     line.bytes().starts_with(b"#")
@@ -107,21 +108,24 @@ fn answer(alloc: Global, filters: bool, text: &[u8]) -> Result<FilterAnswer, Mem
     answer_to(alloc, text)
 }
 
-/// The verdict on a comment or a command of a link that has logged in or hasn't.
-pub(crate) fn judge_command(
-    alloc: Global,
-    filters: bool,
-    session: bool,
-    line: &Line,
-) -> Result<Verdict, Memory>
-    ensures { (login : Option Session) → is_some login ≡ session → IfOk result (λ verdict. verdict ≡ command_verdict filters login (filter_command line.now)) }
+/// What becomes of a command of a client that has logged in, on a port with filters or without.
+fn judge_command(alloc: Global, filters: bool, line: &Line) -> Result<Verdict, Memory>
+    ensures { IfOk result (λ verdict. verdict ≡ filtered filters (filter_command line.now)) }
 {
-    if !session {
-        return Ok(Verdict::PassedOver);
-    }
     match filter_command(line) {
         Some(text) => Ok(Verdict::Filtered(answer(alloc, filters, text)?)),
         None => Ok(Verdict::PassedOver),
+    }
+}
+
+/// The verdict on a comment or a command: only a client that has logged in may give one.
+pub fn judge_comment(alloc: Global, voice: &Voice, line: &Line) -> Result<Verdict, Memory>
+    ensures { IfOk result (λ verdict. verdict ≡ comment_verdict voice.now line.now) }
+{
+    match voice {
+        Voice::Nameless { .. } | Voice::Carrier(_) => Ok(Verdict::PassedOver),
+        Voice::Reader => judge_command(alloc, false, line),
+        Voice::Client { filters, .. } => judge_command(alloc, *filters, line),
     }
 }
 
@@ -142,7 +146,7 @@ fn login_answer(
 }
 
 /// The verdict on a login, which is good where it isn't the server's own call.
-pub(crate) fn judge_login(
+pub fn judge_login(
     alloc: Global,
     server: &Call,
     filters: bool,
@@ -219,7 +223,7 @@ fn is_duplicate(moment: u64, accepted: &[Packet], parts: &Parts) -> bool
 
 /// The verdict on a packet from there. `others` are the logins of the other verified links, and `accepted` the packets that
 /// were accepted up to this moment.
-pub(crate) fn judge_packet(
+pub fn judge_packet(
     server: &Call,
     origin: &Origin,
     others: &[Call],

@@ -1,0 +1,12 @@
+//! What a line is to the server: the verdict on it, and what the server answers.
+#![tactic(auto)]
+
+mod judging;
+mod replies;
+mod submitting;
+mod voices;
+
+pub use judging::{is_comment_line, judge_comment, judge_login, judge_packet};
+pub use replies::{banner_line, comment_of, denied_line, login_line, refusal_line, uplink_line};
+pub use submitting::submitter_of;
+pub use voices::Voice;
