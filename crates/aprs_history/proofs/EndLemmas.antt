@@ -7,7 +7,7 @@ use Rattle.aprs_base.specs.declared.events.Sent.TheVariants as sent
 use Rattle.aprs_base.specs.declared.events.Happening.{Happening}
 use Rattle.aprs_base.specs.declared.events.Happening.TheVariants as did
 use Rattle.aprs_history.specs.Setting.{Setting}
-use Rattle.aprs_history.specs.Trace.{Trace, Entry, EndReason, ByPeer, FoundGone, NoLogin, Silent, Overfull, Full, ByStop, RoundBegan, Dated, Ticked, Opened, Brought, Said, Roomed, Took, Lost, Ended}
+use Rattle.aprs_history.specs.Trace.{Trace, Entry, EndReason, ByPeer, FoundGone, NoLogin, Silent, Overfull, Full, Unasked, ByStop, RoundBegan, Dated, Looked, Unjoined, Ticked, Opened, Brought, Said, Roomed, Took, Lost, Ended}
 use Rattle.aprs_history.specs.History.{History, is_stop, is_stopped, trace_of}
 use Rattle.aprs_history.specs.Headline.{EndsBy, LinksEndByRules, is_end_by_peer}
 use Rattle.aprs_history.proofs.EntryLemmas.{MayAdd, any_link, kept_after}
@@ -43,6 +43,7 @@ module _ (s : Setting) (x : Happening) (h : History) where
   ends_still t link Silent ends = ends
   ends_still t link Overfull ends = ends
   ends_still t link Full ends = ends
+  ends_still t link Unasked ends = ends
   ends_still t link ByStop ends = still_stopped x h ends
 
   by_rule_still : (t : Trace) → AllByRule s h t → AllByRule s (x ∷ h) t
@@ -50,10 +51,12 @@ module _ (s : Setting) (x : Happening) (h : History) where
   by_rule_still (Ended link reason ∷ t) all = (ends_still t link reason all.0, by_rule_still t all.1)
   by_rule_still (RoundBegan ∷ t) all = (tt, by_rule_still t all.1)
   by_rule_still (Dated moment ∷ t) all = (tt, by_rule_still t all.1)
+  by_rule_still (Looked ∷ t) all = (tt, by_rule_still t all.1)
+  by_rule_still (Unjoined uplink ∷ t) all = (tt, by_rule_still t all.1)
   by_rule_still (Ticked moment ∷ t) all = (tt, by_rule_still t all.1)
-  by_rule_still (Opened listener admission link from ∷ t) all = (tt, by_rule_still t all.1)
+  by_rule_still (Opened door admission link from ∷ t) all = (tt, by_rule_still t all.1)
   by_rule_still (Brought link bytes ∷ t) all = (tt, by_rule_still t all.1)
-  by_rule_still (Said link cut verdict ∷ t) all = (tt, by_rule_still t all.1)
+  by_rule_still (Said from cut verdict ∷ t) all = (tt, by_rule_still t all.1)
   by_rule_still (Roomed link ∷ t) all = (tt, by_rule_still t all.1)
   by_rule_still (Took link offered taken ∷ t) all = (tt, by_rule_still t all.1)
   by_rule_still (Lost link ∷ t) all = (tt, by_rule_still t all.1)
@@ -62,10 +65,12 @@ by_rule_added : (s : Setting) (h : History) (t : Trace) (entry : Entry) → MayA
 by_rule_added s h t (Ended link reason) may all = (may.1, all)
 by_rule_added s h t RoundBegan may all = (tt, all)
 by_rule_added s h t (Dated moment) may all = (tt, all)
+by_rule_added s h t Looked may all = (tt, all)
+by_rule_added s h t (Unjoined uplink) may all = (tt, all)
 by_rule_added s h t (Ticked moment) may all = (tt, all)
-by_rule_added s h t (Opened listener admission link from) may all = (tt, all)
+by_rule_added s h t (Opened door admission link from) may all = (tt, all)
 by_rule_added s h t (Brought link bytes) may all = (tt, all)
-by_rule_added s h t (Said link cut verdict) may all = (tt, all)
+by_rule_added s h t (Said from cut verdict) may all = (tt, all)
 by_rule_added s h t (Roomed link) may all = (tt, all)
 by_rule_added s h t (Took link offered taken) may all = (tt, all)
 by_rule_added s h t (Lost link) may all = (tt, all)

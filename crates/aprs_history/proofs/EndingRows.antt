@@ -1,5 +1,5 @@
 -- Small histories with endings and comment lines, and what the definitions say of them.
-use Rattle.std.proofs.Common.{◌≡◌, refl, ℕ, ◌+◌, zero, suc, List, [], ◌∷◌, ◌++◌, codes}
+use Rattle.std.proofs.Common.{◌≡◌, refl, ℕ, zero, suc, List, [], ◌∷◌, ◌++◌, codes}
 use Rattle.aprs_base.specs.declared.events.Event.TheVariants as event
 use Rattle.aprs_base.specs.declared.events.Happening.{Happening}
 use Rattle.aprs_base.specs.declared.events.Happening.TheVariants as did
@@ -125,7 +125,7 @@ place_after_an_end = refl
 
 -- ---- comment lines
 
--- at a tick that passes a border of 20 seconds each link that lives is told the date, logged in or not
+-- at a tick that passes a border of 20 seconds each client that lives is told the date, logged in or not
 told_the_date : lines_of setting (trace_of setting (at_moment 1020 ∷ one_link)) 1 ≡ banner ∷ comment_text (codes "T2TEST") 1020 ∷ []
 unfolding trace_of setting one_link listening client
 told_the_date = refl

@@ -1,11 +1,12 @@
 -- Filters at work in single lines and in small histories, and what the definitions say of them.
-use Rattle.std.proofs.Common.{◌≡◌, refl, ℕ, List, [], ◌∷◌, ◌++◌, codes, true, false, arith, subst}
+use Rattle.std.proofs.Common.{◌≡◌, refl, ℕ, List, [], ◌∷◌, ◌++◌, codes, true, arith, subst}
 use Rattle.std.specs.Fmt.{decimal}
 use Rattle.std.proofs.lemmas.Fmt.{decimal-digits_of, decimal_digit}
 use Rattle.aprs_base.specs.declared.events.Event.TheVariants as event
 use Rattle.aprs_base.specs.declared.events.Happening.{Happening}
 use Rattle.aprs_base.specs.declared.events.Happening.TheVariants as did
 use Rattle.aprs_base.specs.declared.packets.PortKind.TheVariants as kind
+use Rattle.aprs_base.specs.declared.packets.Source.TheVariants as source
 use Rattle.aprs_body.specs.Bodies.{body_of}
 use Rattle.aprs_position.specs.Either.{either_place}
 use Rattle.aprs_position.specs.Plain.{plain_place}
@@ -27,7 +28,7 @@ use Rattle.aprs_history.specs.Verdicts.{Scene}
 use Rattle.aprs_history.specs.declared.verdicts.FilterAnswer.TheVariants.{Denied}
 use Rattle.aprs_history.specs.declared.verdicts.FilterFault.TheVariants as filter_fault
 use Rattle.aprs_history.specs.declared.verdicts.Verdict.TheVariants.{PassedOver, Filtered}
-use Rattle.aprs_history.proofs.Rows.{client, crlf, link_of, listen, server_on, stranger, told_in, verdict_on}
+use Rattle.aprs_history.proofs.Rows.{client, crlf, link_of, listen, server_on, stranger, stranger_on, told_in, verdict_on}
 
 -- a full port and an igate port
 setting : Setting
@@ -57,17 +58,17 @@ ninety_six = decimal-digits_of 96 (omega arith) (omega arith)
 
 -- a link that has logged in, on a port with filters or without
 abbrev igate : Scene
-igate = record (link_of (codes "K1XYZ") true false []) { filters = true }
+igate = link_of (codes "K1XYZ") true kind.Igate []
 
 abbrev full : Scene
-full = link_of (codes "K1XYZ") true false []
+full = link_of (codes "K1XYZ") true kind.Full []
 
 abbrev igate_stranger : Scene
-igate_stranger = record stranger { filters = true }
+igate_stranger = stranger_on kind.Igate
 
 -- what a link is told after its line
 abbrev told : Scene → List ℕ → List (List ℕ)
-told scene text = plain (added_by setting [] 1 (verdict_on scene text) 1)
+told scene text = plain (added_by setting [] (source.Link 1) (verdict_on scene text) 1)
 
 two_terms : told igate (codes "#filter b/K1* -p/K1A") ≡ codes "# filter b/K1* -p/K1A active" ∷ []
 unfolding terms_of term_of what_of other_of named_of name_of excess_of canonical term_text

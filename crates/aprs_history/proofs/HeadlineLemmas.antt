@@ -1,5 +1,5 @@
 -- What links take is a prefix of their texts, no text has its link's own packets, and closes have reasons.
-use Rattle.std.proofs.Common.{◌≡◌, ◌≢◌, ℕ, ◌+◌, ◌-◌, ◌≤◌, ◌<◌, ◌==◌, Bool, true, false, List, [], ◌∷◌, ◌++◌, take, drop, length, min, refl, sym, ap, ◌∙◌, subst, arith, IfSome, Option, Some, None, ⊎_elim, ◌⊎◌, inl, inr, append-nil, append_assoc, length-append, length-take, length-drop, eq-eqb, cond, ◌||◌, if◌then◌else◌}
+use Rattle.std.proofs.Common.{◌≡◌, ◌≢◌, ℕ, ◌+◌, ◌-◌, ◌≤◌, ◌<◌, ◌==◌, Bool, true, false, List, [], ◌∷◌, ◌++◌, take, drop, length, min, refl, sym, ap, ◌∙◌, subst, arith, IfSome, Option, Some, None, ⊎_elim, ◌⊎◌, inl, inr, append-nil, append_assoc, length-append, length-take, length-drop, eq-eqb, cond, ◌&&◌, ◌||◌, not, is_some, if◌then◌else◌}
 use Rattle.std.specs.Bool.{⊤}
 use Rattle.std.specs.List.{All}
 use Rattle.std.proofs.lemmas.Bool.{eqb-true, cases_Bool, true≢false}
@@ -7,7 +7,7 @@ use Rattle.std.proofs.lemmas.List.{map-append, take-append-le, take-append-drop,
 use Rattle.std.proofs.lemmas.List.Elements.{All-from_recursion, recursion_from_All, All-nil, All-cons, All-append}
 use Rattle.std.proofs.lemmas.Grind.{flat_map-append}
 use Rattle.aprs_base.specs.Outside.{new_link}
-use Rattle.aprs_base.specs.PacketSeen.{PacketSeen}
+use Rattle.aprs_base.specs.declared.packets.Source.{Source}
 use Rattle.aprs_base.specs.declared.packets.Source.TheVariants as source
 use Rattle.aprs_base.specs.declared.events.Event.{Event}
 use Rattle.aprs_base.specs.declared.events.Sent.{Sent}
@@ -16,14 +16,19 @@ use Rattle.aprs_base.specs.declared.events.Happening.TheVariants as did
 use Rattle.aprs_history.specs.declared.verdicts.FilterAnswer.{FilterAnswer}
 use Rattle.aprs_history.specs.declared.verdicts.Verdict.{Verdict}
 use Rattle.aprs_history.specs.declared.verdicts.Verdict.TheVariants.{PassedOver, Refused, LoggedIn, Filtered, Accepted}
+use Rattle.aprs_history.specs.declared.verdicts.LinkKind.TheVariants.{Client, Uplink}
+use Rattle.aprs_history.specs.declared.verdicts.Refusal.{Refusal}
+use Rattle.aprs_history.specs.declared.verdicts.Refusal.TheVariants as refusal
 use Rattle.aprs_history.specs.Setting.{Setting}
 use Rattle.aprs_history.specs.declared.verdicts.Admission.{Admission}
-use Rattle.aprs_history.specs.declared.verdicts.Admission.TheVariants.{NoPort, TurnedAway, Served}
-use Rattle.aprs_history.specs.Trace.{Trace, Entry, RoundBegan, Dated, Ticked, Opened, Brought, Said, Roomed, Took, Lost, Ended, is_closing, is_live, is_member, closed_links, moment_of, placed}
-use Rattle.aprs_history.specs.Links.{taken_by}
+use Rattle.aprs_history.specs.declared.verdicts.Admission.TheVariants.{NoPort, NotAsked, TurnedAway, Served}
+use Rattle.aprs_history.specs.Trace.{Trace, Entry, RoundBegan, Dated, Looked, Unjoined, Ticked, Opened, Brought, Said, Roomed, Took, Lost, Ended, is_closing, is_from, is_live, is_member, closed_links, moment_of, placed}
+use Rattle.aprs_history.specs.Links.{is_client, is_submitted, opening_of, session_of, taken_by}
+use Rattle.aprs_history.specs.Messages.{is_asked}
 use Rattle.aprs_history.specs.Scenes.{packet_of}
+use Rattle.aprs_history.specs.Sights.{filter_passes}
 use Rattle.link_queue.specs.Lines.{ended_line, text_bytes}
-use Rattle.aprs_history.specs.Texts.{Banner, Relayed, Text, TextLine, added_by, banner, banner_of, comment_line, most_waiting, waiting_lines, with_text_line, with_text_lines, filter_reply, lines_of, login_filter_reply, login_reply, plain, plain_line, refusal_reply, relayed, reply_lines, reply_of, text_to, untaken, wants}
+use Rattle.aprs_history.specs.Texts.{Text, TextLine, added_by, comment_line, opening_wants, shows_duplicates, first_line, first_lines, is_shown, most_waiting, waiting_lines, with_text_line, with_text_lines, filter_reply, lines_of, login_filter_reply, login_reply, plain, plain_line, refusal_reply, refused_lines, relayed, reply_lines, reply_of, shown, text_to, untaken, wants}
 use Rattle.aprs_history.specs.History.{History, ends_round, greater_link, greatest_link, is_stopped, open_events, trace_of}
 use Rattle.aprs_history.specs.Acts.{IsRun, but_first, due}
 use Rattle.aprs_history.specs.Headline.{HasEnded, is_round_start, HasFreshLinks, IsOfAnother, LinksTakePrefixes, NoneHearThemselves, ClosesHaveReasons, taken_bytes}
@@ -99,10 +104,12 @@ module _ (s : Setting) (h : History) (t : Trace) (link : ℕ) where
   grown_by : (u : Trace) (entry : Entry) → MayAdd s h (λ k. (link == k) ≡ false) u entry → Grown s t link u → Grown s t link (entry ∷ u)
   grown_by u RoundBegan may grown = grown
   grown_by u (Ticked moment) may grown = grown
-  grown_by u (Opened listener admission opened from) may grown = rw may grown
+  grown_by u Looked may grown = grown
+  grown_by u (Unjoined uplink) may grown = grown
+  grown_by u (Opened door admission opened from) may grown = rw may grown
   grown_by u (Brought from bytes) may grown = grown
   grown_by u (Said from cut verdict) may grown = grown_lines u (taken_by u link) (added_by s u from verdict link) (Said from cut verdict) refl refl grown
-  grown_by u (Dated moment) may grown = grown_lines u (taken_by u link) (if is_live u link then comment_line s.server moment ∷ [] else []) (Dated moment) refl refl grown
+  grown_by u (Dated moment) may grown = grown_lines u (taken_by u link) (if is_client u link then comment_line s.server moment ∷ [] else []) (Dated moment) refl refl grown
   grown_by u (Roomed roomed) may grown = grown
   grown_by u (Took by offered taken) may grown = absurd may
   grown_by u (Lost lost) may grown = absurd may
@@ -119,7 +126,9 @@ none_by : (s : Setting) (h : History) (link : ℕ) (u : Trace) (entry : Entry) �
 none_by s h link u RoundBegan may none = none
 none_by s h link u (Ticked moment) may none = none
 none_by s h link u (Dated moment) may none = none
-none_by s h link u (Opened listener admission opened from) may none = of (link == opened)
+none_by s h link u Looked may none = none
+none_by s h link u (Unjoined uplink) may none = none
+none_by s h link u (Opened door admission opened from) may none = of (link == opened)
   where
     of : (b : Bool) → (if b then 0 else taken_by u link) ≡ 0
     of true = refl
@@ -241,11 +250,11 @@ links_take_prefixes s h run fresh link =
 -- ---- no link's own packets
 
 module _ (s : Setting) (link : ℕ) where
-  reply_is_no_packet : (line : List ℕ) → IsOfAnother link (reply_of line)
-  reply_is_no_packet line packet is = cc
+  line_alone : (line : TextLine) → IsOfAnother link line → All (IsOfAnother link) (line ∷ [])
+  line_alone line other = All-cons (IsOfAnother link) line [] other (All-nil (IsOfAnother link))
 
   reply_alone : (line : List ℕ) → All (IsOfAnother link) (reply_of line ∷ [])
-  reply_alone line = All-cons (IsOfAnother link) (reply_of line) [] (reply_is_no_packet line) (All-nil (IsOfAnother link))
+  reply_alone line = line_alone (reply_of line) tt
 
   replies_all : (reply : Option (List ℕ)) → All (IsOfAnother link) (reply_lines reply)
   replies_all None = All-nil (IsOfAnother link)
@@ -259,31 +268,44 @@ module _ (s : Setting) (link : ℕ) where
   if_all true lines all = all refl
   if_all false lines all = All-nil (IsOfAnother link)
 
-  banner_all : (admission : Admission) → All (IsOfAnother link) (banner_of admission)
-  banner_all NoPort = All-nil (IsOfAnother link)
-  banner_all TurnedAway = All-nil (IsOfAnother link)
-  banner_all (Served kind) = All-cons (IsOfAnother link) (record { kind = Banner; line = banner }) [] (λ packet is. cc) (All-nil (IsOfAnother link))
+  first_all : (admission : Admission) → All (IsOfAnother link) (first_lines s admission)
+  first_all NoPort = All-nil (IsOfAnother link)
+  first_all TurnedAway = All-nil (IsOfAnother link)
+  first_all NotAsked = All-nil (IsOfAnother link)
+  first_all (Served (Client port)) = line_alone (first_line s (Client port)) tt
+  first_all (Served (Uplink uplink)) = line_alone (first_line s (Uplink uplink)) tt
 
-  not_own : (t : Trace) (from : ℕ) (packet other : PacketSeen) → packet.from ≡ source.Link from → wants t from packet link ≡ true → Relayed packet ≡ Relayed other → other.from ≢ source.Link link
-  not_own t from packet other came wanted is own =
-      let same : packet ≡ other = cc in
-      let links : source.Link from ≡ source.Link link = sym came ∙ ap (λ (p : PacketSeen). p.from) same ∙ own in
-      let numbers : from ≡ link = cc in
-      let unwanted : wants t from packet link ≡ false = rw (eq-eqb from link numbers) refl in
-      true≢false (sym wanted ∙ unwanted)
+  -- only what comes from another passes such a test
+  not_own : (from : Source) (live others : Bool) → (not (is_from link from) && live && others) ≡ true → from ≢ source.Link link
+  not_own from live others is own =
+      true≢false (sym is ∙ ap (λ by. not (is_from link by) && live && others) own ∙ ap (λ b. not b && live && others) (eq-eqb link link refl))
 
-  added_all : (t : Trace) (from : ℕ) (verdict : Verdict) → All (IsOfAnother link) (added_by s t from verdict link)
+  refused_all : (t : Trace) (from : Source) (why : Refusal) → All (IsOfAnother link) (refused_lines t from why link)
+  refused_all t from (refusal.Duplicate parts line) =
+      let packet = packet_of from (moment_of t) parts line in
+      if_all (is_shown t from link) (shown packet ∷ [])
+      (λ is. line_alone (shown packet) (not_own from (is_live t link) (shows_duplicates (opening_of t link) (session_of t link)) is))
+  refused_all t from (refusal.Login why) = if_all (is_from link from) (reply_lines (refusal_reply (refusal.Login why))) (λ is. replies_all (refusal_reply (refusal.Login why)))
+  refused_all t from refusal.OwnName = if_all (is_from link from) (reply_lines (refusal_reply refusal.OwnName)) (λ is. replies_all (refusal_reply refusal.OwnName))
+  refused_all t from refusal.Long = if_all (is_from link from) [] (λ is. All-nil (IsOfAnother link))
+  refused_all t from refusal.ReadOnly = if_all (is_from link from) [] (λ is. All-nil (IsOfAnother link))
+  refused_all t from refusal.Stranger = if_all (is_from link from) [] (λ is. All-nil (IsOfAnother link))
+  refused_all t from (refusal.Packet why) = if_all (is_from link from) [] (λ is. All-nil (IsOfAnother link))
+  refused_all t from (refusal.Path why) = if_all (is_from link from) [] (λ is. All-nil (IsOfAnother link))
+
+  added_all : (t : Trace) (from : Source) (verdict : Verdict) → All (IsOfAnother link) (added_by s t from verdict link)
   added_all t from PassedOver = All-nil (IsOfAnother link)
-  added_all t from (Refused why) = if_all (link == from) (reply_lines (refusal_reply why)) (λ is. replies_all (refusal_reply why))
+  added_all t from (Refused why) = refused_all t from why
   added_all t from (LoggedIn session answer) =
       let reply = reply_of (login_reply s.server session) in
-      if_all (link == from) (reply ∷ login_filter_reply answer)
-      (λ is. All-cons (IsOfAnother link) reply (login_filter_reply answer) (reply_is_no_packet reply.line) (login_filter_all answer))
-  added_all t from (Filtered answer) = if_all (link == from) (reply_of (filter_reply answer) ∷ []) (λ is. reply_alone (filter_reply answer))
+      if_all (is_from link from) (reply ∷ login_filter_reply answer) (λ is. All-cons (IsOfAnother link) reply (login_filter_reply answer) tt (login_filter_all answer))
+  added_all t from (Filtered answer) = if_all (is_from link from) (reply_of (filter_reply answer) ∷ []) (λ is. reply_alone (filter_reply answer))
   added_all t from (Accepted parts line) =
       let packet = packet_of from (moment_of t) parts line in
-      if_all (wants t from packet link) (relayed packet ∷ [])
-      (λ wanted. All-cons (IsOfAnother link) (relayed packet) [] (λ other is own. not_own t from packet other refl wanted is own) (All-nil (IsOfAnother link)))
+      let named = is_some (session_of t link) in
+      if_all (wants t packet link) (relayed packet ∷ [])
+      (λ is. line_alone (relayed packet)
+      (not_own from (is_live t link) (opening_wants (opening_of t link) named (is_submitted t from) (filter_passes t packet link || is_asked t packet link)) is))
 
   lines_all : (taken : ℕ) (lines : List TextLine) (text : Text) → All (IsOfAnother link) lines → All (IsOfAnother link) text.lines → All (IsOfAnother link) (with_text_lines taken lines text).lines
   lines_all taken [] text all before = before
@@ -298,17 +320,19 @@ module _ (s : Setting) (link : ℕ) where
 
   text_all : (t : Trace) → All (IsOfAnother link) (text_to s t link).lines
   text_all [] = All-nil (IsOfAnother link)
-  text_all (Opened listener admission opened from ∷ t) = of (link == opened) (text_all t)
+  text_all (Opened door admission opened from ∷ t) = of (link == opened) (text_all t)
     where
-      of : (b : Bool) → All (IsOfAnother link) (text_to s t link).lines → All (IsOfAnother link) (if b then record { lines = banner_of admission; over = false } else text_to s t link).lines
-      of true before = banner_all admission
+      of : (b : Bool) → All (IsOfAnother link) (text_to s t link).lines → All (IsOfAnother link) (if b then record { lines = first_lines s admission; over = false } else text_to s t link).lines
+      of true before = first_all admission
       of false before = before
   text_all (Said from cut verdict ∷ t) = lines_all (taken_by t link) (added_by s t from verdict link) (text_to s t link) (added_all t from verdict) (text_all t)
   text_all (Dated moment ∷ t) =
       let comment = comment_line s.server moment in
-      lines_all (taken_by t link) (if is_live t link then comment ∷ [] else []) (text_to s t link)
-      (if_all (is_live t link) (comment ∷ []) (λ is. All-cons (IsOfAnother link) comment [] (λ packet is. cc) (All-nil (IsOfAnother link)))) (text_all t)
+      lines_all (taken_by t link) (if is_client t link then comment ∷ [] else []) (text_to s t link)
+      (if_all (is_client t link) (comment ∷ []) (λ is. line_alone comment tt)) (text_all t)
   text_all (RoundBegan ∷ t) = text_all t
+  text_all (Looked ∷ t) = text_all t
+  text_all (Unjoined uplink ∷ t) = text_all t
   text_all (Ticked moment ∷ t) = text_all t
   text_all (Brought from bytes ∷ t) = text_all t
   text_all (Roomed roomed ∷ t) = text_all t
@@ -349,7 +373,9 @@ has_ended (Ended ended reason ∷ t) link member =
     (cases_Bool (is_closing reason))
 has_ended (Dated moment ∷ t) link member = ended_before t link (Dated moment) refl (has_ended t link member)
 has_ended (Ticked moment ∷ t) link member = ended_before t link (Ticked moment) refl (has_ended t link member)
-has_ended (Opened listener admission opened from ∷ t) link member = ended_before t link (Opened listener admission opened from) refl (has_ended t link member)
+has_ended (Looked ∷ t) link member = ended_before t link Looked refl (has_ended t link member)
+has_ended (Unjoined uplink ∷ t) link member = ended_before t link (Unjoined uplink) refl (has_ended t link member)
+has_ended (Opened door admission opened from ∷ t) link member = ended_before t link (Opened door admission opened from) refl (has_ended t link member)
 has_ended (Brought from bytes ∷ t) link member = ended_before t link (Brought from bytes) refl (has_ended t link member)
 has_ended (Said from cut verdict ∷ t) link member = ended_before t link (Said from cut verdict) refl (has_ended t link member)
 has_ended (Roomed roomed ∷ t) link member = ended_before t link (Roomed roomed) refl (has_ended t link member)

@@ -8,23 +8,26 @@ use Rattle.aprs_base.specs.declared.events.Event.{Event}
 use Rattle.aprs_base.specs.declared.events.Event.TheVariants as event
 use Rattle.aprs_base.specs.declared.events.Sent.TheVariants as sent
 use Rattle.aprs_base.specs.declared.events.Happening.TheVariants as did
+use Rattle.aprs_base.specs.declared.packets.Source.{Source}
+use Rattle.aprs_base.specs.declared.packets.Source.TheVariants as source
 use Rattle.aprs_base.specs.declared.texts.Addr.{Addr}
 use Rattle.filter_eval.specs.Passes.{is_text}
 use Rattle.station_table.specs.Last.{later_or}
 use Rattle.station_table.proofs.LastSeen.{told_more}
 use Rattle.heard_routing.specs.LastHeard.{heard_by, last_heard}
+use Rattle.heard_routing.specs.LastHeard as routed
 use Rattle.aprs_history.specs.declared.verdicts.Verdict.{Verdict}
 use Rattle.aprs_history.specs.declared.verdicts.Verdict.TheVariants.{PassedOver, Refused, LoggedIn, Filtered, Accepted}
 use Rattle.aprs_history.specs.Setting.{Setting}
 use Rattle.aprs_history.specs.declared.verdicts.Admission.{Admission}
-use Rattle.aprs_history.specs.declared.verdicts.Admission.TheVariants.{NoPort, TurnedAway, Served}
-use Rattle.aprs_history.specs.Trace.{Trace, Entry, RoundBegan, Dated, Ticked, Opened, Brought, Said, Roomed, Took, Lost, Ended, ByStop, is_live, is_member, is_other, live_links, moment_of, opened_link}
+use Rattle.aprs_history.specs.declared.verdicts.Admission.TheVariants.{NoPort, NotAsked, TurnedAway, Served}
+use Rattle.aprs_history.specs.Trace.{Trace, Door, Entry, AtListener, ByUplink, RoundBegan, Dated, Looked, Unjoined, Ticked, Opened, Brought, Said, Roomed, Took, Lost, Ended, ByStop, is_from, is_member, is_other, live_links, moment_of, opened_link}
 use Rattle.aprs_history.specs.Scenes.{accepted_of, packet_of}
 use Rattle.aprs_history.specs.Messages.{heard_after, heard_of}
-use Rattle.aprs_history.specs.History.{History, admission, begun, ends_round, greater_link, greatest_link, open_events, trace_of, with_event}
+use Rattle.aprs_history.specs.History.{History, admission, begun, ends_round, greater_link, greatest_link, joined_admission, open_events, trace_of, with_event}
 use Rattle.aprs_history.specs.Headline.{HasFreshLinks}
 use Rattle.aprs_history.specs.MessageRule.{HeardIsLastAccepted}
-use Rattle.aprs_history.proofs.EntryLemmas.{MayAdd, kept_begun, kept_ended, kept_event}
+use Rattle.aprs_history.proofs.EntryLemmas.{IsSaidBy, MayAdd, kept_begun, kept_ended, kept_event}
 use Rattle.aprs_history.proofs.NumberLemmas.{differs_above}
 
 -- ---- numbers that aren't above one
@@ -62,11 +65,20 @@ member_within (n ∷ ns) high k within member =
 abbrev Agrees : ℕ → List ℕ → Trace → Type 0
 Agrees link call t = heard_of t link call ≡ last_heard (accepted_of t) link call
 
+-- both say so of a packet's source
+same_from : (link : ℕ) (from : Source) → routed.is_from link from ≡ is_from link from
+same_from link (source.Link other) = refl
+same_from link (source.Submit listener) = refl
+same_from link (source.Peer peer) = refl
+
 -- one more accepted packet
-heard_more : (t : Trace) (from : ℕ) (cut : Cut) (verdict : Verdict) (link : ℕ) (call : List ℕ)
+heard_more : (t : Trace) (from : Source) (cut : Cut) (verdict : Verdict) (link : ℕ) (call : List ℕ)
     → last_heard (accepted_of (Said from cut verdict ∷ t)) link call ≡ heard_after (moment_of t) from verdict link call (last_heard (accepted_of t) link call)
 heard_more t from cut (Accepted parts line) link call =
-    told_more (heard_by link call) (accepted_of t) (packet_of from (moment_of t) parts line) ∙ later (link == from && is_text call parts.source) (last_heard (accepted_of t) link call)
+    let before = last_heard (accepted_of t) link call in
+    told_more (heard_by link call) (accepted_of t) (packet_of from (moment_of t) parts line)
+    ∙ ap (λ b. later_or before (if b && is_text call parts.source then Some (moment_of t) else None)) (same_from link from)
+    ∙ later (is_from link from && is_text call parts.source) before
   where
     later : (b : Bool) (before : Option ℕ) → later_or before (if b then Some (moment_of t) else None) ≡ (if b then Some (moment_of t) else before)
     later true before = refl
@@ -77,7 +89,7 @@ heard_more t from cut (LoggedIn session answer) link call = ap (λ packets. last
 heard_more t from cut (Filtered answer) link call = ap (λ packets. last_heard packets link call) (append-nil (accepted_of t))
 
 -- another link hears nothing
-heard_not : (now from : ℕ) (verdict : Verdict) (link : ℕ) (call : List ℕ) (before : Option ℕ) → (link == from) ≡ false → heard_after now from verdict link call before ≡ before
+heard_not : (now : ℕ) (from : Source) (verdict : Verdict) (link : ℕ) (call : List ℕ) (before : Option ℕ) → is_from link from ≡ false → heard_after now from verdict link call before ≡ before
 heard_not now from (Accepted parts line) link call before other = rw other refl
 heard_not now from PassedOver link call before other = refl
 heard_not now from (Refused refusal) link call before other = refl
@@ -114,31 +126,38 @@ hears_same high t entry live accepted heard hears = record {
   agree = (λ link call. heard link call ∙ agrees_now t hears.agree link call ∙ ap (λ packets. last_heard packets link call) (sym accepted), hears.agree);
 }
 
-hears_said : (high : ℕ) (t : Trace) (from : ℕ) (cut : Cut) (verdict : Verdict) → is_live t from ≡ true → Hears high t → Hears high (Said from cut verdict ∷ t)
-hears_said high t from cut verdict live hears =
-    let within = member_within (live_links t) high from hears.live live in
-    record {
-      live = hears.live;
-      none = λ link call above.
-          heard_more t from cut verdict link call ∙ heard_not (moment_of t) from verdict link call (last_heard (accepted_of t) link call) (differs_above from link (omega arith))
-          ∙ hears.none link call above;
-      agree = (λ link call. ap (heard_after (moment_of t) from verdict link call) (agrees_now t hears.agree link call) ∙ sym (heard_more t from cut verdict link call), hears.agree);
-    }
+-- what is said isn't from a later link
+from_another : (high link : ℕ) (t : Trace) (from : Source) → AreWithin (live_links t) high → high < link → IsSaidBy t from → is_from link from ≡ false
+from_another high link t (source.Link other) live above said = let within = member_within (live_links t) high other live said in differs_above other link (omega arith)
+from_another high link t (source.Submit listener) live above said = refl
+from_another high link t (source.Peer peer) live above said = refl
+
+hears_said : (high : ℕ) (t : Trace) (from : Source) (cut : Cut) (verdict : Verdict) → IsSaidBy t from → Hears high t → Hears high (Said from cut verdict ∷ t)
+hears_said high t from cut verdict said hears = record {
+  live = hears.live;
+  none = λ link call above.
+      heard_more t from cut verdict link call
+      ∙ heard_not (moment_of t) from verdict link call (last_heard (accepted_of t) link call) (from_another high link t from hears.live above said)
+      ∙ hears.none link call above;
+  agree = (λ link call. ap (heard_after (moment_of t) from verdict link call) (agrees_now t hears.agree link call) ∙ sym (heard_more t from cut verdict link call), hears.agree);
+}
 
 hears_by : (s : Setting) (h : History) (high : ℕ) (t : Trace) (entry : Entry) → MayAdd s h (λ link. ⊥) t entry → Hears high t → Hears high (entry ∷ t)
 hears_by s h high t RoundBegan may hears = hears_same high t RoundBegan hears.live refl (λ link call. refl) hears
 hears_by s h high t (Ticked moment) may hears = hears_same high t (Ticked moment) hears.live refl (λ link call. refl) hears
 hears_by s h high t (Dated moment) may hears = hears_same high t (Dated moment) hears.live refl (λ link call. refl) hears
-hears_by s h high t (Opened listener admission link from) may hears = absurd may
+hears_by s h high t Looked may hears = hears_same high t Looked hears.live refl (λ link call. refl) hears
+hears_by s h high t (Unjoined uplink) may hears = hears_same high t (Unjoined uplink) hears.live refl (λ link call. refl) hears
+hears_by s h high t (Opened door admission link from) may hears = absurd may
 hears_by s h high t (Brought link bytes) may hears = hears_same high t (Brought link bytes) hears.live refl (λ link call. refl) hears
-hears_by s h high t (Said link cut verdict) may hears = hears_said high t link cut verdict may hears
+hears_by s h high t (Said from cut verdict) may hears = hears_said high t from cut verdict may hears
 hears_by s h high t (Roomed link) may hears = hears_same high t (Roomed link) hears.live refl (λ link call. refl) hears
 hears_by s h high t (Took link offered taken) may hears = absurd may
 hears_by s h high t (Lost link) may hears = absurd may
 hears_by s h high t (Ended link reason) may hears = hears_same high t (Ended link reason) (within_filtered (is_other link) (live_links t) high hears.live) refl (λ link call. refl) hears
 
-hears_opened : (high k : ℕ) (t : Trace) (listener : ℕ) (admission : Admission) (from : Addr) → high < k → Hears high t → Hears (max k high) (Opened listener admission k from ∷ t)
-hears_opened high k t listener admission from above hears = record {
+hears_opened : (high k : ℕ) (t : Trace) (door : Door) (admission : Admission) (from : Addr) → high < k → Hears high t → Hears (max k high) (Opened door admission k from ∷ t)
+hears_opened high k t door admission from above hears = record {
   live = within_both (live_links t) (opened_link admission k) (max k high) (within_higher (live_links t) high (max k high) (omega arith) hears.live) (opened admission);
   none = λ link call over. hears.none link call (omega arith);
   agree = (λ link call. agrees link call, hears.agree);
@@ -147,6 +166,7 @@ hears_opened high k t listener admission from above hears = record {
     opened : (admission : Admission) → AreWithin (opened_link admission k) (max k high)
     opened NoPort = tt
     opened TurnedAway = tt
+    opened NotAsked = tt
     opened (Served kind) = (omega arith, tt)
 
     agrees : (link : ℕ) (call : List ℕ) → (if link == k then None else heard_of t link call) ≡ last_heard (accepted_of t) link call
@@ -155,19 +175,16 @@ hears_opened high k t listener admission from above hears = record {
         (λ other. rw other (agrees_now t hears.agree link call))
         (cases_Bool (link == k))
 
-hears_higher : (high more : ℕ) (t : Trace) → high ≤ more → Hears high t → Hears more t
-hears_higher high more t le hears = record { live = within_higher (live_links t) high more le hears.live; none = λ link call above. hears.none link call (omega arith); agree = hears.agree }
-
 hears_event : (s : Setting) (h : History) (high : ℕ) (e : Event) (t : Trace) → IfSome (new_link e) (λ link. high < link) → Hears high t → Hears (greater_link (new_link e) high) (with_event s e t)
-hears_event s h high (event.Opened listener link from) t fresh hears = hears_opened high link t listener (admission s t listener) from fresh hears
-hears_event s h high (event.Joined uplink link at) t fresh hears = hears_higher high (max link high) t (omega arith) hears
+hears_event s h high (event.Opened listener link from) t fresh hears = hears_opened high link t (AtListener listener) (admission s t listener) from fresh hears
+hears_event s h high (event.Joined uplink link at) t fresh hears = hears_opened high link t (ByUplink uplink) (joined_admission s t uplink link) at fresh hears
 hears_event s h high (event.Tick moment) t fresh hears = let all = did.Event (event.Tick moment) ∷ h in kept_event s all (λ link. ⊥) (Hears high) (hears_by s all high) h (event.Tick moment) t refl tt hears
 hears_event s h high (event.Bytes link bytes) t fresh hears = let all = did.Event (event.Bytes link bytes) ∷ h in kept_event s all (λ link. ⊥) (Hears high) (hears_by s all high) h (event.Bytes link bytes) t refl tt hears
 hears_event s h high (event.Ended link) t fresh hears = let all = did.Event (event.Ended link) ∷ h in kept_event s all (λ link. ⊥) (Hears high) (hears_by s all high) h (event.Ended link) t refl tt hears
 hears_event s h high (event.Room link) t fresh hears = let all = did.Event (event.Room link) ∷ h in kept_event s all (λ link. ⊥) (Hears high) (hears_by s all high) h (event.Room link) t refl tt hears
 hears_event s h high event.Stop t fresh hears = hears
-hears_event s h high (event.Unjoined uplink) t fresh hears = hears
-hears_event s h high (event.Datagram listener from bytes) t fresh hears = hears
+hears_event s h high (event.Unjoined uplink) t fresh hears = let all = did.Event (event.Unjoined uplink) ∷ h in kept_event s all (λ link. ⊥) (Hears high) (hears_by s all high) h (event.Unjoined uplink) t refl tt hears
+hears_event s h high (event.Datagram listener from bytes) t fresh hears = let all = did.Event (event.Datagram listener from bytes) ∷ h in kept_event s all (λ link. ⊥) (Hears high) (hears_by s all high) h (event.Datagram listener from bytes) t refl tt hears
 
 hears : (s : Setting) (h : History) → HasFreshLinks h → Hears (greatest_link h) (trace_of s h)
 unfolding trace_of

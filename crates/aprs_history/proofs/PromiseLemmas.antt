@@ -3,7 +3,7 @@ use Rattle.std.proofs.Common.{◌≡◌, ℕ, ◌&&◌, Bool, true, false, List,
 use Rattle.std.proofs.lemmas.Bool.{cases_Bool}
 use Rattle.aprs_history.specs.declared.verdicts.Verdict.TheVariants.{PassedOver, Refused, LoggedIn, Filtered, Accepted}
 use Rattle.aprs_history.specs.Keys.{is_text}
-use Rattle.aprs_history.specs.Trace.{Trace, Entry, RoundBegan, Dated, Ticked, Opened, Brought, Said, Roomed, Took, Lost, Ended, moment_of}
+use Rattle.aprs_history.specs.Trace.{Trace, Entry, RoundBegan, Dated, Looked, Unjoined, Ticked, Opened, Brought, Said, Roomed, Took, Lost, Ended, moment_of}
 use Rattle.aprs_history.specs.Scenes.{packet_of}
 use Rattle.aprs_history.specs.Messages.{is_position, promise_after, promise_of, promises}
 use Rattle.aprs_history.specs.MessageRule.{IsPromised, LeavesPromise, PromisesAreOwed, ends_promise, is_routed_message}
@@ -18,15 +18,17 @@ promise_by_entry : (t : Trace) (entry : Entry) (link : ℕ) (sender : List ℕ)
     → promise_of (entry ∷ t) link sender ≡ (if is_routed_message t entry link sender then Some (moment_of t) else if ends_promise t entry link sender then None else promise_of t link sender)
 promise_by_entry t (Said from cut (Accepted parts line)) link sender =
     let packet = packet_of from (moment_of t) parts line in
-    said_so (is_text sender parts.source) (promises t from packet link) (is_position packet) (moment_of t) (promise_of t link sender)
+    said_so (is_text sender parts.source) (promises t packet link) (is_position packet) (moment_of t) (promise_of t link sender)
 promise_by_entry t (Said from cut PassedOver) link sender = refl
 promise_by_entry t (Said from cut (Refused refusal)) link sender = refl
 promise_by_entry t (Said from cut (LoggedIn session answer)) link sender = refl
 promise_by_entry t (Said from cut (Filtered answer)) link sender = refl
-promise_by_entry t (Opened listener admission opened from) link sender = refl
+promise_by_entry t (Opened door admission opened from) link sender = refl
 promise_by_entry t RoundBegan link sender = refl
 promise_by_entry t (Ticked moment) link sender = refl
 promise_by_entry t (Dated moment) link sender = refl
+promise_by_entry t Looked link sender = refl
+promise_by_entry t (Unjoined uplink) link sender = refl
 promise_by_entry t (Brought from bytes) link sender = refl
 promise_by_entry t (Roomed roomed) link sender = refl
 promise_by_entry t (Took by offered taken) link sender = refl

@@ -5,6 +5,7 @@ use Rattle.aprs_base.specs.PacketSeen.{PacketSeen}
 use Rattle.aprs_base.specs.declared.packets.ListenSpec.{ListenSpec}
 use Rattle.aprs_base.specs.declared.packets.PortKind.{PortKind}
 use Rattle.aprs_base.specs.declared.packets.PortKind.TheVariants as kind
+use Rattle.aprs_base.specs.declared.packets.Source.TheVariants as source
 use Rattle.aprs_base.specs.declared.texts.Addr.{Addr}
 use Rattle.aprs_base.specs.declared.events.Event.TheVariants as event
 use Rattle.aprs_base.specs.declared.events.Sent.TheVariants as sent
@@ -20,7 +21,7 @@ use Rattle.q_construct.specs.declared.drops.QDrop.TheVariants as drop_for
 use Rattle.aprs_body.specs.Bodies.{body_of}
 use Rattle.login_pass.specs.declared.login_line.LoginFault.TheVariants as fault
 use Rattle.aprs_base.specs.declared.cutting.Cut.TheVariants as cut
-use Rattle.aprs_history.specs.Verdicts.{Scene, verdict_of}
+use Rattle.aprs_history.specs.Verdicts.{Scene, Visitor, verdict_of}
 use Rattle.aprs_history.specs.Scenes.{accepted_by, accepted_of, scene_of}
 use Rattle.aprs_history.specs.declared.verdicts.Verdict.{Verdict}
 use Rattle.aprs_history.specs.declared.verdicts.Verdict.TheVariants.{PassedOver, Refused, LoggedIn, Filtered, Accepted}
@@ -139,19 +140,21 @@ same_when_slow = refl
 
 -- ---- single lines
 
-abbrev pub link_of : List ℕ → Bool → Bool → List (List ℕ) → Scene
-link_of login verified only others = record {
+-- a client of a port that has logged in, and one that hasn't
+abbrev pub link_of : List ℕ → Bool → PortKind → List (List ℕ) → Scene
+link_of login verified port others = record {
   server = codes "T2TEST";
-  only = only;
-  filters = only;
-  session = Some (record { call = login; verified = verified });
+  speaker = Visitor port (Some (record { call = login; verified = verified }));
   others = others;
   moment = 1000;
   accepted = [];
 }
 
+abbrev pub stranger_on : PortKind → Scene
+stranger_on port = record { server = codes "T2TEST"; speaker = Visitor port None; others = []; moment = 1000; accepted = [] }
+
 abbrev pub stranger : Scene
-stranger = record { server = codes "T2TEST"; only = false; filters = false; session = None; others = []; moment = 1000; accepted = [] }
+stranger = stranger_on kind.Full
 
 abbrev pub verdict_on : Scene → List ℕ → Verdict
 verdict_on scene text = verdict_of scene (cut.Line text)
@@ -184,35 +187,35 @@ own_name : verdict_on stranger (codes "user T2TEST pass 8385") ≡ Refused refus
 unfolding login_of passcode_of
 own_name = refl
 
-unverified_own : sent_on (verdict_on (link_of (codes "N0CALL") false false []) (codes "N0CALL>APRS,WIDE1-1:>hi")) ≡ Some (codes "N0CALL>APRS,TCPXX*,qAX,T2TEST:>hi")
+unverified_own : sent_on (verdict_on (link_of (codes "N0CALL") false kind.Full []) (codes "N0CALL>APRS,WIDE1-1:>hi")) ≡ Some (codes "N0CALL>APRS,TCPXX*,qAX,T2TEST:>hi")
 unfolding parts_of text_of via_of head_of process_of given_drops built_drops built_row rows
 unverified_own = refl
 
-unverified_other : verdict_on (link_of (codes "N0CALL") false false []) (codes "K1XYZ>APRS:>hi") ≡ Refused (refusal.Path drop_for.Unverified)
+unverified_other : verdict_on (link_of (codes "N0CALL") false kind.Full []) (codes "K1XYZ>APRS:>hi") ≡ Refused (refusal.Path drop_for.Unverified)
 unfolding parts_of text_of via_of head_of process_of given_drops built_drops built_row rows
 unverified_other = refl
 
-received : sent_on (verdict_on (link_of (codes "OH7LZB") true false []) (codes "K1ABC>APRS,DIG*,OH7LZB,I:>x")) ≡ Some (codes "K1ABC>APRS,DIG*,qAR,OH7LZB:>x")
+received : sent_on (verdict_on (link_of (codes "OH7LZB") true kind.Full []) (codes "K1ABC>APRS,DIG*,OH7LZB,I:>x")) ≡ Some (codes "K1ABC>APRS,DIG*,qAR,OH7LZB:>x")
 unfolding parts_of text_of via_of head_of process_of given_drops built_drops built_row rows
 received = refl
 
-received_by_another : sent_on (verdict_on (link_of (codes "K1XYZ") true false []) (codes "K1ABC>APRS,DIG*,OH7LZB,I:>x")) ≡ Some (codes "K1ABC>APRS,DIG*,qAr,OH7LZB:>x")
+received_by_another : sent_on (verdict_on (link_of (codes "K1XYZ") true kind.Full []) (codes "K1ABC>APRS,DIG*,OH7LZB,I:>x")) ≡ Some (codes "K1ABC>APRS,DIG*,qAr,OH7LZB:>x")
 unfolding parts_of text_of via_of head_of process_of given_drops built_drops built_row rows
 received_by_another = refl
 
-other_is_here : verdict_on (link_of (codes "K1XYZ") true false (codes "OH7LZB" ∷ [])) (codes "K1ABC>APRS,DIG*,OH7LZB,I:>x") ≡ Refused (refusal.Path (drop_for.OtherLogin (codes "OH7LZB")))
+other_is_here : verdict_on (link_of (codes "K1XYZ") true kind.Full (codes "OH7LZB" ∷ [])) (codes "K1ABC>APRS,DIG*,OH7LZB,I:>x") ≡ Refused (refusal.Path (drop_for.OtherLogin (codes "OH7LZB")))
 unfolding parts_of text_of via_of head_of process_of given_drops built_drops built_row rows
 other_is_here = refl
 
-on_a_client_port : sent_on (verdict_on (link_of (codes "OH7LZB") true true []) (codes "K1ABC>APRS,DIG*,OH7LZB,I:>x")) ≡ Some (codes "K1ABC>APRS,DIG*,qAo,OH7LZB:>x")
+on_a_client_port : sent_on (verdict_on (link_of (codes "OH7LZB") true kind.Only []) (codes "K1ABC>APRS,DIG*,OH7LZB,I:>x")) ≡ Some (codes "K1ABC>APRS,DIG*,qAo,OH7LZB:>x")
 unfolding parts_of text_of via_of head_of process_of given_drops built_drops built_row rows
 on_a_client_port = refl
 
-without_a_gate : sent_on (verdict_on (link_of (codes "OH7LZB") true true []) (codes "K1ABC>APRS,DIG*:>x")) ≡ Some (codes "K1ABC>APRS,DIG*,qAO,OH7LZB:>x")
+without_a_gate : sent_on (verdict_on (link_of (codes "OH7LZB") true kind.Only []) (codes "K1ABC>APRS,DIG*:>x")) ≡ Some (codes "K1ABC>APRS,DIG*,qAO,OH7LZB:>x")
 unfolding parts_of text_of via_of head_of process_of given_drops built_drops built_row rows
 without_a_gate = refl
 
-on_a_full_port : sent_on (verdict_on (link_of (codes "OH7LZB") true false []) (codes "K1ABC>APRS,DIG*:>x")) ≡ Some (codes "K1ABC>APRS,DIG*,qAS,OH7LZB:>x")
+on_a_full_port : sent_on (verdict_on (link_of (codes "OH7LZB") true kind.Full []) (codes "K1ABC>APRS,DIG*:>x")) ≡ Some (codes "K1ABC>APRS,DIG*,qAS,OH7LZB:>x")
 unfolding parts_of text_of via_of head_of process_of given_drops built_drops built_row rows
 on_a_full_port = refl
 
@@ -226,8 +229,8 @@ shown_again verdict = None
 -- the verdict on a line, some seconds after the packet of the same link was accepted
 abbrev later_on : ℕ → List ℕ → Verdict
 later_on seconds text =
-    let first = link_of (codes "N0CALL") true false [] in
-    verdict_on (record first { moment = 1000 + seconds; accepted = accepted_by 1 1000 (verdict_on first (codes "N0CALL>APRS,WIDE1-1:>hi")) }) text
+    let first = link_of (codes "N0CALL") true kind.Full [] in
+    verdict_on (record first { moment = 1000 + seconds; accepted = accepted_by (source.Link 1) 1000 (verdict_on first (codes "N0CALL>APRS,WIDE1-1:>hi")) }) text
 
 again_by_another_path : shown_again (later_on 5 (codes "N0CALL>APRS,WIDE2-2:>hi")) ≡ Some (codes "N0CALL>APRS,TCPIP*,qAC,T2TEST:>hi")
 unfolding parts_of text_of via_of head_of process_of given_drops built_drops built_row rows
