@@ -1,9 +1,6 @@
 -- The acts of a round, as contracts see them.
 use Rattle.std.specs.Prelude.{ℕ, Bool, List, Option}
-
-pub record CastSeen : Type 0 where
-  pub peer : ℕ
-  pub line : List ℕ
+use Rattle.aprs_history.specs.Dials.{CastSeen}
 
 pub record ActsSeen : Type 0 where
   pub dial : Option ℕ

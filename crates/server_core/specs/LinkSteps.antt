@@ -1,5 +1,5 @@
 -- What each happening changes of a link.
-use Rattle.std.specs.Prelude.{◌≡◌, ℕ, ◌<◌, ◌==◌, ◌≤◌, ◌-◌, Bool, true, false, is_none, nat_le, nat_lt, List, [], ◌∷◌, ◌++◌, length, map, not, ◌&&◌, ◌||◌, is_some, Option, Some, None, if◌then◌else◌}
+use Rattle.std.specs.Prelude.{◌≡◌, ℕ, ◌<◌, ◌==◌, ◌≤◌, ◌-◌, Bool, true, false, is_none, nat_le, nat_lt, List, [], ◌∷◌, ◌++◌, length, map, filter, not, ◌&&◌, ◌||◌, is_some, Option, Some, None, if◌then◌else◌, ⊤}
 use Rattle.std.specs.List.{list_any, flat_map, zip}
 use Rattle.std.specs.Option.{option_and_then}
 use Rattle.aprs_base.specs.PacketSeen.{PacketSeen}
@@ -15,15 +15,30 @@ use Rattle.aprs_history.specs.declared.verdicts.FilterAnswer.{FilterAnswer}
 use Rattle.aprs_history.specs.declared.verdicts.FilterAnswer.TheVariants.{Active, Denied}
 use Rattle.aprs_history.specs.declared.verdicts.Session.{Session}
 use Rattle.aprs_history.specs.Stands.{LinkSeen, CoreSeen}
-use Rattle.aprs_history.specs.Trace.{is_member}
-use Rattle.aprs_history.specs.Links.{Opening, login_seconds, opened_at}
+use Rattle.aprs_history.specs.Trace.{is_from, is_member}
+use Rattle.aprs_history.specs.Links.{Opening, has_filters, is_client_link, login_seconds, opened_at}
 use Rattle.aprs_history.specs.declared.verdicts.Verdict.{Verdict}
 use Rattle.aprs_history.specs.declared.verdicts.Verdict.TheVariants.{PassedOver, Refused, LoggedIn, Filtered, Accepted}
-use Rattle.aprs_history.specs.Scenes.{has_filters, is_only, packet_of, verified_login}
+use Rattle.aprs_history.specs.Scenes.{packet_of, speaker_of, verified_login}
+use Rattle.aprs_history.specs.Verdicts.{Speaker, Visitor}
 use Rattle.aprs_history.specs.Messages.{is_message, is_position, is_to_login}
 use Rattle.aprs_history.specs.Sights.{named_call}
-use Rattle.aprs_history.specs.Texts.{banner, filter_words, login_reply, most_waiting, port_wants, refusal_reply, refused_filter}
+use Rattle.aprs_history.specs.Texts.{filter_words, first_line, login_reply, most_waiting, opening_wants, refusal_reply, refused_filter, shows_duplicates}
+use Rattle.aprs_base.specs.declared.packets.PortKind.TheVariants as port
+use Rattle.aprs_base.specs.declared.packets.Source.{Source}
+use Rattle.aprs_base.specs.declared.packets.Source.TheVariants as source
+use Rattle.aprs_history.specs.declared.verdicts.Refusal.{Refusal}
+use Rattle.aprs_history.specs.declared.verdicts.Refusal.TheVariants as refusal
+use Rattle.aprs_history.specs.Dials.{CastSeen, casts_to}
+use Rattle.aprs_history.specs.Setting.{Peer, Setting}
+use Rattle.aprs_base.specs.declared.texts.Addr.{Addr}
+use Rattle.aprs_history.specs.declared.verdicts.Admission.{Admission}
+use Rattle.aprs_history.specs.declared.verdicts.Admission.TheVariants.{NoPort, NotAsked, Served, TurnedAway}
+use Rattle.aprs_history.specs.Stands.{ReachSeen}
+use Rattle.uplinks_peers.specs.declared.uplinks.UpEvent.TheVariants as up
+use Rattle.uplinks_peers.specs.Uplinks.{UplinksSeen, uplinks_after}
 use Rattle.server_core.specs.declared.link.SourcePlace.{SourcePlace}
+use Rattle.server_core.specs.declared.link.Timeouts.{Timeouts}
 use Rattle.server_core.specs.Pending.{with_line, without_bytes, pending_bytes}
 
 abbrev pub has_that : ℕ → LinkSeen → Bool
@@ -147,20 +162,32 @@ abbrev pub is_asked_at : PacketSeen → List ℕ → List ℕ → LinkSeen → B
 is_asked_at packet hearers owed link = is_to_login packet link.session || is_among link.link hearers || is_among link.link owed
 
 -- whether a link is sent an accepted packet of another
-abbrev pub wants_packet : ℕ → PacketSeen → SourcePlace → List ℕ → List ℕ → LinkSeen → Bool
-wants_packet from packet source hearers owed link =
-    not (from == link.link) && is_some link.session && port_wants link.opening (passes_packet packet source link || is_asked_at packet hearers owed link)
+abbrev pub wants_packet : PacketSeen → SourcePlace → List ℕ → List ℕ → LinkSeen → Bool
+wants_packet packet source hearers owed link =
+    not (is_from link.link packet.from)
+    && opening_wants link.opening (is_some link.session) source.submitted (passes_packet packet source link || is_asked_at packet hearers owed link)
 
-abbrev pub with_copy : ℕ → PacketSeen → SourcePlace → List ℕ → List ℕ → LinkSeen → LinkSeen
-with_copy from packet source hearers owed link = if wants_packet from packet source hearers owed link then with_text packet.line link else link
+abbrev pub with_copy : PacketSeen → SourcePlace → List ℕ → List ℕ → LinkSeen → LinkSeen
+with_copy packet source hearers owed link = if wants_packet packet source hearers owed link then with_text packet.line link else link
 
 -- it is tested by what was known before it
-abbrev pub with_packet : ℕ → PacketSeen → SourcePlace → List ℕ → List ℕ → LinkSeen → LinkSeen
-with_packet from packet source hearers owed link = with_places packet (with_copy from packet source hearers owed link)
+abbrev pub with_packet : PacketSeen → SourcePlace → List ℕ → List ℕ → LinkSeen → LinkSeen
+with_packet packet source hearers owed link = with_places packet (with_copy packet source hearers owed link)
+
+-- whether a link is shown a duplicate that is refused there
+abbrev pub is_shown_at : Source → LinkSeen → Bool
+is_shown_at from link = not (is_from link.link from) && shows_duplicates link.opening link.session
+
+abbrev pub with_shown : Source → List ℕ → LinkSeen → LinkSeen
+with_shown from line link = if is_shown_at from link then with_text line link else link
+
+-- a client is told the date
+abbrev pub with_date : List ℕ → LinkSeen → LinkSeen
+with_date line link = if is_client_link link.opening then with_text line link else link
 
 -- a link that has just been opened
-abbrev pub new_link_seen : ℕ → Opening → LinkSeen
-new_link_seen number opening = record {
+abbrev pub new_link_seen : ℕ → Opening → List ℕ → LinkSeen
+new_link_seen number opening first = record {
   link = number;
   opening = Some opening;
   last = opening.moment;
@@ -169,7 +196,7 @@ new_link_seen number opening = record {
   filter = [];
   friends = [];
   mine = None;
-  queue = record { lines = banner ∷ []; offset = 0 };
+  queue = record { lines = first ∷ []; offset = 0 };
   over = false;
   blocked = false;
   gone = false;
@@ -190,15 +217,19 @@ is_there link = not link.gone
 abbrev pub is_overfull : LinkSeen → Bool
 is_overfull link = link.over
 
--- it has not logged in for half a minute, or has brought no bytes for so many seconds
+-- it is a client, and has not logged in for half a minute
 abbrev pub is_nameless_link : ℕ → LinkSeen → Bool
-is_nameless_link now link = is_none link.session && nat_le login_seconds (now - opened_at link.opening)
+is_nameless_link now link = is_client_link link.opening && (is_none link.session && nat_le login_seconds (now - opened_at link.opening))
 
-abbrev pub is_late_link : ℕ → ℕ → LinkSeen → Bool
-is_late_link timeout now link = is_nameless_link now link || nat_le timeout (now - link.last)
+-- the most seconds without bytes, less one
+abbrev pub timeout_for : Timeouts → LinkSeen → ℕ
+timeout_for timeouts link = if is_client_link link.opening then timeouts.client else timeouts.uplink
 
-abbrev pub is_in_time : ℕ → ℕ → LinkSeen → Bool
-is_in_time timeout now link = not (is_late_link timeout now link)
+abbrev pub is_late_link : Timeouts → ℕ → LinkSeen → Bool
+is_late_link timeouts now link = is_nameless_link now link || nat_le (timeout_for timeouts link) (now - link.last)
+
+abbrev pub is_in_time : Timeouts → ℕ → LinkSeen → Bool
+is_in_time timeouts now link = not (is_late_link timeouts now link)
 
 -- it is none of these
 abbrev pub is_none_of : List ℕ → LinkSeen → Bool
@@ -207,12 +238,29 @@ is_none_of numbers link = not (is_member link.link numbers)
 abbrev pub is_another : ℕ → LinkSeen → Bool
 is_another number link = not (link.link == number)
 
--- whether it serves clients alone
-abbrev pub only_kept : LinkSeen → Bool
-only_kept link = is_only link.opening
+-- who speaks on it
+abbrev pub speaker_kept : LinkSeen → Speaker
+speaker_kept link = speaker_of link.opening link.session
 
-abbrev pub only_at : ℕ → List LinkSeen → Bool
-only_at number links = picked_at only_kept false number links
+abbrev pub speaker_at : ℕ → List LinkSeen → Speaker
+speaker_at number links = picked_at speaker_kept (Visitor port.Full None) number links
+
+-- whether it is a client
+abbrev pub client_kept : LinkSeen → Bool
+client_kept link = is_client_link link.opening
+
+abbrev pub client_at : ℕ → List LinkSeen → Bool
+client_at number links = picked_at client_kept false number links
+
+-- how many clients there are
+abbrev pub clients_in : List LinkSeen → ℕ
+clients_in links = length (filter client_kept links)
+
+-- whether what comes from there was submitted here
+abbrev pub submitted_from : Source → List LinkSeen → Bool
+submitted_from (source.Link number) links = client_at number links
+submitted_from (source.Submit listener) links = true
+submitted_from (source.Peer peer) links = false
 
 -- whether its port has filters
 abbrev pub filters_kept : LinkSeen → Bool
@@ -237,29 +285,51 @@ other_login number link = if is_another number link then verified_login link.ses
 abbrev pub others_at : ℕ → List LinkSeen → List (List ℕ)
 others_at number links = flat_map (other_login number) links
 
+-- the logins of the verified links
+abbrev pub login_kept : LinkSeen → List (List ℕ)
+login_kept link = verified_login link.session
+
+abbrev pub logins_at : List LinkSeen → List (List ℕ)
+logins_at links = flat_map login_kept links
+
+-- the link whose line it is as the step leaves it, and all others as they are
+abbrev pub at_source : Source → (LinkSeen → LinkSeen) → List LinkSeen → List LinkSeen
+at_source (source.Link number) step links = map (at_link number step) links
+at_source (source.Submit listener) step links = links
+at_source (source.Peer peer) step links = links
+
 -- the links after a reply to one of them, where there is one
-abbrev pub with_reply : ℕ → Option (List ℕ) → List LinkSeen → List LinkSeen
-with_reply number None links = links
-with_reply number (Some line) links = map (at_link number (with_text line)) links
+abbrev pub with_reply : Source → Option (List ℕ) → List LinkSeen → List LinkSeen
+with_reply from None links = links
+with_reply from (Some line) links = at_source from (with_text line) links
+
+-- the links after a refusal: a duplicate is shown to those that want it, and the link whose line it is may have a reply
+abbrev pub with_refusal : Source → Refusal → List LinkSeen → List LinkSeen
+with_refusal from (refusal.Duplicate parts line) links = map (with_shown from line) links
+with_refusal from why links = with_reply from (refusal_reply why) links
 
 -- where a call was last seen, by the table
 abbrev pub sighting_in : CoreSeen → List ℕ → Option Seen
 sighting_in core call = place_young core.moment core.stations call
 
-abbrev pub source_found : CoreSeen → List ℕ → SourcePlace
-source_found core call = record { place = sighting_in core call; gate = is_some_and (is_young core.moment) (gate_at core.stations call) }
+abbrev pub source_found : CoreSeen → Source → List ℕ → SourcePlace
+source_found core from call = record {
+  place = sighting_in core call;
+  gate = is_some_and (is_young core.moment) (gate_at core.stations call);
+  submitted = submitted_from from core.links;
+}
 
 -- what is kept after an answer to a filter
-abbrev pub after_answer : ℕ → FilterAnswer → CoreSeen → CoreSeen
-after_answer number answer core = record core { links = map (at_link number (with_answer (found_in core.moment core.stations) answer)) core.links }
+abbrev pub after_answer : Source → FilterAnswer → CoreSeen → CoreSeen
+after_answer from answer core = record core { links = at_source from (with_answer (found_in core.moment core.stations) answer) core.links }
 
-abbrev pub after_login_answer : ℕ → Option FilterAnswer → CoreSeen → CoreSeen
-after_login_answer number None core = core
-after_login_answer number (Some answer) core = after_answer number answer core
+abbrev pub after_login_answer : Source → Option FilterAnswer → CoreSeen → CoreSeen
+after_login_answer from None core = core
+after_login_answer from (Some answer) core = after_answer from answer core
 
-abbrev pub after_login : List ℕ → ℕ → Session → CoreSeen → CoreSeen
-after_login server number session core =
-    record core { links = map (at_link number (with_session session (sighting_in core session.call) (login_reply server session))) core.links }
+abbrev pub after_login : List ℕ → Source → Session → CoreSeen → CoreSeen
+after_login server from session core =
+    record core { links = at_source from (with_session session (sighting_in core session.call) (login_reply server session)) core.links }
 
 -- ---- the message rule
 
@@ -288,51 +358,79 @@ abbrev pub spent : PacketSeen → HeardSeen → HeardSeen
 spent packet table = if is_position packet then without_promises packet.parts.source table else table
 
 -- a link is promised the sender's next position where it isn't the sender's and its port has filters
-abbrev pub may_promise : List LinkSeen → ℕ → ℕ → Bool
-may_promise links from link = not (from == link) && filters_at link links
+abbrev pub may_promise : List LinkSeen → Source → ℕ → Bool
+may_promise links from link = not (is_from link from) && filters_at link links
 
-abbrev pub promised_one : List LinkSeen → ℕ → List ℕ → ℕ → ℕ → HeardSeen → HeardSeen
+abbrev pub promised_one : List LinkSeen → Source → List ℕ → ℕ → ℕ → HeardSeen → HeardSeen
 promised_one links from sender now link table = if may_promise links from link then promised link sender now table else table
 
 -- the same for several links, one after another
-abbrev pub promised_all : List LinkSeen → ℕ → List ℕ → ℕ → List ℕ → HeardSeen → HeardSeen
+abbrev pub promised_all : List LinkSeen → Source → List ℕ → ℕ → List ℕ → HeardSeen → HeardSeen
 promised_all links from sender now [] table = table
 promised_all links from sender now (link ∷ more) table = promised_all links from sender now more (promised_one links from sender now link table)
 
+-- a client has heard the source of its packet
+abbrev pub noted_from : List LinkSeen → Source → List ℕ → ℕ → HeardSeen → HeardSeen
+noted_from links (source.Link number) call now table = if client_at number links then noted number call now table else table
+noted_from links (source.Submit listener) call now table = table
+noted_from links (source.Peer peer) call now table = table
+
 -- what was heard and promised, after a packet
-abbrev pub heard_with : ℕ → PacketSeen → CoreSeen → HeardSeen
-heard_with number packet core =
-    noted number packet.parts.source core.moment (promised_all core.links number packet.parts.source core.moment (hearers_in core packet) (spent packet core.heard))
+abbrev pub heard_with : PacketSeen → CoreSeen → HeardSeen
+heard_with packet core =
+    noted_from core.links packet.from packet.parts.source core.moment (promised_all core.links packet.from packet.parts.source core.moment (hearers_in core packet) (spent packet core.heard))
 
 -- links end, and nothing is kept of them
 abbrev pub forgotten_all : List ℕ → HeardSeen → HeardSeen
 forgotten_all [] table = table
 forgotten_all (link ∷ more) table = forgotten_all more (without_link link table)
 
-abbrev pub after_packet : ℕ → PacketSeen → CoreSeen → CoreSeen
-after_packet number packet core = record core {
-  links = map (with_packet number packet (source_found core packet.parts.source) (hearers_in core packet) (owed_in core packet)) core.links;
+-- the same of their uplinks
+abbrev pub ended_all : List ℕ → ℕ → UplinksSeen → UplinksSeen
+ended_all [] now uplinks = uplinks
+ended_all (link ∷ more) now uplinks = ended_all more now (uplinks_after (up.Ended link) now uplinks)
+
+-- a packet that was submitted here is for the peers
+abbrev pub cast_with : List Peer → PacketSeen → CoreSeen → List CastSeen
+cast_with peers packet core = core.reach.casts ++ (if submitted_from packet.from core.links then casts_to 0 peers packet.line else [])
+
+abbrev pub after_packet : List Peer → PacketSeen → CoreSeen → CoreSeen
+after_packet peers packet core = record core {
+  links = map (with_packet packet (source_found core packet.from packet.parts.source) (hearers_in core packet) (owed_in core packet)) core.links;
   accepted = core.accepted ++ packet ∷ [];
   stations = station.noted packet core.stations;
-  heard = heard_with number packet core;
+  heard = heard_with packet core;
+  reach = record core.reach { casts = cast_with peers packet core };
 }
 
--- what is kept after a verdict on what a link said
-abbrev pub after_verdict : List ℕ → ℕ → Verdict → CoreSeen → CoreSeen
-after_verdict server number PassedOver core = core
-after_verdict server number (Refused why) core = record core { links = with_reply number (refusal_reply why) core.links }
-after_verdict server number (LoggedIn session answer) core = after_login_answer number answer (after_login server number session core)
-after_verdict server number (Filtered answer) core = after_answer number answer core
-after_verdict server number (Accepted parts line) core = after_packet number (packet_of number core.moment parts line) core
+-- what is kept after a verdict on what was said
+abbrev pub after_verdict : List ℕ → List Peer → Source → Verdict → CoreSeen → CoreSeen
+after_verdict server peers from PassedOver core = core
+after_verdict server peers from (Refused why) core = record core { links = with_refusal from why core.links }
+after_verdict server peers from (LoggedIn session answer) core = after_login_answer from answer (after_login server from session core)
+after_verdict server peers from (Filtered answer) core = after_answer from answer core
+after_verdict server peers from (Accepted parts line) core = after_packet peers (packet_of from core.moment parts line) core
 
--- a filter has 64 terms at most
-abbrev pub has_few : FilterAnswer → Bool
-has_few (Active terms reply) = nat_le (length terms) 64
-has_few (Denied why) = true
+-- what is kept where a link comes
+abbrev pub admitted_in : Setting → Admission → ℕ → Addr → CoreSeen → CoreSeen
+admitted_in setting NoPort number from core = record core { greatest = number }
+admitted_in setting TurnedAway number from core = record core { greatest = number; turned = core.turned ++ number ∷ [] }
+admitted_in setting NotAsked number from core = record core { greatest = number; turned = core.turned ++ number ∷ [] }
+admitted_in setting (Served kind) number from core = record core {
+  greatest = number;
+  links = core.links ++ new_link_seen number (record { kind = kind; from = from; moment = core.moment }) (first_line setting kind).line ∷ [];
+}
 
-abbrev pub all_few : Option FilterAnswer → Bool
-all_few None = true
-all_few (Some answer) = has_few answer
+-- what comes in a datagram
+abbrev pub IsDatagram : Source → Type 0
+IsDatagram (source.Link number) = ⊥
+IsDatagram (source.Submit listener) = ⊤
+IsDatagram (source.Peer peer) = ⊤
+
+-- a refusal that may be that of a whole datagram: a duplicate never is
+abbrev pub IsWhole : Refusal → Type 0
+IsWhole (refusal.Duplicate parts line) = ⊥
+IsWhole why = ⊤
 
 -- each of these numbers is a link's
 abbrev pub AreServed : List ℕ → List LinkSeen → Type 0

@@ -9,8 +9,9 @@ use Rattle.aprs_conf.specs.declared.types.PeerSpec.{PeerSpec}
 use Rattle.aprs_history.specs.Setting.{Peer, Setting}
 use Rattle.aprs_history.specs.Stands.{CoreSeen, StandsFor}
 use Rattle.aprs_history.specs.History.{History, trace_of}
-use Rattle.aprs_history.specs.Acts.{Closes, due, offer_to}
+use Rattle.aprs_history.specs.Acts.{Closes, cast_act, dials, due, offer_to}
 use Rattle.server_core.specs.ActsSeen.{ActsSeen}
+use Rattle.server_core.specs.declared.link.Timeouts.{Timeouts}
 
 -- the listeners that have a number, in order: those that aren't idle
 abbrev pub numbered : List Listen → List ListenSpec
@@ -41,6 +42,9 @@ setting_of conf = record {
   max_clients = conf.max_clients;
 }
 
+abbrev pub timeouts_of : ConfSeen → Timeouts
+timeouts_of conf = record { client = conf.client_timeout; uplink = conf.up_timeout }
+
 pub record CoreMeaning : Type 0 where
   pub conf : ConfSeen
   pub seen : CoreSeen
@@ -49,8 +53,7 @@ pub record CoreMeaning : Type 0 where
 abbrev pub Stands : CoreMeaning → History → Type 0
 Stands core history = StandsFor (setting_of core.conf) core.seen history
 
--- the acts are those that are due: the offers, and then the closes
+-- the acts are those that are due: the dial, the casts, the offers, and then the closes
 pub record AreActs (setting : Setting) (history : History) (acts : ActsSeen) : Type 0 where
-  pub due : due setting history ≡ map (offer_to setting (trace_of setting history)) acts.offers ++ map Closes acts.closes
-  pub dial : acts.dial ≡ None
-  pub casts : acts.casts ≡ []
+  pub due : due setting history
+      ≡ dials acts.dial ++ (map cast_act acts.casts ++ (map (offer_to setting (trace_of setting history)) acts.offers ++ map Closes acts.closes))

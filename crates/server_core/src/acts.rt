@@ -12,7 +12,7 @@ pub struct CastOut {
 
 impl Model for CastOut {
     ghost use Rattle.std.specs.Arc.{arc_value};
-    ghost use Rattle.server_core.specs.ActsSeen.{CastSeen};
+    ghost use Rattle.aprs_history.specs.Dials.{CastSeen};
 
     ghost Value = { CastSeen };
 

@@ -1,10 +1,10 @@
 //! What the core asks of a configuration.
-ghost use Rattle.std.specs.Prelude.{◌≡◌, slice_get};
-ghost use Rattle.aprs_history.specs.Setting.{client_kind, kind_at};
-ghost use Rattle.server_core.specs.Meaning.{numbered, setting_of};
+ghost use Rattle.std.specs.Prelude.{◌≡◌, ◌+◌, ◌≤◌, Some, None, IfOk, IfErr, length, map, option_map, slice_get};
+ghost use Rattle.aprs_history.specs.Setting.{is_client_kind, kind_at, peer_from};
+ghost use Rattle.server_core.specs.Meaning.{numbered, peer_of, setting_of};
 
-use aprs_base::{Call, ListenSpec, PortKind};
-use aprs_conf::{Conf, Listen};
+use aprs_base::{Addr, Call, ListenSpec, PortKind};
+use aprs_conf::{Conf, Listen, PeerSpec};
 
 /// The server's call.
 pub(crate) fn server_of(conf: &Conf) -> &Call
@@ -27,38 +27,75 @@ pub(crate) fn client_timeout(conf: &Conf) -> u32
     conf.client_timeout
 }
 
-/// The listener of that number, among those that aren't idle.
-fn numbered_at(listens: &[Listen], number: usize) -> Option<ListenSpec>
-    ensures { result ≡ slice_get (numbered listens.now) number }
+/// The seconds that an uplink may be silent.
+pub(crate) fn uplink_timeout(conf: &Conf) -> u32
+    ensures { result ≡ conf.now.up_timeout }
+{
+    conf.up_timeout
+}
+
+/// The server's passcode.
+pub(crate) fn code_of(conf: &Conf) -> u32
+    ensures { result ≡ conf.now.code }
+{
+    conf.code
+}
+
+pub(crate) fn peers_of(conf: &Conf) -> &[PeerSpec]
+    ensures { result.now ≡ conf.now.peers }
+{
+    conf.peers.as_slice()
+}
+
+/// The listener of that number among those that aren't idle, or how many numbers further it is than they go.
+fn numbered_at(listens: &[Listen], number: usize) -> Result<ListenSpec, usize>
+    ensures found { IfOk result (λ spec. slice_get (numbered listens.now) number ≡ Some spec) }
+    ensures left { IfErr result (λ left. (slice_get (numbered listens.now) number ≡ None) × (length (numbered listens.now) + left ≡ number)) }
 {
     let mut left = number;
     for listen in listens {
         if !listen.idle {
             if left == 0 {
-                return Some(listen.spec);
+                return Ok(listen.spec);
             }
             left -= 1;
         }
     }
-    None
+    Err(left)
 }
 
-/// What the listener of that number serves to clients: nothing where there is none, or where it takes datagrams.
+/// What the listener of that number serves: nothing where there is none. That of the peer group comes after all others.
 pub(crate) fn served_by(conf: &Conf, listener: u16) -> Option<PortKind>
     ensures { result ≡ kind_at (setting_of conf.now) listener }
 {
     match numbered_at(conf.listens.as_slice(), usize::from(listener)) {
-        Some(spec) => client_kind_of(spec.kind),
-        None => None,
+        Ok(spec) => Some(spec.kind),
+        Err(0) if conf.group.is_some() => Some(PortKind::Core),
+        Err(_) => None,
     }
 }
 
-/// The kind, where clients connect to its ports.
-fn client_kind_of(kind: PortKind) -> Option<PortKind>
-    ensures { result ≡ client_kind kind }
+/// Whether clients connect to ports of this kind.
+pub(crate) fn is_client_kind(kind: PortKind) -> bool
+    ensures { result ≡ is_client_kind kind }
 {
     match kind {
-        PortKind::Full | PortKind::Igate | PortKind::Only | PortKind::Dupe => Some(kind),
-        PortKind::Submit | PortKind::Core => None,
+        PortKind::Full | PortKind::Igate | PortKind::Only | PortKind::Dupe => true,
+        PortKind::Submit | PortKind::Core => false,
     }
+}
+
+/// The number and the call of the first peer that has this address, port and all.
+pub(crate) fn peer_from(peers: &[PeerSpec], at: Addr) -> Option<(u16, &Call)>
+    requires { length peers.now ≤ 8 }
+    ensures { option_map (λ peer. (peer.0, peer.1.now)) result ≡ peer_from 0 (map peer_of peers.now) at }
+{
+    let mut number = 0;
+    for peer in peers {
+        if peer.at == at {
+            return Some((number, &peer.call));
+        }
+        number += 1;
+    }
+    None
 }

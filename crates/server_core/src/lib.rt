@@ -3,12 +3,11 @@
 
 mod acts;
 mod conf;
-mod judging;
 mod link;
 mod links;
 mod messages;
 mod places;
-mod replies;
+mod reach;
 mod server;
 
 pub use acts::{Acts, CastOut};

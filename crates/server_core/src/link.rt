@@ -2,25 +2,29 @@
 ghost use Rattle.std.specs.Prelude.{◌≡◌, ◌||◌, IsTrue, IfSome, is_some, ℕ, ◌≤◌, ◌<◌, List, ◌++◌, Some, None, OnOk, IfOk, length, min, take, option_map, true, false};
 ghost use Rattle.std.specs.Arc.{arc_value};
 ghost use Rattle.aprs_base.specs.Held.{held_after};
-ghost use Rattle.server_core.specs.LinkSteps.{at_moment, is_asked_at, is_in_time, is_late_link, is_none_of, is_lost, is_nameless_link, is_ready, list_of, new_link_seen, number_of, passes_packet, wants_packet, when_gone, with_bytes, with_copy, with_filter, with_packet, with_room, with_seen, with_session, with_taken, with_text};
-ghost use Rattle.aprs_base.specs.Bytes.{IsLine, is_station};
-ghost use Rattle.aprs_history.specs.Trace.{is_member};
+ghost use Rattle.server_core.specs.LinkSteps.{at_moment, client_kept, is_asked_at, is_login, is_shown_at, speaker_kept, timeout_for, is_in_time, is_late_link, is_none_of, is_lost, is_nameless_link, is_ready, list_of, new_link_seen, number_of, passes_packet, wants_packet, when_gone, with_bytes, with_copy, with_date, with_filter, with_packet, with_room, with_seen, with_session, with_shown, with_taken, with_text};
+ghost use Rattle.aprs_base.specs.Bytes.{is_station};
+ghost use Rattle.aprs_history.specs.Links.{has_filters};
+ghost use Rattle.aprs_history.specs.Setting.{is_filter_kind, is_only_kind};
+ghost use Rattle.line_verdict.specs.Voices.{HasStation, visitor_voice, voice_of};
+ghost use Rattle.aprs_history.specs.Trace.{is_from, is_member};
 ghost use Rattle.aprs_history.specs.Verdicts.{client_origin};
-ghost use Rattle.aprs_history.specs.Scenes.{has_filters, is_only, is_only_kind, verified_login};
+ghost use Rattle.aprs_history.specs.Scenes.{verified_login};
 ghost use Rattle.q_construct.specs.Rule.{has_station};
 ghost use Rattle.aprs_base.specs.Cuts.{cuts_by};
 ghost use Rattle.aprs_history.specs.Messages.{is_to_login};
-ghost use Rattle.aprs_history.specs.Texts.{most_waiting, port_wants};
+ghost use Rattle.aprs_history.specs.Texts.{most_waiting, opening_wants, shows_duplicates};
 ghost use Rattle.filter_eval.specs.Passes.{is_some_and, is_text};
 ghost use Rattle.server_core.specs.Pending.{pending_bytes};
 
 use crate::messages::{is_among, is_message_to};
 use crate::places::{forget_friends, see_friend, still_seen};
-use aprs_base::{Addr, Call, Cut, Cutter, Line, Memory, Packet, PortKind, copy_call};
-use aprs_history::Session;
+use aprs_base::{Addr, Call, Cut, Cutter, Line, Memory, Packet, PortKind, Source, copy_call};
+use aprs_history::{LinkKind, Session};
 use arrayvec::ArrayVec;
 use filter_eval::{Friends, Seen, passes};
 use filter_lang::FilterSet;
+use line_verdict::Voice;
 use link_queue::{Overfull, Queue};
 use q_construct::Origin;
 use station_table::seen_in;
@@ -34,17 +38,25 @@ const MOST_LINES: usize = 1000;
 /// The seconds that a link has for its login.
 const LOGIN_SECONDS: u64 = 30;
 
-/// Where a packet's source was last seen, and whether it is a gate.
+/// Where a packet's source was last seen, whether it is a gate, and whether the packet was submitted here.
 #[derive(Clone, Copy)]
 pub(crate) struct SourcePlace {
     pub place: Option<Seen>,
     pub gate: bool,
+    pub submitted: bool,
+}
+
+/// After how many seconds without bytes links end.
+#[derive(Clone, Copy)]
+pub(crate) struct Timeouts {
+    pub client: u32,
+    pub uplink: u32,
 }
 
 #[derive(Drop)]
 pub(crate) struct Link {
     pub number: u32,
-    pub kind: PortKind,
+    pub kind: LinkKind,
     pub from: Addr,
     /// When it was opened, and when its last bytes came.
     pub opened: u64,
@@ -90,20 +102,19 @@ impl Model for Link {
 }
 
 impl Link {
-    /// A link that has just been opened, with the banner in its queue.
+    /// A link that has just been opened, with its first line in its queue.
     pub fn open(
         alloc: Global,
         number: u32,
-        kind: PortKind,
+        kind: LinkKind,
         from: Addr,
         moment: u64,
+        first: Line,
     ) -> Result<Link, Memory>
-        ensures { IfOk result (λ l. l ≡ new_link_seen number (record { kind = kind; from = from; moment = moment })) }
+        ensures { IfOk result (λ l. l ≡ new_link_seen number (record { kind = kind; from = from; moment = moment }) first) }
     {
         let mut queue = Queue::with_limit(alloc, MOST_LINES)?;
-        queue
-            .push(Arc::new(alloc, known_line(b"# aprsc 1.0"))?)
-            .unwrap();
+        queue.push(Arc::new(alloc, first)?).unwrap();
         Ok(Link {
             number,
             kind,
@@ -165,32 +176,44 @@ impl Link {
         self.push(reply);
     }
 
-    /// Whether it has logged in.
-    pub fn has_session(&self) -> bool
-        ensures { result ≡ is_some self.now.session }
-    {
-        self.session.is_some()
-    }
-
     /// Whether its port has filters.
     pub fn has_filters(&self) -> bool
         ensures { result ≡ has_filters self.now.opening }
     {
-        matches!(self.kind, PortKind::Igate | PortKind::Only)
+        match self.kind {
+            LinkKind::Client(kind) => is_filter_kind(kind),
+            LinkKind::Uplink(_) => false,
+        }
     }
 
-    /// Where its lines come from, once it has logged in.
-    pub fn origin(&self) -> Option<Origin>
-        ensures value { result ≡ option_map (client_origin (is_only self.now.opening)) self.now.session }
-        ensures station { IfSome result (λ origin. IsTrue (has_station origin)) }
+    /// Whether it is a client.
+    pub fn is_client(&self) -> bool
+        ensures { result ≡ client_kept self.now }
     {
-        match &self.session {
-            Some(session) => Some(Origin::Client {
-                login: copy_call(&session.call),
-                verified: session.verified,
-                only: serves_clients_alone(self.kind),
-            }),
-            None => None,
+        match self.kind {
+            LinkKind::Client(_) => true,
+            LinkKind::Uplink(_) => false,
+        }
+    }
+
+    /// Who speaks on it.
+    pub fn voice(&self) -> Voice
+        ensures value { result ≡ voice_of (speaker_kept self.now) }
+        ensures station { HasStation result }
+    {
+        match self.kind {
+            LinkKind::Client(kind) => visitor_voice(kind, &self.session),
+            LinkKind::Uplink(_) => Voice::Carrier(Origin::Uplink(self.from)),
+        }
+    }
+
+    /// Whether it is shown the duplicates that others are refused.
+    fn shows_duplicates(&self) -> bool
+        ensures { result ≡ shows_duplicates self.now.opening self.now.session }
+    {
+        match self.kind {
+            LinkKind::Client(PortKind::Dupe) => self.session.is_some(),
+            LinkKind::Client(_) | LinkKind::Uplink(_) => false,
         }
     }
 
@@ -235,55 +258,83 @@ impl Link {
         self.is_receiver(packet) || is_among(self.number, hearers) || is_among(self.number, owed)
     }
 
-    /// Whether its port sends it a packet that came from another link.
-    fn port_wants(
+    /// Whether its port or the message rule asks for a packet that came from elsewhere, or it is an uplink and the packet was
+    /// submitted here.
+    fn opening_wants(
         &self,
         packet: &Packet,
         source: &SourcePlace,
         hearers: &[u32],
         owed: &[u32],
     ) -> bool
-        ensures { result ≡ port_wants self.now.opening (passes_packet packet.now source.now self.now || is_asked_at packet.now hearers.now owed.now self.now) }
+        ensures { result ≡ opening_wants self.now.opening (is_some self.now.session) source.now.submitted (passes_packet packet.now source.now self.now || is_asked_at packet.now hearers.now owed.now self.now) }
     {
         match self.kind {
-            PortKind::Full => true,
-            PortKind::Igate | PortKind::Only => {
-                self.passes(packet, source) || self.is_asked(packet, hearers, owed)
+            LinkKind::Client(PortKind::Full) => self.session.is_some(),
+            LinkKind::Client(PortKind::Igate | PortKind::Only) => {
+                self.session.is_some()
+                    && (self.passes(packet, source) || self.is_asked(packet, hearers, owed))
             }
-            PortKind::Dupe | PortKind::Submit | PortKind::Core => false,
+            LinkKind::Client(PortKind::Dupe | PortKind::Submit | PortKind::Core) => false,
+            LinkKind::Uplink(_) => source.submitted,
         }
     }
 
-    /// Whether it is sent a packet that came from another link.
+    /// Whether it is sent a packet.
     pub fn wants(
         &self,
-        from: u32,
         packet: &Packet,
         source: &SourcePlace,
         hearers: &[u32],
         owed: &[u32],
     ) -> bool
-        ensures { result ≡ wants_packet from packet.now source.now hearers.now owed.now self.now }
+        ensures { result ≡ wants_packet packet.now source.now hearers.now owed.now self.now }
     {
-        self.number != from
-            && self.session.is_some()
-            && self.port_wants(packet, source, hearers, owed)
+        !is_from(self.number, &packet.from) && self.opening_wants(packet, source, hearers, owed)
     }
 
-    /// Takes a packet that came from another link, where it wants it.
+    /// Takes a packet, where it wants it.
     fn take_copy(
         &mut self,
-        from: u32,
         packet: &Packet,
         source: &SourcePlace,
         hearers: &[u32],
         owed: &[u32],
     ) -> Result<(), Memory>
         ensures number { self.new.link ≡ self.old.link }
-        ensures ok { OnOk result (self.new ≡ with_copy from packet.now source.now hearers.now owed.now self.old) }
+        ensures ok { OnOk result (self.new ≡ with_copy packet.now source.now hearers.now owed.now self.old) }
     {
-        if self.wants(from, packet, source, hearers, owed) {
+        if self.wants(packet, source, hearers, owed) {
             self.push(packet.line.clone()?);
+        }
+        Ok(())
+    }
+
+    /// Whether it is shown a duplicate that is refused there.
+    fn is_shown(&self, from: &Source) -> bool
+        ensures { result ≡ is_shown_at from.now self.now }
+    {
+        !is_from(self.number, from) && self.shows_duplicates()
+    }
+
+    /// Takes a duplicate that is refused there, where it is shown such.
+    pub fn show(&mut self, from: &Source, line: &Arc<Line>) -> Result<(), Memory>
+        ensures number { self.new.link ≡ self.old.link }
+        ensures ok { OnOk result (self.new ≡ with_shown from.now (arc_value line.now) self.old) }
+    {
+        if self.is_shown(from) {
+            self.push(line.clone()?);
+        }
+        Ok(())
+    }
+
+    /// Is told the date, where it is a client.
+    pub fn tell_date(&mut self, line: &Arc<Line>) -> Result<(), Memory>
+        ensures number { self.new.link ≡ self.old.link }
+        ensures ok { OnOk result (self.new ≡ with_date (arc_value line.now) self.old) }
+    {
+        if self.is_client() {
+            self.push(line.clone()?);
         }
         Ok(())
     }
@@ -301,16 +352,15 @@ impl Link {
     /// Hears of an accepted packet: it takes it, where it wants it, and sees where its source is.
     pub fn hear(
         &mut self,
-        from: u32,
         packet: &Packet,
         source: &SourcePlace,
         hearers: &[u32],
         owed: &[u32],
     ) -> Result<(), Memory>
         ensures number { self.new.link ≡ self.old.link }
-        ensures ok { OnOk result (self.new ≡ with_packet from packet.now source.now hearers.now owed.now self.old) }
+        ensures ok { OnOk result (self.new ≡ with_packet packet.now source.now hearers.now owed.now self.old) }
     {
-        self.take_copy(from, packet, source, hearers, owed)?;
+        self.take_copy(packet, source, hearers, owed)?;
         if let Some(seen) = seen_in(packet) {
             self.see(&packet.parts.source, seen);
         }
@@ -363,17 +413,28 @@ impl Link {
         }
     }
 
-    /// Whether it has not logged in for half a minute, or has brought no bytes for so many seconds.
-    pub fn is_late(&self, timeout: u32, now: u64) -> bool
-        ensures { result ≡ is_late_link timeout now self.now }
+    /// Whether it has not logged in for half a minute, or has brought no bytes for too long.
+    pub fn is_late(&self, timeouts: Timeouts, now: u64) -> bool
+        ensures { result ≡ is_late_link timeouts now self.now }
     {
-        self.is_nameless(now) || u64::from(timeout) <= now.saturating_sub(self.last)
+        self.is_nameless(now) || u64::from(self.timeout(timeouts)) <= now.saturating_sub(self.last)
     }
 
-    pub fn is_in_time(&self, timeout: u32, now: u64) -> bool
-        ensures { result ≡ is_in_time timeout now self.now }
+    pub fn is_in_time(&self, timeouts: Timeouts, now: u64) -> bool
+        ensures { result ≡ is_in_time timeouts now self.now }
     {
-        !self.is_late(timeout, now)
+        !self.is_late(timeouts, now)
+    }
+
+    /// The most seconds without bytes, less one.
+    fn timeout(&self, timeouts: Timeouts) -> u32
+        ensures { result ≡ timeout_for timeouts self.now }
+    {
+        if self.is_client() {
+            timeouts.client
+        } else {
+            timeouts.uplink
+        }
     }
 
     /// Whether its number is none of these.
@@ -386,7 +447,9 @@ impl Link {
     fn is_nameless(&self, now: u64) -> bool
         ensures { result ≡ is_nameless_link now self.now }
     {
-        self.session.is_none() && LOGIN_SECONDS <= now.saturating_sub(self.opened)
+        self.is_client()
+            && self.session.is_none()
+            && LOGIN_SECONDS <= now.saturating_sub(self.opened)
     }
 
     pub fn give_room(&mut self)
@@ -430,8 +493,28 @@ fn has_member(numbers: &[u32], number: u32) -> bool
     numbers.iter().any(|other| *other == number)
 }
 
-/// Whether a port of this kind serves clients alone.
-fn serves_clients_alone(kind: PortKind) -> bool
+/// Whether a line is that link's.
+pub(crate) fn is_from(number: u32, from: &Source) -> bool
+    ensures { result ≡ is_from number from.now }
+{
+    match from {
+        Source::Link(link) => number == *link,
+        Source::Submit(_) | Source::Peer(_) => false,
+    }
+}
+
+/// Whether ports of this kind have filters.
+fn is_filter_kind(kind: PortKind) -> bool
+    ensures { result ≡ is_filter_kind kind }
+{
+    match kind {
+        PortKind::Igate | PortKind::Only => true,
+        PortKind::Full | PortKind::Dupe | PortKind::Submit | PortKind::Core => false,
+    }
+}
+
+/// Whether ports of this kind serve clients alone.
+fn is_only_kind(kind: PortKind) -> bool
     ensures { result ≡ is_only_kind kind }
 {
     match kind {
@@ -440,10 +523,31 @@ fn serves_clients_alone(kind: PortKind) -> bool
     }
 }
 
-/// A line whose text is known to be one.
-pub(crate) fn known_line(text: &[u8]) -> Line
-    requires { IsLine text.now }
-    ensures { result ≡ text.now }
+/// Who speaks on a port of this kind, logged in or not.
+fn visitor_voice(kind: PortKind, session: &Option<Session>) -> Voice
+    requires { IsTrue (is_login session.now) }
+    ensures value { result ≡ visitor_voice kind session.now }
+    ensures station { HasStation result }
 {
-    Line::new(text).unwrap()
+    let filters = is_filter_kind(kind);
+    match session {
+        None => Voice::Nameless { filters },
+        Some(_) if kind == PortKind::Dupe => Voice::Reader,
+        Some(session) => Voice::Client {
+            filters,
+            origin: client_origin(kind, session),
+        },
+    }
+}
+
+fn client_origin(kind: PortKind, session: &Session) -> Origin
+    requires { IsTrue (is_station session.now.call) }
+    ensures value { result ≡ client_origin (is_only_kind kind) session.now }
+    ensures station { IsTrue (has_station result) }
+{
+    Origin::Client {
+        login: copy_call(&session.call),
+        verified: session.verified,
+        only: is_only_kind(kind),
+    }
 }

@@ -1,21 +1,20 @@
 //! The links of the core, in the order of their numbers.
-ghost use Rattle.std.specs.Prelude.{◌≡◌, ℕ, ◌≤◌, ◌<◌, ◌^◌, ◌++◌, [], IsTrue, List, None, Some, OnOk, IfOk, is_some, min, take, IfSome, length, map, option_map, position, filter, nat_le};
+ghost use Rattle.std.specs.Prelude.{◌≡◌, ℕ, ◌≤◌, ◌<◌, ◌^◌, ◌++◌, [], IsTrue, List, None, Some, OnOk, IfOk, min, take, IfSome, length, map, position, filter, nat_le};
 ghost use Rattle.std.specs.List.{prefix_len};
 ghost use Rattle.std.specs.Arc.{arc_value};
-ghost use Rattle.server_core.specs.LinkSteps.{Rises, at_link, at_moment, filters_at, list_of, only_at, other_login, others_at, number_of, has_that, held_at, is_another, is_in_time, is_late_link, is_none_of, is_overfull, is_ready, is_there, numbers, pending_at, session_at, when_gone, with_bytes, with_filter, with_packet, with_room, with_session, with_taken, with_text};
+ghost use Rattle.server_core.specs.LinkSteps.{Rises, at_link, at_moment, client_at, clients_in, filters_at, has_number, list_of, login_kept, logins_at, other_login, others_at, number_of, has_that, held_at, is_another, is_in_time, is_late_link, is_none_of, is_overfull, is_ready, is_there, numbers, pending_at, speaker_at, submitted_from, when_gone, with_bytes, with_date, with_filter, with_packet, with_room, with_session, with_shown, with_taken, with_text};
+ghost use Rattle.line_verdict.specs.Voices.{HasStation, voice_of};
 ghost use Rattle.aprs_base.specs.Bytes.{is_station};
 ghost use Rattle.aprs_base.specs.Cuts.{cuts_by};
 ghost use Rattle.aprs_base.specs.Held.{held_after};
 ghost use Rattle.aprs_history.specs.Trace.{placed, placed_all};
-ghost use Rattle.aprs_history.specs.Verdicts.{client_origin};
-ghost use Rattle.q_construct.specs.Rule.{has_station};
 
-use crate::link::{Link, SourcePlace};
-use aprs_base::{Call, Cut, Line, Memory, Packet};
+use crate::link::{Link, SourcePlace, Timeouts};
+use aprs_base::{Call, Cut, Line, Memory, Packet, Source};
 use aprs_history::Session;
 use filter_eval::{Friends, Seen};
 use filter_lang::FilterSet;
-use q_construct::Origin;
+use line_verdict::Voice;
 use std::alloc::Global;
 use std::sync::Arc;
 
@@ -74,17 +73,27 @@ pub(crate) fn offer(links: &[Link], number: u32, out: &mut [u8]) -> usize
 /// All links hear of an accepted packet: those that want it take it. The message rule asks for it at `hearers` and `owed`.
 pub(crate) fn share(
     links: &mut Vec<Link>,
-    from: u32,
     packet: &Packet,
     source: &SourcePlace,
     hearers: &[u32],
     owed: &[u32],
 ) -> Result<(), Memory>
     ensures numbers { numbers links.new.items ≡ numbers links.old.items }
-    ensures ok { OnOk result (links.new.items ≡ map (with_packet from packet.now source.now hearers.now owed.now) links.old.items) }
+    ensures ok { OnOk result (links.new.items ≡ map (with_packet packet.now source.now hearers.now owed.now) links.old.items) }
 {
     for link in links.iter_mut() {
-        link.hear(from, packet, source, hearers, owed)?;
+        link.hear(packet, source, hearers, owed)?;
+    }
+    Ok(())
+}
+
+/// The links that are shown a duplicate that is refused there take it.
+pub(crate) fn show_all(links: &mut Vec<Link>, from: &Source, line: &Arc<Line>) -> Result<(), Memory>
+    ensures numbers { numbers links.new.items ≡ numbers links.old.items }
+    ensures ok { OnOk result (links.new.items ≡ map (with_shown from.now (arc_value line.now)) links.old.items) }
+{
+    for link in links.iter_mut() {
+        link.show(from, line)?;
     }
     Ok(())
 }
@@ -125,13 +134,13 @@ pub(crate) fn ready(alloc: Global, links: &[Link]) -> Result<Vec<u32>, Memory>
     Ok(numbers)
 }
 
-/// A line for all links.
+/// The clients are told the date.
 pub(crate) fn tell_all(links: &mut Vec<Link>, line: &Arc<Line>) -> Result<(), Memory>
     ensures numbers { numbers links.new.items ≡ numbers links.old.items }
-    ensures ok { OnOk result (links.new.items ≡ map (with_text (arc_value line.now)) links.old.items) }
+    ensures ok { OnOk result (links.new.items ≡ map (with_date (arc_value line.now)) links.old.items) }
 {
     for link in links.iter_mut() {
-        link.push(line.clone()?);
+        link.tell_date(line)?;
     }
     Ok(())
 }
@@ -140,14 +149,14 @@ pub(crate) fn tell_all(links: &mut Vec<Link>, line: &Arc<Line>) -> Result<(), Me
 pub(crate) fn late(
     alloc: Global,
     links: &[Link],
-    timeout: u32,
+    timeouts: Timeouts,
     now: u64,
 ) -> Result<Vec<u32>, Memory>
-    ensures { IfOk result (λ v. v.items ≡ numbers (filter (is_late_link timeout now) links.now)) }
+    ensures { IfOk result (λ v. v.items ≡ numbers (filter (is_late_link timeouts now) links.now)) }
 {
     let mut numbers = Vec::new(alloc);
     for link in links {
-        if link.is_late(timeout, now) {
+        if link.is_late(timeouts, now) {
             numbers.push(link.number())?;
         }
     }
@@ -155,10 +164,10 @@ pub(crate) fn late(
 }
 
 /// The links that end by time leave.
-pub(crate) fn drop_late(links: &mut Vec<Link>, timeout: u32, now: u64)
-    ensures { links.new.items ≡ filter (is_in_time timeout now) links.old.items }
+pub(crate) fn drop_late(links: &mut Vec<Link>, timeouts: Timeouts, now: u64)
+    ensures { links.new.items ≡ filter (is_in_time timeouts now) links.old.items }
 {
-    links.retain(|link| link.is_in_time(timeout, now));
+    links.retain(|link| link.is_in_time(timeouts, now));
 }
 
 /// The numbers of the links that are overfull.
@@ -217,15 +226,50 @@ pub(crate) fn all(alloc: Global, links: &[Link]) -> Result<Vec<u32>, Memory>
     Ok(numbers)
 }
 
-/// Where the lines of that link come from, once it has logged in.
-pub(crate) fn origin_at(links: &[Link], number: u32) -> Option<Origin>
-    ensures value { result ≡ option_map (client_origin (only_at number links.now)) (session_at number links.now) }
-    ensures station { IfSome result (λ origin. IsTrue (has_station origin)) }
+/// Whether there is a link of that number.
+pub(crate) fn has_link(links: &[Link], number: u32) -> bool
+    ensures { result ≡ has_number number links.now }
+{
+    place_of(links, number).is_some()
+}
+
+/// Who speaks on that link.
+pub(crate) fn voice_at(links: &[Link], number: u32) -> Voice
+    ensures value { result ≡ voice_of (speaker_at number links.now) }
+    ensures station { HasStation result }
 {
     match place_of(links, number) {
-        Some(place) => links[place].origin(),
-        None => None,
+        Some(place) => links[place].voice(),
+        None => Voice::Nameless { filters: false },
     }
+}
+
+/// Whether that link is a client.
+pub(crate) fn is_client_at(links: &[Link], number: u32) -> bool
+    ensures { result ≡ client_at number links.now }
+{
+    match place_of(links, number) {
+        Some(place) => links[place].is_client(),
+        None => false,
+    }
+}
+
+/// Whether what comes from there was submitted here.
+pub(crate) fn is_submitted(links: &[Link], from: &Source) -> bool
+    ensures { result ≡ submitted_from from.now links.now }
+{
+    match from {
+        Source::Link(number) => is_client_at(links, *number),
+        Source::Submit(_) => true,
+        Source::Peer(_) => false,
+    }
+}
+
+/// How many clients there are.
+pub(crate) fn count_clients(links: &[Link]) -> usize
+    ensures { result ≡ clients_in links.now }
+{
+    links.iter().filter(|link| link.is_client()).count()
 }
 
 /// Whether the port of that link has filters.
@@ -234,16 +278,6 @@ pub(crate) fn has_filters_at(links: &[Link], number: u32) -> bool
 {
     match place_of(links, number) {
         Some(place) => links[place].has_filters(),
-        None => false,
-    }
-}
-
-/// Whether that link has logged in.
-pub(crate) fn has_session_at(links: &[Link], number: u32) -> bool
-    ensures { result ≡ is_some (session_at number links.now) }
-{
-    match place_of(links, number) {
-        Some(place) => links[place].has_session(),
         None => false,
     }
 }
@@ -265,6 +299,19 @@ pub(crate) fn others(alloc: Global, links: &[Link], number: u32) -> Result<Vec<C
     let mut calls = Vec::new(alloc);
     for link in links {
         if let Some(call) = other_call(link, number) {
+            calls.push(call)?;
+        }
+    }
+    Ok(calls)
+}
+
+/// The logins of the verified links.
+pub(crate) fn logins(alloc: Global, links: &[Link]) -> Result<Vec<Call>, Memory>
+    ensures { IfOk result (λ calls. calls.items ≡ logins_at links.now) }
+{
+    let mut calls = Vec::new(alloc);
+    for link in links {
+        if let Some(call) = link.verified_call() {
             calls.push(call)?;
         }
     }

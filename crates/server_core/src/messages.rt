@@ -4,11 +4,11 @@ ghost use Rattle.aprs_base.specs.declared.texts.Word9.{Word9};
 ghost use Rattle.filter_eval.specs.Passes.{is_some_and, is_text};
 ghost use Rattle.aprs_history.specs.Messages.{is_message, is_position};
 ghost use Rattle.heard_routing.specs.Heard.{courtesies, is_among, without_promises};
-ghost use Rattle.server_core.specs.LinkSteps.{call_in, forgotten_all, hearers_of, is_lost, may_promise, numbers, promised_all, promised_one, receiver_of};
+ghost use Rattle.server_core.specs.LinkSteps.{call_in, forgotten_all, hearers_of, is_lost, may_promise, noted_from, numbers, promised_all, promised_one, receiver_of};
 
-use crate::link::Link;
-use crate::links::has_filters_at;
-use aprs_base::{Call, Memory, Packet, Word9};
+use crate::link::{Link, is_from};
+use crate::links::{has_filters_at, is_client_at};
+use aprs_base::{Call, Memory, Packet, Source, Word9};
 use aprs_body::class;
 use heard_routing::Heard;
 use std::alloc::Global;
@@ -100,11 +100,11 @@ pub(crate) fn owed_to(
     Ok(links)
 }
 
-/// Whether a link may be promised the next position of a sender from another link.
-fn may_promise(links: &[Link], from: u32, link: u32) -> bool
-    ensures { result ≡ may_promise links.now from link }
+/// Whether a link may be promised the next position of a sender from elsewhere.
+fn may_promise(links: &[Link], from: &Source, link: u32) -> bool
+    ensures { result ≡ may_promise links.now from.now link }
 {
-    link != from && has_filters_at(links, link)
+    !is_from(link, from) && has_filters_at(links, link)
 }
 
 /// Promises a link the sender's next position, where it may have one.
@@ -112,12 +112,12 @@ fn promise_one(
     alloc: Global,
     heard: &mut Heard,
     links: &[Link],
-    from: u32,
+    from: &Source,
     sender: &Call,
     now: u64,
     link: u32,
 ) -> Result<(), Memory>
-    ensures { OnOk result (heard.new ≡ promised_one links.now from sender.now now link heard.old) }
+    ensures { OnOk result (heard.new ≡ promised_one links.now from.now sender.now now link heard.old) }
 {
     if may_promise(links, from, link) {
         heard.promise(alloc, link, sender, now)?;
@@ -130,15 +130,35 @@ pub(crate) fn promise_all(
     alloc: Global,
     heard: &mut Heard,
     links: &[Link],
-    from: u32,
+    from: &Source,
     sender: &Call,
     now: u64,
     hearers: &[u32],
 ) -> Result<(), Memory>
-    ensures { OnOk result (heard.new ≡ promised_all links.now from sender.now now hearers.now heard.old) }
+    ensures { OnOk result (heard.new ≡ promised_all links.now from.now sender.now now hearers.now heard.old) }
 {
     for link in hearers {
         promise_one(alloc, heard, links, from, sender, now, *link)?;
+    }
+    Ok(())
+}
+
+/// A client has heard the source of its packet.
+pub(crate) fn note_from(
+    alloc: Global,
+    heard: &mut Heard,
+    links: &[Link],
+    from: &Source,
+    call: &Call,
+    now: u64,
+) -> Result<(), Memory>
+    ensures { OnOk result (heard.new ≡ noted_from links.now from.now call.now now heard.old) }
+{
+    match from {
+        Source::Link(number) if is_client_at(links, *number) => {
+            heard.note(alloc, *number, call, now)?;
+        }
+        _ => {}
     }
     Ok(())
 }

@@ -1,50 +1,67 @@
 //! The core: it takes a round of events, and says what is to be done.
-ghost use Rattle.std.specs.Prelude.{◌≡◌, ◌∷◌, [], ◌≤◌, ◌<◌, ℕ, IsTrue, IfOk, OnOk, IfSome, List, length, false, true, None, filter, map, min, take, if◌then◌else◌};
+ghost use Rattle.std.specs.Prelude.{◌≡◌, ◌∷◌, [], ◌≤◌, ◌<◌, ℕ, IsTrue, IfOk, OnOk, IfSome, IsNone, List, length, false, true, Some, None, filter, map, min, take, if◌then◌else◌};
 ghost use Rattle.std.specs.Arc.{arc_value};
 ghost use Rattle.aprs_base.specs.Bytes.{is_station};
 ghost use Rattle.aprs_base.specs.Outside.{new_link};
-ghost use Rattle.aprs_history.specs.Trace.{Trace, Brought, ByPeer, Ended, Opened, Roomed, Ticked, is_live, placed_all};
+ghost use Rattle.aprs_history.specs.Trace.{Trace, AtListener, Brought, ByPeer, ByUplink, Ended, Looked, Opened, Roomed, Said, Ticked, Unjoined, is_live, placed_all};
 ghost use Rattle.aprs_history.specs.Links.{brought_by, late_links, late_reason};
 ghost use Rattle.aprs_base.specs.Cuts.{cuts_by};
-ghost use Rattle.aprs_history.specs.Setting.{kind_at};
-ghost use Rattle.aprs_history.specs.Scenes.{packet_of};
-ghost use Rattle.aprs_history.specs.Verdicts.{command_verdict, filter_command, line_verdict, verdict_of};
+ghost use Rattle.aprs_history.specs.Setting.{kind_at, peer_from};
+ghost use Rattle.aprs_base.specs.declared.cutting.Cut.{Cut};
+ghost use Rattle.aprs_base.specs.declared.packets.Source.TheVariants as Source;
+ghost use Rattle.aprs_conf.specs.Sound.{IsGroup};
+ghost use Rattle.q_construct.specs.Rule.{has_station};
+ghost use Rattle.q_construct.specs.declared.origins.Origin.TheVariants as Origin;
+ghost use Rattle.tnc2_line.specs.Packet.{parts_of};
+ghost use Rattle.line_verdict.specs.Fit.{all_few, has_few};
+ghost use Rattle.line_verdict.specs.Voices.{HasStation, line_verdict, voice_verdict};
+ghost use Rattle.aprs_history.specs.Scenes.{datagram_scene, packet_of, scene_of};
+ghost use Rattle.aprs_history.specs.Verdicts.{packet_verdict, read_and_routed, submitter_of, verdict_of};
 ghost use Rattle.aprs_history.specs.declared.verdicts.FilterAnswer.{FilterAnswer};
 ghost use Rattle.aprs_history.specs.declared.verdicts.Verdict.{Verdict};
-ghost use Rattle.aprs_history.specs.Stands.{Follows};
-ghost use Rattle.aprs_history.specs.History.{History, admission, admitted, begin_round, dated, end_each, end_round, end_stopped, refused_links, refused_reason, say_all, trace_of, with_bytes_of, with_event, with_tick};
+ghost use Rattle.aprs_history.specs.Stands.{Follows, reach_of};
+ghost use Rattle.aprs_history.specs.History.{History, admission, admitted, begin_round, dated, datagram_cuts, end_each, end_round, end_stopped, joined_admission, refuse_datagram, refused_links, refused_reason, relay, say_all, submit, trace_of, with_bytes_of, with_event, with_lines, with_tick};
 ghost use Rattle.aprs_history.specs.Rounds.{AreFresh, events_trace, greatest_after, is_whole, only_listens, stopped_after, with_events};
-ghost use Rattle.aprs_history.specs.Texts.{untaken};
-ghost use Rattle.server_core.specs.LinkSteps.{AreServed, Rises, after_login, after_packet, all_few, filters_at, has_few, has_number, is_late_link, is_overfull, is_ready, number_of, numbers, owed_in, pending_at, promised_all, session_at, source_found, spent};
+ghost use Rattle.aprs_history.specs.Texts.{first_line, untaken};
+ghost use Rattle.server_core.specs.LinkSteps.{AreServed, IsDatagram, IsWhole, Rises, admitted_in, after_login, after_packet, cast_with, clients_in, has_number, is_late_link, is_overfull, is_ready, noted_from, number_of, numbers, owed_in, pending_at, promised_all, source_found, spent, submitted_from, with_reply, with_shown};
 ghost use Rattle.aprs_base.specs.declared.events.Happening.{Happening};
 ghost use Rattle.aprs_base.specs.declared.events.Sent.{Sent};
-ghost use Rattle.server_core.specs.Meaning.{AreActs, Stands, numbered, setting_of};
+ghost use Rattle.server_core.specs.Meaning.{AreActs, Stands, numbered, peer_of, setting_of, timeouts_of};
 ghost use Rattle.server_core.specs.RoundWalk.{Traced, Walking};
-ghost use Rattle.server_core.specs.Steps.{AfterEvent, SameRest, Walks, saying, scene_at, with_verdict};
+ghost use Rattle.server_core.specs.Steps.{AfterEvent, SameRest, Walks, carried_at, scene_at, with_verdict};
 
 #[cfg(test)]
 mod tests;
 
 use crate::acts::Acts;
-use crate::conf::{client_timeout, most_clients, served_by, server_of};
-use crate::judging::{is_comment_line, judge_command, judge_login, judge_packet};
-use crate::link::{Link, SourcePlace};
+use crate::conf::{
+    client_timeout, code_of, is_client_kind, most_clients, peer_from, peers_of, served_by,
+    server_of, uplink_timeout,
+};
+use crate::link::{Link, SourcePlace, Timeouts};
 use crate::links::{
-    all, bring, drop_gone, drop_late, drop_link, drop_these, forget_places, give_room,
-    has_filters_at, has_session_at, late, log_in, lose, offer, origin_at, others, overfull,
-    place_all, ready, reply, set_filter, share, take, tell_all,
+    all, bring, count_clients, drop_gone, drop_late, drop_link, drop_these, forget_places,
+    give_room, has_link, is_submitted, late, log_in, logins, lose, offer, others, overfull,
+    place_all, ready, reply, set_filter, share, show_all, take, tell_all, voice_at,
 };
 use crate::messages::{
-    forget_all, forget_lost, hearers_of, is_position, owed_to, promise_all, receiver_of,
+    forget_all, forget_lost, hearers_of, is_position, note_from, owed_to, promise_all, receiver_of,
 };
 use crate::places::friends_found;
-use crate::replies::{comment_of, denied_line, login_line, refusal_line};
-use aprs_base::{Addr, Cut, Event, Line, Memory, Packet, Parts, Source};
+use crate::reach::Reach;
+use aprs_base::{
+    Addr, Call, Cut, Cutter, Event, Line, Memory, Packet, Parts, PortKind, Source, copy_call,
+};
 use aprs_body::classify;
 use aprs_conf::Conf;
-use aprs_history::{Admission, FilterAnswer, Refusal, Session, Verdict};
+use aprs_history::{Admission, FilterAnswer, LinkKind, Refusal, Session, Verdict};
 use filter_lang::FilterSet;
 use heard_routing::Heard;
+use line_verdict::{
+    Voice, banner_line, comment_of, denied_line, is_comment_line, judge_comment, judge_login,
+    judge_packet, login_line, refusal_line, submitter_of, uplink_line,
+};
+use q_construct::Origin;
 use station_table::Stations;
 use std::alloc::Global;
 use std::hash::RandomState;
@@ -61,18 +78,48 @@ const COMMENT_SECONDS: u64 = 20;
 /// The most bytes of one offer.
 const MOST_OFFERED: usize = 65_536;
 
-/// The packet that a link sent, with what its body says.
-fn packet_from(link: u32, moment: u64, parts: Parts, line: Arc<Line>) -> Packet
-    ensures { result ≡ packet_of link moment parts (arc_value line) }
+/// The packet that came from there, with what its body says.
+fn packet_from(from: Source, moment: u64, parts: Parts, line: Arc<Line>) -> Packet
+    ensures { result ≡ packet_of from moment parts (arc_value line) }
 {
     let body = classify(&parts.dest, parts.body.as_slice());
     Packet {
-        from: Source::Link(link),
+        from,
         moment,
         parts,
         body,
         line,
     }
+}
+
+/// The lines of a datagram, whose end ends the last one.
+fn cut_datagram(alloc: Global, bytes: &[u8]) -> Result<Vec<Cut>, Memory>
+    ensures { IfOk result (λ cuts. cuts.items ≡ datagram_cuts bytes.now) }
+{
+    let mut cuts = Vec::new(alloc);
+    let mut cutter = Cutter::new();
+    cutter.feed(alloc, bytes, &mut cuts)?;
+    cutter.feed(alloc, b"\n", &mut cuts)?;
+    Ok(cuts)
+}
+
+/// After how many seconds without bytes links end.
+fn timeouts(conf: &Conf) -> Timeouts
+    ensures { result ≡ timeouts_of conf.now }
+{
+    Timeouts {
+        client: client_timeout(conf),
+        uplink: uplink_timeout(conf),
+    }
+}
+
+/// What there is for other servers at first.
+fn reach_for(alloc: Global, conf: &Conf) -> Reach
+    requires { length conf.now.uplinks ≤ 8 }
+    ensures { result ≡ reach_of (setting_of conf.now) [] }
+{
+    let count = u16::try_from(conf.uplinks.len()).unwrap_or(0);
+    Reach::new(alloc, count, uplink_timeout(conf))
 }
 
 /// The core of a server.
@@ -90,6 +137,8 @@ pub struct Core {
     stations: Stations,
     /// Which stations each link heard, and whose next positions links are owed.
     heard: Heard,
+    /// What there is for other servers.
+    reach: Reach,
     greatest: u32,
     stopped: bool,
 }
@@ -100,9 +149,9 @@ impl Model for Core {
 
     ghost Value = { CoreMeaning };
 
-    ghost view = { λ c. record { conf = c.conf; seen = record { moment = c.moment; links = c.links.items; turned = c.turned.items; closing = c.closing.items; accepted = c.accepted.items; stations = c.stations; heard = c.heard; greatest = c.greatest; stopped = c.stopped } } };
+    ghost view = { λ c. record { conf = c.conf; seen = record { moment = c.moment; links = c.links.items; turned = c.turned.items; closing = c.closing.items; accepted = c.accepted.items; stations = c.stations; heard = c.heard; reach = c.reach; greatest = c.greatest; stopped = c.stopped } } };
 
-    ghost invariant = { λ c. IsKept (record { conf = c.conf; seen = record { moment = c.moment; links = c.links.items; turned = c.turned.items; closing = c.closing.items; accepted = c.accepted.items; stations = c.stations; heard = c.heard; greatest = c.greatest; stopped = c.stopped } }) };
+    ghost invariant = { λ c. IsKept (record { conf = c.conf; seen = record { moment = c.moment; links = c.links.items; turned = c.turned.items; closing = c.closing.items; accepted = c.accepted.items; stations = c.stations; heard = c.heard; reach = c.reach; greatest = c.greatest; stopped = c.stopped } }) };
 }
 
 impl Core {
@@ -113,36 +162,66 @@ impl Core {
     {
         self.turned.clear();
         self.closing.clear();
+        self.reach.begin();
+        self.reach.end_lost(self.links.as_slice(), self.moment);
         forget_lost(&mut self.heard, self.links.as_slice());
         drop_gone(&mut self.links);
     }
 
-    /// The verdict on a line of that link which is no comment.
-    fn judge_line(&self, alloc: Global, number: u32, line: &Line) -> Result<Verdict, Memory>
-        ensures { IfOk result (λ verdict. verdict ≡ line_verdict (scene_at self.now number) (session_at number self.now.seen.links) line.now) }
+    /// The verdict on a packet from there.
+    fn judge_sent(&self, origin: &Origin, others: &[Call], line: &Line) -> Verdict
+        requires { IsTrue (has_station origin.now) }
+        ensures { result ≡ packet_verdict self.now.seen.moment self.now.seen.accepted (read_and_routed self.now.conf.server origin.now others.now (parts_of line.now)) }
     {
-        let Some(origin) = origin_at(self.links.as_slice(), number) else {
-            let filters = has_filters_at(self.links.as_slice(), number);
-            return judge_login(alloc, server_of(&self.conf), filters, line);
-        };
-        let others = others(alloc, self.links.as_slice(), number)?;
-        Ok(judge_packet(
+        judge_packet(
             server_of(&self.conf),
-            &origin,
-            others.as_slice(),
+            origin,
+            others,
             self.moment,
             self.accepted.as_slice(),
             line,
-        ))
+        )
     }
 
-    /// The verdict on a comment or a command of that link.
-    fn judge_comment(&self, alloc: Global, number: u32, line: &Line) -> Result<Verdict, Memory>
-        ensures { IfOk result (λ verdict. verdict ≡ command_verdict (filters_at number self.now.seen.links) (session_at number self.now.seen.links) (filter_command line.now)) }
+    /// The verdict on a line of that link which is no comment.
+    fn judge_line(
+        &self,
+        alloc: Global,
+        number: u32,
+        voice: &Voice,
+        line: &Line,
+    ) -> Result<Verdict, Memory>
+        requires { HasStation voice.now }
+        ensures { IfOk result (λ verdict. verdict ≡ line_verdict (scene_at self.now number) voice.now line.now) }
     {
-        let filters = has_filters_at(self.links.as_slice(), number);
-        let session = has_session_at(self.links.as_slice(), number);
-        judge_command(alloc, filters, session, line)
+        match voice {
+            Voice::Nameless { filters } => {
+                judge_login(alloc, server_of(&self.conf), *filters, line)
+            }
+            Voice::Reader => Ok(Verdict::Refused(Refusal::ReadOnly)),
+            Voice::Client { origin, .. } | Voice::Carrier(origin) => {
+                let others = others(alloc, self.links.as_slice(), number)?;
+                Ok(self.judge_sent(origin, others.as_slice(), line))
+            }
+        }
+    }
+
+    /// The verdict on a line of that link.
+    fn judge_spoken(
+        &self,
+        alloc: Global,
+        number: u32,
+        voice: &Voice,
+        line: &Line,
+    ) -> Result<Verdict, Memory>
+        requires { HasStation voice.now }
+        ensures { IfOk result (λ verdict. verdict ≡ voice_verdict (scene_at self.now number) voice.now line.now) }
+    {
+        if is_comment_line(line) {
+            judge_comment(alloc, voice, line)
+        } else {
+            self.judge_line(alloc, number, voice, line)
+        }
     }
 
     /// The verdict on what the link of that number said.
@@ -151,28 +230,66 @@ impl Core {
     {
         match cut {
             Cut::Long => Ok(Verdict::Refused(Refusal::Long)),
-            Cut::Line(line) if is_comment_line(line) => self.judge_comment(alloc, number, line),
-            Cut::Line(line) => self.judge_line(alloc, number, line),
+            Cut::Line(line) => {
+                let voice = voice_at(self.links.as_slice(), number);
+                self.judge_spoken(alloc, number, &voice, line)
+            }
         }
     }
 
-    /// A line of that link is refused: it is told so where it tried to log in.
-    fn refuse(&mut self, alloc: Global, number: u32, refusal: &Refusal) -> Result<(), Memory>
-        ensures { OnOk result (self.new ≡ with_verdict number (Verdict.Refused refusal.now) self.old) }
+    /// The verdict on a line of a datagram that came so.
+    fn judge_carried(&self, alloc: Global, origin: &Origin, cut: &Cut) -> Result<Verdict, Memory>
+        requires { IsTrue (has_station origin.now) }
+        ensures { IfOk result (λ verdict. verdict ≡ verdict_of (carried_at origin.now self.now) cut.now) }
     {
-        match refusal_line(refusal) {
-            Some(line) => {
-                reply(&mut self.links, number, Arc::new(alloc, line)?);
+        match cut {
+            Cut::Long => Ok(Verdict::Refused(Refusal::Long)),
+            Cut::Line(line) if is_comment_line(line) => Ok(Verdict::PassedOver),
+            Cut::Line(line) => {
+                let others = logins(alloc, self.links.as_slice())?;
+                Ok(self.judge_sent(origin, others.as_slice(), line))
+            }
+        }
+    }
+
+    /// A duplicate is refused: the links that are shown such take it.
+    fn show(&mut self, alloc: Global, from: &Source, line: Line) -> Result<(), Memory>
+        ensures { OnOk result (self.new ≡ record self.old { seen = record self.old.seen { links = map (with_shown from.now line) self.old.seen.links } }) }
+    {
+        let line = Arc::new(alloc, line)?;
+        show_all(&mut self.links, from, &line)
+    }
+
+    /// A line for the link whose line was read, where it was a link's.
+    fn reply(&mut self, alloc: Global, from: &Source, line: Line) -> Result<(), Memory>
+        ensures { OnOk result (self.new ≡ record self.old { seen = record self.old.seen { links = with_reply from.now (Some line) self.old.seen.links } }) }
+    {
+        match from {
+            Source::Link(number) => {
+                reply(&mut self.links, *number, Arc::new(alloc, line)?);
                 Ok(())
             }
-            None => Ok(()),
+            Source::Submit(_) | Source::Peer(_) => Ok(()),
+        }
+    }
+
+    /// A line that came from there is refused: its link is told so where it tried to log in.
+    fn refuse(&mut self, alloc: Global, from: &Source, refusal: Refusal) -> Result<(), Memory>
+        ensures { OnOk result (self.new ≡ with_verdict from.now (Verdict.Refused refusal) self.old) }
+    {
+        match refusal {
+            Refusal::Duplicate(_parts, line) => self.show(alloc, from, line),
+            other => match refusal_line(&other) {
+                Some(line) => self.reply(alloc, from, line),
+                None => Ok(()),
+            },
         }
     }
 
     /// The link of that number has logged in, and is told so.
     fn open_session(&mut self, alloc: Global, number: u32, session: Session) -> Result<(), Memory>
         requires { IsTrue (is_station session.call) }
-        ensures { OnOk result (self.new ≡ record self.old { seen = after_login self.old.conf.server number session self.old.seen }) }
+        ensures { OnOk result (self.new ≡ record self.old { seen = after_login self.old.conf.server (Source.Link number) session self.old.seen }) }
     {
         let mine = self.stations.place_of(&session.call, self.moment);
         let line = Arc::new(alloc, login_line(server_of(&self.conf), &session))?;
@@ -189,7 +306,7 @@ impl Core {
         line: Line,
     ) -> Result<(), Memory>
         requires { length filter ≤ 64 }
-        ensures { OnOk result (self.new ≡ with_verdict number (Verdict.Filtered (FilterAnswer.Active filter line)) self.old) }
+        ensures { OnOk result (self.new ≡ with_verdict (Source.Link number) (Verdict.Filtered (FilterAnswer.Active filter line)) self.old) }
     {
         let friends = friends_found(&self.stations, self.moment, &filter);
         let line = Arc::new(alloc, line)?;
@@ -200,7 +317,7 @@ impl Core {
     /// The answer to a filter.
     fn answer(&mut self, alloc: Global, number: u32, answer: FilterAnswer) -> Result<(), Memory>
         requires { IsTrue (has_few answer) }
-        ensures { OnOk result (self.new ≡ with_verdict number (Verdict.Filtered answer) self.old) }
+        ensures { OnOk result (self.new ≡ with_verdict (Source.Link number) (Verdict.Filtered answer) self.old) }
     {
         match answer {
             FilterAnswer::Active(filter, line) => self.set_filter(alloc, number, filter, line),
@@ -222,7 +339,7 @@ impl Core {
     ) -> Result<(), Memory>
         requires station { IsTrue (is_station session.call) }
         requires few { IsTrue (all_few answer) }
-        ensures { OnOk result (self.new ≡ with_verdict number (Verdict.LoggedIn session answer) self.old) }
+        ensures { OnOk result (self.new ≡ with_verdict (Source.Link number) (Verdict.LoggedIn session answer) self.old) }
     {
         self.open_session(alloc, number, session)?;
         match answer {
@@ -231,13 +348,14 @@ impl Core {
         }
     }
 
-    /// Where a packet's source was last seen, and whether it is a gate.
+    /// Where a packet's source was last seen, whether it is a gate, and whether the packet was submitted here.
     fn source_of(&self, packet: &Packet) -> SourcePlace
-        ensures { result ≡ source_found self.now.seen packet.now.parts.source }
+        ensures { result ≡ source_found self.now.seen packet.now.from packet.now.parts.source }
     {
         SourcePlace {
             place: self.stations.place_of(&packet.parts.source, self.moment),
             gate: self.stations.is_gate(&packet.parts.source, self.moment),
+            submitted: is_submitted(self.links.as_slice(), &packet.from),
         }
     }
 
@@ -253,45 +371,61 @@ impl Core {
         }
     }
 
-    /// The links that heard a message's receiver are promised its sender's next position.
-    fn promise(
-        &mut self,
-        alloc: Global,
-        number: u32,
-        packet: &Packet,
-        hearers: &[u32],
-    ) -> Result<(), Memory>
+    /// The links that heard a message's receiver are promised its sender's next position, and a client has heard its source.
+    fn promise(&mut self, alloc: Global, packet: &Packet, hearers: &[u32]) -> Result<(), Memory>
         ensures { OnOk result (self.new ≡ record self.old {
           seen = record self.old.seen {
-            heard = promised_all self.old.seen.links number packet.now.parts.source self.old.seen.moment hearers.now self.old.seen.heard;
+            heard = noted_from self.old.seen.links packet.now.from packet.now.parts.source self.old.seen.moment
+                (promised_all self.old.seen.links packet.now.from packet.now.parts.source self.old.seen.moment hearers.now self.old.seen.heard);
           };
         }) }
     {
+        let links = self.links.as_slice();
+        let sender = &packet.parts.source;
         promise_all(
             alloc,
             &mut self.heard,
-            self.links.as_slice(),
-            number,
-            &packet.parts.source,
+            links,
+            &packet.from,
+            sender,
             self.moment,
             hearers,
+        )?;
+        note_from(
+            alloc,
+            &mut self.heard,
+            links,
+            &packet.from,
+            sender,
+            self.moment,
         )
     }
 
-    /// An accepted packet goes to the links that want it, tells where its source is, and is kept.
-    fn keep(&mut self, alloc: Global, number: u32, packet: Packet) -> Result<(), Memory>
-        ensures { OnOk result (self.new ≡ record self.old { seen = after_packet number packet self.old.seen }) }
+    /// A packet that was submitted here is for the peers.
+    fn cast(&mut self, packet: &Packet, submitted: bool) -> Result<(), Memory>
+        requires { submitted ≡ submitted_from packet.now.from self.old.seen.links }
+        ensures { OnOk result (self.new ≡ record self.old {
+          seen = record self.old.seen { reach = record self.old.seen.reach { casts = cast_with (map peer_of self.old.conf.peers) packet.now self.old.seen } };
+        }) }
+    {
+        if submitted {
+            self.reach.cast(peers_of(&self.conf), &packet.line)?;
+        }
+        Ok(())
+    }
+
+    /// An accepted packet goes to the links that want it and to the peers, tells where its source is, and is kept.
+    fn keep(&mut self, alloc: Global, packet: Packet) -> Result<(), Memory>
+        ensures { OnOk result (self.new ≡ record self.old { seen = after_packet (map peer_of self.old.conf.peers) packet self.old.seen }) }
     {
         let source = self.source_of(&packet);
         let to = receiver_of(&packet);
         let hearers = hearers_of(alloc, &self.heard, self.moment, &to)?;
         let owed = self.spend(alloc, &packet)?;
-        self.promise(alloc, number, &packet, hearers.as_slice())?;
-        self.heard
-            .note(alloc, number, &packet.parts.source, self.moment)?;
+        self.promise(alloc, &packet, hearers.as_slice())?;
+        self.cast(&packet, source.submitted)?;
         share(
             &mut self.links,
-            number,
             &packet,
             &source,
             hearers.as_slice(),
@@ -302,31 +436,58 @@ impl Core {
         Ok(())
     }
 
-    /// A packet of that link is accepted.
-    fn accept(&mut self, alloc: Global, number: u32, parts: Parts, line: Line) -> Result<(), Memory>
-        ensures { OnOk result (self.new ≡ with_verdict number (Verdict.Accepted parts line) self.old) }
+    /// A packet that came from there is accepted.
+    fn accept(
+        &mut self,
+        alloc: Global,
+        from: Source,
+        parts: Parts,
+        line: Line,
+    ) -> Result<(), Memory>
+        ensures { OnOk result (self.new ≡ with_verdict from (Verdict.Accepted parts line) self.old) }
     {
         let line = Arc::new(alloc, line)?;
-        let packet = packet_from(number, self.moment, parts, line);
-        self.keep(alloc, number, packet)
+        let packet = packet_from(from, self.moment, parts, line);
+        self.keep(alloc, packet)
     }
 
     /// What the link of that number said: it is judged, and what comes of it is done.
     fn take_line(&mut self, alloc: Global, number: u32, cut: &Cut) -> Result<(), Memory>
-        ensures { OnOk result (self.new ≡ with_verdict number (verdict_of (scene_at self.old number) cut.now) self.old) }
+        ensures { OnOk result (self.new ≡ with_verdict (Source.Link number) (verdict_of (scene_at self.old number) cut.now) self.old) }
     {
+        let from = Source::Link(number);
         match self.judge(alloc, number, cut)? {
             Verdict::PassedOver => Ok(()),
-            Verdict::Refused(refusal) => self.refuse(alloc, number, &refusal),
+            Verdict::Refused(refusal) => self.refuse(alloc, &from, refusal),
             Verdict::LoggedIn(session, answer) => self.log_in(alloc, number, session, answer),
             Verdict::Filtered(answer) => self.answer(alloc, number, answer),
-            Verdict::Accepted(parts, line) => self.accept(alloc, number, parts, line),
+            Verdict::Accepted(parts, line) => self.accept(alloc, from, parts, line),
+        }
+    }
+
+    /// What a line of a datagram said.
+    fn take_carried(
+        &mut self,
+        alloc: Global,
+        from: Source,
+        origin: &Origin,
+        cut: &Cut,
+    ) -> Result<(), Memory>
+        requires station { IsTrue (has_station origin.now) }
+        requires datagram { IsDatagram from }
+        ensures { OnOk result (self.new ≡ with_verdict from (verdict_of (carried_at origin.now self.old) cut.now) self.old) }
+    {
+        match self.judge_carried(alloc, origin, cut)? {
+            Verdict::Refused(refusal) => self.refuse(alloc, &from, refusal),
+            Verdict::Accepted(parts, line) => self.accept(alloc, from, parts, line),
+            Verdict::PassedOver | Verdict::LoggedIn(..) | Verdict::Filtered(_) => Ok(()),
         }
     }
 
     /// The same, as the trace goes on by the line.
     fn hear(&mut self, alloc: Global, number: u32, cut: &Cut) -> Result<(), Memory>
-        ensures walks { (t : Trace) → Walks self.old t → IsTrue (is_live t number) → OnOk result (Walks self.new (saying (setting_of self.old.conf) number cut.now t)) }
+        ensures walks { (t : Trace) → Walks self.old t → IsTrue (is_live t number)
+            → OnOk result (Walks self.new (Said (Source.Link number) cut.now (verdict_of (scene_of (setting_of self.old.conf) t number) cut.now) ∷ t)) }
         ensures rest { OnOk result (SameRest self.old self.new) }
     {
         self.take_line(alloc, number, cut)
@@ -334,13 +495,141 @@ impl Core {
 
     /// The same for several lines, one after another.
     fn hear_all(&mut self, alloc: Global, number: u32, cuts: &[Cut]) -> Result<(), Memory>
-        ensures walks { (t : Trace) → Walks self.old t → IsTrue (is_live t number) → OnOk result (Walks self.new (say_all (setting_of self.old.conf) number cuts.now t)) }
+        ensures walks { (t : Trace) → Walks self.old t → IsTrue (is_live t number)
+            → OnOk result (Walks self.new (say_all (λ now. scene_of (setting_of self.old.conf) now number) (Source.Link number) cuts.now t)) }
         ensures rest { OnOk result (SameRest self.old self.new) }
     {
         for cut in cuts {
             self.hear(alloc, number, cut)?;
         }
         Ok(())
+    }
+
+    /// A line of a datagram, as the trace goes on by it.
+    fn carry(
+        &mut self,
+        alloc: Global,
+        from: Source,
+        origin: &Origin,
+        cut: &Cut,
+    ) -> Result<(), Memory>
+        requires station { IsTrue (has_station origin.now) }
+        requires datagram { IsDatagram from }
+        ensures walks { (t : Trace) → Walks self.old t
+            → OnOk result (Walks self.new (Said from cut.now (verdict_of (datagram_scene (setting_of self.old.conf) origin.now t) cut.now) ∷ t)) }
+        ensures rest { OnOk result (SameRest self.old self.new) }
+    {
+        self.take_carried(alloc, from, origin, cut)
+    }
+
+    /// The same for several lines, one after another.
+    fn carry_all(
+        &mut self,
+        alloc: Global,
+        from: Source,
+        origin: &Origin,
+        cuts: &[Cut],
+    ) -> Result<(), Memory>
+        requires station { IsTrue (has_station origin.now) }
+        requires datagram { IsDatagram from }
+        ensures walks { (t : Trace) → Walks self.old t
+            → OnOk result (Walks self.new (say_all (datagram_scene (setting_of self.old.conf) origin.now) from cuts.now t)) }
+        ensures rest { OnOk result (SameRest self.old self.new) }
+    {
+        for cut in cuts {
+            self.carry(alloc, from, origin, cut)?;
+        }
+        Ok(())
+    }
+
+    /// A datagram is refused whole, for what its first line is.
+    fn refuse_datagram(
+        &mut self,
+        alloc: Global,
+        listener: u16,
+        refusal: Refusal,
+    ) -> Result<(), Memory>
+        requires { IsWhole refusal }
+        ensures walks { (t : Trace) (cut : Cut) → Walks self.old t → OnOk result (Walks self.new (refuse_datagram listener cut refusal t)) }
+        ensures rest { OnOk result (SameRest self.old self.new) }
+    {
+        self.refuse(alloc, &Source::Submit(listener), refusal)
+    }
+
+    /// A station submits a datagram: after its login come its packets.
+    fn submit(
+        &mut self,
+        alloc: Global,
+        listener: u16,
+        first: &Cut,
+        cuts: &[Cut],
+    ) -> Result<(), Memory>
+        ensures walks { (t : Trace) → Walks self.old t
+            → OnOk result (Walks self.new (submit (setting_of self.old.conf) listener first.now cuts.now (submitter_of self.old.conf.server first.now) t)) }
+        ensures rest { OnOk result (SameRest self.old self.new) }
+    {
+        match submitter_of(server_of(&self.conf), first) {
+            Ok(login) => self.carry_all(
+                alloc,
+                Source::Submit(listener),
+                &Origin::Udp { login },
+                cuts,
+            ),
+            Err(refusal) => self.refuse_datagram(alloc, listener, refusal),
+        }
+    }
+
+    /// The peer that has that address: its number, and where what it sends comes from.
+    fn peer_at(&self, at: Addr) -> Option<(u16, Origin)>
+        ensures none { IsNone result → peer_from 0 (map peer_of self.now.conf.peers) at ≡ None }
+        ensures some { IfSome result (λ peer. (call : List ℕ) × (peer.1 ≡ Origin.Peer call) × (peer_from 0 (map peer_of self.now.conf.peers) at ≡ Some (peer.0, call))) }
+        ensures station { IfSome result (λ peer. IsTrue (has_station peer.1)) }
+    {
+        match peer_from(peers_of(&self.conf), at) {
+            Some((number, call)) => Some((number, Origin::Peer(copy_call(call)))),
+            None => None,
+        }
+    }
+
+    /// A datagram came to the peer group: where it is a peer's, its lines are packets.
+    fn relay(
+        &mut self,
+        alloc: Global,
+        listener: u16,
+        from: Addr,
+        cuts: &[Cut],
+    ) -> Result<(), Memory>
+        ensures walks { (t : Trace) (first : Cut) (more : List Cut) → cuts.now ≡ first ∷ more → Walks self.old t
+            → OnOk result (Walks self.new (relay (setting_of self.old.conf) listener first more (peer_from 0 (map peer_of self.old.conf.peers) from) t)) }
+        ensures rest { OnOk result (SameRest self.old self.new) }
+    {
+        match self.peer_at(from) {
+            Some((peer, origin)) => self.carry_all(alloc, Source::Peer(peer), &origin, cuts),
+            None => self.refuse_datagram(alloc, listener, Refusal::Stranger),
+        }
+    }
+
+    /// A datagram came.
+    fn take_datagram(
+        &mut self,
+        alloc: Global,
+        listener: u16,
+        from: Addr,
+        bytes: &[u8],
+    ) -> Result<(), Memory>
+        ensures walks { (t : Trace) → Walks self.old t
+            → OnOk result (Walks self.new (with_lines (setting_of self.old.conf) (kind_at (setting_of self.old.conf) listener) listener from (datagram_cuts bytes.now) t)) }
+        ensures rest { OnOk result (SameRest self.old self.new) }
+    {
+        let cuts = cut_datagram(alloc, bytes)?;
+        let Some((first, more)) = cuts.split_first() else {
+            return Ok(());
+        };
+        match served_by(&self.conf, listener) {
+            Some(PortKind::Submit) => self.submit(alloc, listener, first, more),
+            Some(PortKind::Core) => self.relay(alloc, listener, from, cuts.as_slice()),
+            _ => Ok(()),
+        }
     }
 
     /// Bytes came on a link.
@@ -350,41 +639,97 @@ impl Core {
         ensures dead { (t : Trace) → Walks self.old t → is_live t number ≡ false → IfOk result (λ cuts. (cuts.items ≡ []) × Walks self.new t) }
         ensures rest { OnOk result (SameRest self.old self.new) }
     {
+        if has_link(self.links.as_slice(), number) {
+            self.reach.hear(number, self.moment);
+        }
         bring(alloc, &mut self.links, number, self.moment, bytes)
+    }
+
+    /// A link comes: it is served, or it isn't.
+    fn admit(
+        &mut self,
+        alloc: Global,
+        admission: Admission,
+        number: u32,
+        from: Addr,
+    ) -> Result<(), Memory>
+        requires { self.old.seen.greatest < number }
+        ensures admitted { OnOk result (self.new ≡ record self.old { seen = admitted_in (setting_of self.old.conf) admission number from self.old.seen }) }
+    {
+        self.greatest = number;
+        match admission {
+            Admission::Served(kind) => {
+                let first = self.first_line(alloc, kind)?;
+                self.links
+                    .push(Link::open(alloc, number, kind, from, self.moment, first)?)?;
+            }
+            Admission::TurnedAway | Admission::NotAsked => self.turned.push(number)?,
+            Admission::NoPort => {}
+        }
+        Ok(())
+    }
+
+    /// What the text of a link begins with.
+    fn first_line(&self, alloc: Global, kind: LinkKind) -> Result<Line, Memory>
+        ensures { IfOk result (λ line. line ≡ (first_line (setting_of self.now.conf) kind).line) }
+    {
+        match kind {
+            LinkKind::Client(_) => Ok(banner_line()),
+            LinkKind::Uplink(_) => uplink_line(alloc, server_of(&self.conf), code_of(&self.conf)),
+        }
     }
 
     /// A link was opened on a listener.
     fn open(&mut self, alloc: Global, listener: u16, number: u32, from: Addr) -> Result<(), Memory>
         requires { self.old.seen.greatest < number }
-        ensures walks { (t : Trace) → Walks self.old t → OnOk result (Walks self.new (Opened listener (admission (setting_of self.old.conf) t listener) number from ∷ t)) }
+        ensures walks { (t : Trace) → Walks self.old t
+            → OnOk result (Walks self.new (Opened (AtListener listener) (admission (setting_of self.old.conf) t listener) number from ∷ t)) }
         ensures conf { OnOk result (self.new.conf ≡ self.old.conf) }
         ensures greatest { OnOk result (self.new.seen.greatest ≡ number) }
         ensures stopped { OnOk result (self.new.seen.stopped ≡ self.old.seen.stopped) }
     {
         let admission = self.admission(listener);
-        self.greatest = number;
-        match admission {
-            Admission::Served(kind) => {
-                self.links
-                    .push(Link::open(alloc, number, kind, from, self.moment)?)?;
-                Ok(())
-            }
-            Admission::TurnedAway => {
-                self.turned.push(number)?;
-                Ok(())
-            }
-            Admission::NoPort => Ok(()),
-        }
+        self.admit(alloc, admission, number, from)
+    }
+
+    /// An uplink has joined.
+    fn join(&mut self, alloc: Global, uplink: u16, number: u32, at: Addr) -> Result<(), Memory>
+        requires { self.old.seen.greatest < number }
+        ensures walks { (t : Trace) → Walks self.old t
+            → OnOk result (Walks self.new (Opened (ByUplink uplink) (joined_admission (setting_of self.old.conf) t uplink number) number at ∷ t)) }
+        ensures conf { OnOk result (self.new.conf ≡ self.old.conf) }
+        ensures greatest { OnOk result (self.new.seen.greatest ≡ number) }
+        ensures stopped { OnOk result (self.new.seen.stopped ≡ self.old.seen.stopped) }
+    {
+        let admission = if self.reach.join(uplink, number, self.moment) {
+            Admission::Served(LinkKind::Uplink(uplink))
+        } else {
+            Admission::NotAsked
+        };
+        self.admit(alloc, admission, number, at)
+    }
+
+    /// A dial came to nothing.
+    fn unjoin(&mut self, uplink: u16)
+        ensures walks { (t : Trace) → Walks self.old t → Walks self.new (Unjoined uplink ∷ t) }
+        ensures rest { SameRest self.old self.new }
+    {
+        self.reach.unjoin(uplink, self.moment);
     }
 
     /// What becomes of a connection on that listener.
     fn admission(&self, listener: u16) -> Admission
-        ensures { result ≡ admitted self.now.conf.max_clients (length self.now.seen.links) (kind_at (setting_of self.now.conf) listener) }
+        ensures { result ≡ admitted self.now.conf.max_clients (clients_in self.now.seen.links) (kind_at (setting_of self.now.conf) listener) }
     {
         match served_by(&self.conf, listener) {
-            Some(kind) if self.links.len() < most_clients(&self.conf) => Admission::Served(kind),
-            Some(_) => Admission::TurnedAway,
-            None => Admission::NoPort,
+            Some(kind) if is_client_kind(kind) => {
+                if count_clients(self.links.as_slice()) < most_clients(&self.conf) {
+                    Admission::Served(LinkKind::Client(kind))
+                } else {
+                    Admission::TurnedAway
+                }
+            }
+            _ => Admission::NoPort,
         }
     }
 
@@ -394,6 +739,9 @@ impl Core {
         ensures dead { (t : Trace) → Walks self.old t → is_live t number ≡ false → Walks self.new t }
         ensures rest { SameRest self.old self.new }
     {
+        if has_link(self.links.as_slice(), number) {
+            self.reach.end(number, self.moment);
+        }
         self.heard.forget(number);
         drop_link(&mut self.links, number);
     }
@@ -419,7 +767,7 @@ impl Core {
     /// The links that are late end.
     fn end_late(&mut self, alloc: Global) -> Result<(), Memory>
         ensures walks { (t : Trace) → Walks self.old t
-            → OnOk result (Walks self.new (end_each (late_reason t) (late_links self.old.conf.client_timeout t) t)) }
+            → OnOk result (Walks self.new (end_each (late_reason t) (late_links (setting_of self.old.conf) t) t)) }
         ensures rest { OnOk result (SameRest self.old self.new) }
     {
         let ends = self.late(alloc)?;
@@ -428,29 +776,30 @@ impl Core {
 
     /// The numbers of the links that are late.
     fn late(&self, alloc: Global) -> Result<Vec<u32>, Memory>
-        ensures { IfOk result (λ v. v.items ≡ numbers (filter (is_late_link self.now.conf.client_timeout self.now.seen.moment) self.now.seen.links)) }
+        ensures { IfOk result (λ v. v.items ≡ numbers (filter (is_late_link (timeouts_of self.now.conf) self.now.seen.moment) self.now.seen.links)) }
     {
         late(
             alloc,
             self.links.as_slice(),
-            client_timeout(&self.conf),
+            timeouts(&self.conf),
             self.moment,
         )
     }
 
     /// The links that are late leave, and are to be closed.
     fn drop_late(&mut self, ends: &[u32]) -> Result<(), Memory>
-        ensures walks { (t : Trace) → Walks self.old t → ends.now ≡ numbers (filter (is_late_link self.old.conf.client_timeout self.old.seen.moment) self.old.seen.links)
-            → OnOk result (Walks self.new (end_each (late_reason t) (late_links self.old.conf.client_timeout t) t)) }
+        ensures walks { (t : Trace) → Walks self.old t → ends.now ≡ numbers (filter (is_late_link (timeouts_of self.old.conf) self.old.seen.moment) self.old.seen.links)
+            → OnOk result (Walks self.new (end_each (late_reason t) (late_links (setting_of self.old.conf) t) t)) }
         ensures rest { OnOk result (SameRest self.old self.new) }
     {
-        let timeout = client_timeout(&self.conf);
+        let timeouts = timeouts(&self.conf);
+        self.reach.end_all(ends, self.moment);
         forget_all(&mut self.heard, ends);
-        drop_late(&mut self.links, timeout, self.moment);
+        drop_late(&mut self.links, timeouts, self.moment);
         place_all(&mut self.closing, ends)
     }
 
-    /// The links are told the date, where the moment has passed a border since.
+    /// The clients are told the date, where the moment has passed a border since.
     fn tell_date(&mut self, alloc: Global, before: u64) -> Result<(), Memory>
         ensures walks { (t : Trace) → Walks self.old t → OnOk result (Walks self.new (dated before t)) }
         ensures rest { OnOk result (SameRest self.old self.new) }
@@ -462,7 +811,15 @@ impl Core {
         Ok(())
     }
 
-    /// The moment goes on, the links that are late end, and the others are told the date.
+    /// The time has come to look whether an uplink is to be dialled.
+    fn look(&mut self)
+        ensures walks { (t : Trace) → Walks self.old t → Walks self.new (Looked ∷ t) }
+        ensures rest { SameRest self.old self.new }
+    {
+        self.reach.look(self.moment);
+    }
+
+    /// The moment goes on, the links that are late end, the clients are told the date, and an uplink may be dialled.
     fn tick(&mut self, alloc: Global, moment: u64) -> Result<(), Memory>
         ensures walks { (t : Trace) → Walks self.old t → OnOk result (Walks self.new (with_tick (setting_of self.old.conf) moment t)) }
         ensures rest { OnOk result (SameRest self.old self.new) }
@@ -470,7 +827,9 @@ impl Core {
         let before = self.moment;
         self.go_on(moment);
         self.end_late(alloc)?;
-        self.tell_date(alloc, before)
+        self.tell_date(alloc, before)?;
+        self.look();
+        Ok(())
     }
 
     /// Bytes came on a link: they are cut, and each line is heard.
@@ -484,17 +843,6 @@ impl Core {
         }
         self.hear_all(alloc, number, cuts.as_slice())?;
         Ok(())
-    }
-
-    /// A link comes that nobody asked for.
-    fn pass_over(&mut self, number: u32)
-        requires { self.old.seen.greatest < number }
-        ensures walks { (t : Trace) → Walks self.old t → Walks self.new t }
-        ensures conf { self.new.conf ≡ self.old.conf }
-        ensures greatest { self.new.seen.greatest ≡ number }
-        ensures stopped { self.new.seen.stopped ≡ self.old.seen.stopped }
-    {
-        self.greatest = number;
     }
 
     /// The server is to stop.
@@ -520,12 +868,17 @@ impl Core {
                 link,
                 from,
             } => self.open(alloc, *listener, *link, *from)?,
-            Event::Joined { link, .. } => self.pass_over(*link),
+            Event::Joined { uplink, link, at } => self.join(alloc, *uplink, *link, *at)?,
+            Event::Unjoined(uplink) => self.unjoin(*uplink),
             Event::Bytes(link, chunk) => self.take_bytes(alloc, *link, chunk.bytes())?,
             Event::Ended(link) => self.end(*link),
             Event::Room(link) => self.room(*link),
             Event::Stop => self.stop(),
-            Event::Unjoined(_) | Event::Datagram { .. } => {}
+            Event::Datagram {
+                listener,
+                from,
+                bytes,
+            } => self.take_datagram(alloc, *listener, *from, bytes.bytes())?,
         }
         Ok(())
     }
@@ -569,6 +922,7 @@ impl Core {
             → OnOk result (Walks self.new (end_each (refused_reason t) (refused_links (setting_of self.old.conf) t) t)) }
         ensures rest { OnOk result (SameRest self.old self.new) }
     {
+        self.reach.end_all(ends, self.moment);
         forget_all(&mut self.heard, ends);
         drop_these(&mut self.links, ends);
         place_all(&mut self.closing, ends)
@@ -600,6 +954,7 @@ impl Core {
             → OnOk result (Follows (setting_of self.old.conf) self.new.seen (end_stopped true t)) }
         ensures rest { OnOk result (SameRest self.old self.new) }
     {
+        self.reach.end_all(ends, self.moment);
         forget_all(&mut self.heard, ends);
         place_all(&mut self.closing, ends)
     }
@@ -614,20 +969,21 @@ impl Core {
         self.end_stopped(alloc)
     }
 
-    /// What is to be done now: offers, and then the closes.
+    /// What is to be done now: the dial, the casts, the offers, and then the closes.
     fn acts(&self, alloc: Global) -> Result<Acts, Memory>
         ensures offers { IfOk result (λ acts. acts.offers ≡ map number_of (filter is_ready self.now.seen.links)) }
         ensures closes { IfOk result (λ acts. acts.closes ≡ self.now.seen.closing) }
         ensures done { IfOk result (λ acts. acts.done ≡ self.now.seen.stopped) }
         ensures rising { IfOk result (λ acts. Rises 0 acts.offers self.now.seen.greatest) }
         ensures served { IfOk result (λ acts. AreServed acts.offers self.now.seen.links) }
-        ensures none { IfOk result (λ acts. (acts.dial ≡ None) × (acts.casts ≡ [])) }
+        ensures dial { IfOk result (λ acts. acts.dial ≡ self.now.seen.reach.dial) }
+        ensures casts { IfOk result (λ acts. acts.casts ≡ self.now.seen.reach.casts) }
     {
         let offers = ready(alloc, self.links.as_slice())?;
         let closes = self.closing.clone()?;
         Ok(Acts {
-            dial: None,
-            casts: Vec::new(alloc),
+            dial: self.reach.dial(),
+            casts: self.reach.casts(alloc)?,
             offers,
             closes,
             done: self.stopped,
@@ -714,10 +1070,13 @@ impl Core {
         requires most { _workers ≤ 64 }
         requires listens { length (numbered conf.listens) ≤ 16 }
         requires station { IsTrue (is_station conf.server) }
+        requires uplinks { length conf.uplinks ≤ 8 }
+        requires peers { IsGroup conf.group conf.peers }
         ensures conf { IfOk result (λ core. core.conf ≡ conf) }
         ensures stands { IfOk result (λ core. Stands core (only_listens (setting_of conf))) }
         ensures fresh { IfOk result (λ core. (core.seen.greatest ≡ 0) × (core.seen.stopped ≡ false)) }
     {
+        let reach = reach_for(alloc, &conf);
         Ok(Core {
             conf,
             moment: 0,
@@ -727,6 +1086,7 @@ impl Core {
             accepted: Vec::new(alloc),
             stations: Stations::new(alloc, hasher)?,
             heard: Heard::new(alloc, hasher)?,
+            reach,
             greatest: 0,
             stopped: false,
         })
