@@ -16,9 +16,12 @@ use Rattle.aprs_base.specs.Held.{held_after}
 use Rattle.aprs_base.specs.declared.texts.Addr.{Addr}
 use Rattle.aprs_base.specs.declared.cutting.Cut.{Cut}
 use Rattle.aprs_base.specs.declared.packets.Parts.{Parts}
-use Rattle.aprs_base.specs.declared.packets.PortKind.{PortKind}
+use Rattle.aprs_base.specs.declared.packets.Source.{Source}
 use Rattle.aprs_history.specs.declared.verdicts.Session.{Session}
+use Rattle.aprs_history.specs.declared.verdicts.LinkKind.{LinkKind}
+use Rattle.aprs_history.specs.declared.verdicts.LinkKind.TheVariants.{Client, Uplink}
 use Rattle.aprs_history.specs.declared.verdicts.Refusal.{Refusal}
+use Rattle.aprs_history.specs.declared.verdicts.Refusal.TheVariants as refusal
 use Rattle.aprs_history.specs.declared.verdicts.Verdict.TheVariants.{PassedOver, Refused, LoggedIn, Filtered, Accepted}
 use Rattle.aprs_history.specs.Dates.{comment_text}
 use Rattle.aprs_history.specs.Setting.{Setting}
@@ -28,13 +31,13 @@ use Rattle.aprs_history.specs.Messages.{is_asked, is_owed, is_to_heard, is_to_lo
 use Rattle.aprs_history.specs.Sights.{filter_passes, friend_in, friends_of, is_gate_at, login_in, own_place, sighting}
 use Rattle.aprs_history.specs.declared.verdicts.Admission.{Admission}
 use Rattle.aprs_history.specs.declared.verdicts.Admission.TheVariants.{Served}
-use Rattle.aprs_history.specs.Trace.{is_member, last_moment, moment_of, Trace, RoundBegan, Dated, Ticked, Opened, Brought, Said, Roomed, Took, Lost, is_live}
-use Rattle.aprs_history.specs.Links.{brought_by, filter_after, filter_by, filter_of, taken_by, session_of, opening_of}
+use Rattle.aprs_history.specs.Trace.{is_from, is_member, last_moment, moment_of, Trace, Door, RoundBegan, Dated, Looked, Ticked, Opened, Brought, Said, Roomed, Took, Lost, Unjoined, is_live}
+use Rattle.aprs_history.specs.Links.{Opening, brought_by, filter_after, filter_by, filter_of, is_client, is_client_link, is_client_of, is_submitted, taken_by, session_of, opening_of}
 use Rattle.link_queue.specs.Lines.{Queued, queued, text_bytes, ended_line}
-use Rattle.aprs_history.specs.Texts.{Text, TextLine, comment_line, most_waiting, lines_of, plain, plain_line, relayed, reply_of, text_to, waiting_lines, with_text_line, with_text_lines, wants, filter_reply, login_filter_reply, login_reply, refusal_reply, reply_lines, port_wants}
+use Rattle.aprs_history.specs.Texts.{Text, TextLine, comment_line, first_line, is_shown, most_waiting, lines_of, opening_wants, plain, plain_line, refused_lines, relayed, reply_of, shown, shows_duplicates, text_to, waiting_lines, with_text_line, with_text_lines, wants, filter_reply, login_filter_reply, login_reply, refusal_reply, reply_lines}
 use Rattle.aprs_history.specs.Stands.{LinkSeen, link_seen, TookNoMore}
 use Rattle.server_core.specs.Pending.{with_line, pending_bytes}
-use Rattle.server_core.specs.LinkSteps.{picked_at, at_link, at_moment, with_answer, with_room, when_gone, with_taken, with_bytes, with_text, with_session, with_packet, with_places, new_link_seen}
+use Rattle.server_core.specs.LinkSteps.{picked_at, at_link, at_moment, with_answer, with_room, when_gone, with_taken, with_bytes, with_text, with_session, with_date, with_packet, with_places, with_shown, new_link_seen}
 use Rattle.server_core.proofs.SightLemmas.{friends_later, login_later, places_kept, told_at}
 
 pub map_through : {X Y : Type 0} (f : X → Y) (g : Y → Y) (h : X → Y) → ((x : X) → f x ≡ g (h x)) → (xs : List X) → map f xs ≡ map g (map h xs)
@@ -100,9 +103,9 @@ left_over taken text =
     (λ no_lt. let l : length text ≤ taken = ltb-false taken (length text) no_lt in not_below 0 (length (drop taken text)) (omega arith) ∙ sym no_lt)
     (cases_Bool (nat_lt taken (length text)))
 
-and_true : (a b c : Bool) → (a && true && b && c) ≡ (a && b && c)
-and_true true b c = refl
-and_true false b c = refl
+and_true : (a b : Bool) → (a && true && b) ≡ (a && b)
+and_true true b = refl
+and_true false b = refl
 
 -- a text with more lines is no shorter
 pub text_more : (lines more : List (List ℕ)) (n : ℕ) → n ≤ length (text_bytes lines) → n ≤ length (text_bytes (lines ++ more))
@@ -260,6 +263,19 @@ module _ (base : LinkSeen) (accepted : List PacketSeen) (now : ℕ) (session : O
         places_kept accepted now packet (seen_in packet) refl (λ seen is. told_at packet seen is ∙ at) (keeping base accepted now session terms (with_text_line taken (relayed packet) text) taken) refl refl
         ∙ ap (with_places packet) (queue_grows base accepted now session terms text taken le (relayed packet))
 
+    -- a duplicate that is refused, which the link is shown or not
+    shown_shape : (packet : PacketSeen) (own showing : Bool)
+        → keeping base (accepted ++ []) now (if own then session else session) (if own then terms else terms) (with_text_lines taken (if showing then shown packet ∷ [] else []) text) taken
+        ≡ (if showing then with_text packet.line kept else kept)
+    shown_shape packet true true =
+        ap (λ packets. keeping base packets now session terms (with_text_line taken (shown packet) text) taken) (append-nil accepted)
+        ∙ queue_grows base accepted now session terms text taken le (shown packet)
+    shown_shape packet false true =
+        ap (λ packets. keeping base packets now session terms (with_text_line taken (shown packet) text) taken) (append-nil accepted)
+        ∙ queue_grows base accepted now session terms text taken le (shown packet)
+    shown_shape packet true false = passed_shape true
+    shown_shape packet false false = passed_shape false
+
     -- a packet, which the link wants or not
     packet_shape : (packet : PacketSeen) (own wanted : Bool) → packet.moment ≡ now
         → keeping base (accepted ++ packet ∷ []) now (if own then session else session) (if own then terms else terms) (with_text_lines taken (if wanted then relayed packet ∷ [] else []) text) taken
@@ -305,79 +321,126 @@ module _ (s : Setting) where
       ∙ ap (λ place. record (link_seen s t j) { friends = map (fresh (moment_of (Ticked m ∷ t))) (friends_of t j); mine = place }) (sym (login_later (accepted_of t) (moment_of t) (moment_of (Ticked m ∷ t)) later (session_of t j)))
 
   -- a line that is refused without a reply, and one with a reply
-  pub refused_seen : (t : Trace) (k : ℕ) (cut : Cut) (why : Refusal) (j : ℕ) → None ≡ refusal_reply why → link_seen s (Said k cut (Refused why) ∷ t) j ≡ link_seen s t j
+  pub refused_seen : (t : Trace) (from : Source) (cut : Cut) (why : Refusal) (j : ℕ) → refused_lines t from why j ≡ (if is_from j from then reply_lines (refusal_reply why) else []) → None ≡ refusal_reply why
+      → link_seen s (Said from cut (Refused why) ∷ t) j ≡ link_seen s t j
   unfolding link_seen
-  refused_seen t k cut why j none =
+  refused_seen t from cut why j plain none =
       let base = link_seen s t j in
-      ap (λ reply. keeping base (accepted_of t ++ []) (moment_of t) (if j == k then session_of t j else session_of t j) (if j == k then filter_of t j else filter_of t j)
-      (with_text_lines (taken_by t j) (if j == k then reply_lines reply else []) (text_to s t j)) (taken_by t j)) (sym none)
-      ∙ quiet_shape base (accepted_of t) (moment_of t) (session_of t j) (filter_of t j) (text_to s t j) (taken_by t j) (j == k)
+      ap (λ lines. keeping base (accepted_of t ++ []) (moment_of t) (if is_from j from then session_of t j else session_of t j) (if is_from j from then filter_of t j else filter_of t j)
+      (with_text_lines (taken_by t j) lines (text_to s t j)) (taken_by t j)) (plain ∙ ap (λ reply. if is_from j from then reply_lines reply else []) (sym none))
+      ∙ quiet_shape base (accepted_of t) (moment_of t) (session_of t j) (filter_of t j) (text_to s t j) (taken_by t j) (is_from j from)
 
-  pub replied_seen : (t : Trace) → TookNoMore s t → (k : ℕ) (cut : Cut) (why : Refusal) (line : List ℕ) (j : ℕ) → Some line ≡ refusal_reply why
-      → link_seen s (Said k cut (Refused why) ∷ t) j ≡ at_link k (with_text line) (link_seen s t j)
+  pub replied_seen : (t : Trace) → TookNoMore s t → (from : Source) (cut : Cut) (why : Refusal) (line : List ℕ) (j : ℕ)
+      → refused_lines t from why j ≡ (if is_from j from then reply_lines (refusal_reply why) else []) → Some line ≡ refusal_reply why
+      → link_seen s (Said from cut (Refused why) ∷ t) j ≡ (if is_from j from then with_text line (link_seen s t j) else link_seen s t j)
   unfolding link_seen
-  replied_seen t took k cut why line j some =
+  replied_seen t took from cut why line j plain some =
       let base = link_seen s t j in
-      ap (λ reply. keeping base (accepted_of t ++ []) (moment_of t) (if j == k then session_of t j else session_of t j) (if j == k then filter_of t j else filter_of t j)
-      (with_text_lines (taken_by t j) (if j == k then reply_lines reply else []) (text_to s t j)) (taken_by t j)) (sym some)
-      ∙ reply_shape base (accepted_of t) (moment_of t) (session_of t j) (filter_of t j) (text_to s t j) (taken_by t j) (took j) line (j == k)
+      ap (λ lines. keeping base (accepted_of t ++ []) (moment_of t) (if is_from j from then session_of t j else session_of t j) (if is_from j from then filter_of t j else filter_of t j)
+      (with_text_lines (taken_by t j) lines (text_to s t j)) (taken_by t j)) (plain ∙ ap (λ reply. if is_from j from then reply_lines reply else []) (sym some))
+      ∙ reply_shape base (accepted_of t) (moment_of t) (session_of t j) (filter_of t j) (text_to s t j) (taken_by t j) (took j) line (is_from j from)
 
-  pub passed_seen : (t : Trace) (k : ℕ) (cut : Cut) (j : ℕ) → link_seen s (Said k cut PassedOver ∷ t) j ≡ link_seen s t j
+  -- a duplicate, at a link that lives
+  pub shown_seen : (t : Trace) → TookNoMore s t → (from : Source) (cut : Cut) (parts : Parts) (line : List ℕ) (j : ℕ) → is_live t j ≡ true
+      → link_seen s (Said from cut (Refused (refusal.Duplicate parts line)) ∷ t) j ≡ with_shown from line (link_seen s t j)
   unfolding link_seen
-  passed_seen t k cut j = passed_shape (link_seen s t j) (accepted_of t) (moment_of t) (session_of t j) (filter_of t j) (text_to s t j) (taken_by t j) (j == k)
+  shown_seen t took from cut parts line j live =
+      let base = link_seen s t j in
+      let packet = packet_of from (moment_of t) parts line in
+      let shows = shows_duplicates (opening_of t j) (session_of t j) in
+      let same : is_shown t from j ≡ (not (is_from j from) && shows) = ap (λ b. not (is_from j from) && b && shows) live ∙ and_true (not (is_from j from)) shows in
+      ap (λ b. keeping base (accepted_of t ++ []) (moment_of t) (if is_from j from then session_of t j else session_of t j) (if is_from j from then filter_of t j else filter_of t j)
+      (with_text_lines (taken_by t j) (if b then shown packet ∷ [] else []) (text_to s t j)) (taken_by t j)) same
+      ∙ shown_shape base (accepted_of t) (moment_of t) (session_of t j) (filter_of t j) (text_to s t j) (taken_by t j) (took j) packet (is_from j from) (not (is_from j from) && shows)
 
-  pub answered_seen : (t : Trace) → TookNoMore s t → (k : ℕ) (cut : Cut) (answer : FilterAnswer) (j : ℕ)
-      → link_seen s (Said k cut (Filtered answer) ∷ t) j ≡ at_link k (with_answer (friend_in (accepted_of t) (moment_of t)) answer) (link_seen s t j)
+  pub passed_seen : (t : Trace) (from : Source) (cut : Cut) (j : ℕ) → link_seen s (Said from cut PassedOver ∷ t) j ≡ link_seen s t j
   unfolding link_seen
-  answered_seen t took k cut answer j =
-      answer_shape (link_seen s t j) (accepted_of t) (moment_of t) (session_of t j) (filter_of t j) (text_to s t j) (taken_by t j) (took j) answer (j == k)
+  passed_seen t from cut j = passed_shape (link_seen s t j) (accepted_of t) (moment_of t) (session_of t j) (filter_of t j) (text_to s t j) (taken_by t j) (is_from j from)
 
-  pub login_seen : (t : Trace) → TookNoMore s t → (k : ℕ) (cut : Cut) (session : Session) (answer : Option FilterAnswer) (j : ℕ)
-      → link_seen s (Said k cut (LoggedIn session answer) ∷ t) j
-      ≡ at_link k (with_login (accepted_of t) (moment_of t) session (login_reply s.server session) answer) (link_seen s t j)
+  pub answered_seen : (t : Trace) → TookNoMore s t → (from : Source) (cut : Cut) (answer : FilterAnswer) (j : ℕ)
+      → link_seen s (Said from cut (Filtered answer) ∷ t) j ≡ (if is_from j from then with_answer (friend_in (accepted_of t) (moment_of t)) answer (link_seen s t j) else link_seen s t j)
   unfolding link_seen
-  login_seen t took k cut session answer j =
-      login_shape (link_seen s t j) (accepted_of t) (moment_of t) (session_of t j) (filter_of t j) (text_to s t j) (taken_by t j) (took j) session (login_reply s.server session) answer (j == k)
+  answered_seen t took from cut answer j =
+      answer_shape (link_seen s t j) (accepted_of t) (moment_of t) (session_of t j) (filter_of t j) (text_to s t j) (taken_by t j) (took j) answer (is_from j from)
+
+  pub login_seen : (t : Trace) → TookNoMore s t → (from : Source) (cut : Cut) (session : Session) (answer : Option FilterAnswer) (j : ℕ)
+      → link_seen s (Said from cut (LoggedIn session answer) ∷ t) j
+      ≡ (if is_from j from then with_login (accepted_of t) (moment_of t) session (login_reply s.server session) answer (link_seen s t j) else link_seen s t j)
+  unfolding link_seen
+  login_seen t took from cut session answer j =
+      login_shape (link_seen s t j) (accepted_of t) (moment_of t) (session_of t j) (filter_of t j) (text_to s t j) (taken_by t j) (took j) session (login_reply s.server session) answer (is_from j from)
+
+  -- the message rule says nothing of uplinks
+  unasked_same : (opening : Option Opening) (named submitted x y : Bool) → is_client_link opening ≡ false → opening_wants opening named submitted x ≡ opening_wants opening named submitted y
+  unasked_same None named submitted x y uplink = refl
+  unasked_same (Some opening) named submitted x y uplink = by opening.kind refl
+    where
+      by : (kind : LinkKind) → opening.kind ≡ kind → opening_wants (Some opening) named submitted x ≡ opening_wants (Some opening) named submitted y
+      by (Client port) is = absurd (true≢false (ap is_client_of (sym is) ∙ uplink))
+      by (Uplink number) is = rw is refl
 
   -- an accepted packet, at a link that lives
-  pub accepted_seen : (t : Trace) → TookNoMore s t → (k : ℕ) (cut : Cut) (parts : Parts) (line : List ℕ) (hearers owed : List ℕ) (j : ℕ) → is_live t j ≡ true
-      → is_among j hearers ≡ is_to_heard t (packet_of k (moment_of t) parts line) j → is_among j owed ≡ is_owed t (packet_of k (moment_of t) parts line) j
-      → link_seen s (Said k cut (Accepted parts line) ∷ t) j
-      ≡ with_packet k (packet_of k (moment_of t) parts line)
-      (record { place = sighting (accepted_of t) (moment_of t) parts.source; gate = is_gate_at (accepted_of t) (moment_of t) parts.source }) hearers owed (link_seen s t j)
+  pub accepted_seen : (t : Trace) → TookNoMore s t → (from : Source) (cut : Cut) (parts : Parts) (line : List ℕ) (hearers owed : List ℕ) (j : ℕ) → is_live t j ≡ true
+      → (is_client_link (opening_of t j) ≡ true → is_among j hearers ≡ is_to_heard t (packet_of from (moment_of t) parts line) j) → is_among j owed ≡ is_owed t (packet_of from (moment_of t) parts line) j
+      → link_seen s (Said from cut (Accepted parts line) ∷ t) j
+      ≡ with_packet (packet_of from (moment_of t) parts line) (record {
+        place = sighting (accepted_of t) (moment_of t) parts.source;
+        gate = is_gate_at (accepted_of t) (moment_of t) parts.source;
+        submitted = is_submitted t from;
+      }) hearers owed (link_seen s t j)
   unfolding link_seen
-  accepted_seen t took k cut parts line hearers owed j live heard due =
+  accepted_seen t took from cut parts line hearers owed j live heard due =
       let base = link_seen s t j in
-      let packet = packet_of k (moment_of t) parts line in
-      let asked : Bool → Bool → Bool = λ by_hearing by_courtesy.
-      not (k == j) && is_some (session_of t j) && port_wants (opening_of t j) (filter_passes t packet j || (is_to_login packet (session_of t j) || by_hearing || by_courtesy)) in
-      let same : wants t k packet j ≡ asked (is_among j hearers) (is_among j owed) =
-      ap (λ b. not (k == j) && b && is_some (session_of t j) && port_wants (opening_of t j) (filter_passes t packet j || is_asked t packet j)) live
-      ∙ and_true (not (k == j)) (is_some (session_of t j)) (port_wants (opening_of t j) (filter_passes t packet j || is_asked t packet j))
-      ∙ ap (λ b. asked b (is_owed t packet j)) (sym heard) ∙ ap (asked (is_among j hearers)) (sym due) in
-      ap (λ b. keeping base (accepted_of t ++ packet ∷ []) (moment_of t) (if j == k then session_of t j else session_of t j) (if j == k then filter_of t j else filter_of t j)
+      let packet = packet_of from (moment_of t) parts line in
+      let wanted : Bool → Bool = λ asked. opening_wants (opening_of t j) (is_some (session_of t j)) (is_submitted t from) (filter_passes t packet j || asked) in
+      let asked : Bool → Bool → Bool = λ by_hearing by_courtesy. not (is_from j from) && wanted (is_to_login packet (session_of t j) || by_hearing || by_courtesy) in
+      let lives : wants t packet j ≡ asked (is_to_heard t packet j) (is_owed t packet j) =
+      ap (λ b. not (is_from j from) && b && wanted (is_asked t packet j)) live ∙ and_true (not (is_from j from)) (wanted (is_asked t packet j)) in
+      let same : wants t packet j ≡ asked (is_among j hearers) (is_among j owed) = ⊎_elim
+      (λ client. lives ∙ ap (λ b. asked b (is_owed t packet j)) (sym (heard client)) ∙ ap (asked (is_among j hearers)) (sym due))
+      (λ uplink. lives ∙ ap (λ b. not (is_from j from) && b) (unasked_same (opening_of t j) (is_some (session_of t j)) (is_submitted t from)
+      (filter_passes t packet j || (is_to_login packet (session_of t j) || is_to_heard t packet j || is_owed t packet j))
+      (filter_passes t packet j || (is_to_login packet (session_of t j) || is_among j hearers || is_among j owed)) uplink))
+      (cases_Bool (is_client_link (opening_of t j))) in
+      ap (λ b. keeping base (accepted_of t ++ packet ∷ []) (moment_of t) (if is_from j from then session_of t j else session_of t j) (if is_from j from then filter_of t j else filter_of t j)
       (with_text_lines (taken_by t j) (if b then relayed packet ∷ [] else []) (text_to s t j)) (taken_by t j)) same
-      ∙ packet_shape base (accepted_of t) (moment_of t) (session_of t j) (filter_of t j) (text_to s t j) (taken_by t j) (took j) packet (j == k) (asked (is_among j hearers) (is_among j owed)) refl
+      ∙ packet_shape base (accepted_of t) (moment_of t) (session_of t j) (filter_of t j) (text_to s t j) (taken_by t j) (took j) packet (is_from j from) (asked (is_among j hearers) (is_among j owed)) refl
 
   -- a round begins
   pub round_seen : (t : Trace) (j : ℕ) → link_seen s (RoundBegan ∷ t) j ≡ link_seen s t j
   unfolding link_seen
   round_seen t j = refl
 
-  -- a link that lives is told the date
-  pub dated_seen : (t : Trace) → TookNoMore s t → (moment j : ℕ) → is_live t j ≡ true → link_seen s (Dated moment ∷ t) j ≡ with_text (comment_text s.server moment) (link_seen s t j)
+  -- a client that lives is told the date
+  pub dated_seen : (t : Trace) → TookNoMore s t → (moment j : ℕ) → is_live t j ≡ true → link_seen s (Dated moment ∷ t) j ≡ with_date (comment_text s.server moment) (link_seen s t j)
   unfolding link_seen
-  dated_seen t took moment j live =
-      rw live (queue_grows (link_seen s t j) (accepted_of t) (moment_of t) (session_of t j) (filter_of t j) (text_to s t j) (taken_by t j) (took j) (comment_line s.server moment))
+  dated_seen t took moment j live = by (is_client_link (opening_of t j)) refl
+    where
+      by : (b : Bool) → is_client_link (opening_of t j) ≡ b → link_seen s (Dated moment ∷ t) j ≡ with_date (comment_text s.server moment) (link_seen s t j)
+      by true is = rw (live, is) (queue_grows (link_seen s t j) (accepted_of t) (moment_of t) (session_of t j) (filter_of t j) (text_to s t j) (taken_by t j) (took j) (comment_line s.server moment))
+      by false is = rw (live, is) refl
 
-  pub opened_seen : (t : Trace) (listener : ℕ) (admission : Admission) (k : ℕ) (from : Addr) (j : ℕ) → (j == k) ≡ false → link_seen s (Opened listener admission k from ∷ t) j ≡ link_seen s t j
+  pub opened_seen : (t : Trace) (door : Door) (admission : Admission) (k : ℕ) (from : Addr) (j : ℕ) → (j == k) ≡ false → link_seen s (Opened door admission k from ∷ t) j ≡ link_seen s t j
   unfolding link_seen
-  opened_seen t listener admission k from j other = rw other refl
+  opened_seen t door admission k from j other = rw other refl
 
-  pub new_seen : (t : Trace) (listener : ℕ) (kind : PortKind) (k : ℕ) (from : Addr)
-      → link_seen s (Opened listener (Served kind) k from ∷ t) k ≡ new_link_seen k (record { kind = kind; from = from; moment = moment_of t })
+  pub new_seen : (t : Trace) (door : Door) (kind : LinkKind) (k : ℕ) (from : Addr)
+      → link_seen s (Opened door (Served kind) k from ∷ t) k ≡ new_link_seen k (record { kind = kind; from = from; moment = moment_of t }) (first_line s kind).line
   unfolding link_seen
-  new_seen t listener kind k from = let same : (k == k) ≡ true = eq-eqb k k refl in rw same refl
+  new_seen t door kind k from =
+      let same : (k == k) ≡ true = eq-eqb k k refl in
+      let line = (first_line s kind).line in
+      let begun : nat_le (length line + 2) 0 ≡ false = lt-leb (length line + 2) 0 (omega arith) in
+      rw (same, begun) refl
+
+  -- what has nothing to do with links
+  pub looked_seen : (t : Trace) (j : ℕ) → link_seen s (Looked ∷ t) j ≡ link_seen s t j
+  unfolding link_seen
+  looked_seen t j = refl
+
+  pub unjoined_seen : (t : Trace) (uplink j : ℕ) → link_seen s (Unjoined uplink ∷ t) j ≡ link_seen s t j
+  unfolding link_seen
+  unjoined_seen t uplink j = refl
 
 -- what is picked of a link that lives is what there is to keep of it
 pub picked_seen : {X : Type 0} (pick : LinkSeen → X) (none : X) (s : Setting) (t : Trace) (number : ℕ) (ks : List ℕ) → is_member number ks ≡ true

@@ -1,12 +1,14 @@
 -- What links heard and were promised, as packets come and links end.
-use Rattle.std.proofs.Common.{◌≡◌, ℕ, ◌==◌, ◌&&◌, ◌||◌, Bool, true, false, not, List, [], ◌∷◌, ◌++◌, filter, refl, sym, ap, ◌∙◌, Option, Some, None, cond, if◌then◌else◌, append-nil}
+use Rattle.std.proofs.Common.{◌≡◌, ℕ, ◌==◌, ◌&&◌, ◌||◌, Bool, true, false, not, List, [], ◌∷◌, ◌++◌, filter, refl, sym, ap, ◌∙◌, subst, Option, Some, None, cond, if◌then◌else◌, append-nil}
+use Rattle.std.specs.Bool.{⊤}
 use Rattle.std.proofs.lemmas.Bool.{eqb-true, true≢false}
 use Rattle.std.proofs.lemmas.Cmp.{nat_list_eq_equiv}
 use Rattle.aprs_base.specs.PacketSeen.{PacketSeen}
 use Rattle.aprs_base.specs.Bytes.{is_call}
 use Rattle.aprs_base.specs.declared.cutting.Cut.{Cut}
 use Rattle.aprs_base.specs.declared.packets.Parts.{Parts}
-use Rattle.aprs_base.specs.declared.packets.PortKind.{PortKind}
+use Rattle.aprs_base.specs.declared.packets.Source.{Source}
+use Rattle.aprs_base.specs.declared.packets.Source.TheVariants as source
 use Rattle.aprs_base.specs.declared.texts.Addr.{Addr}
 use Rattle.filter_eval.specs.Passes.{is_some_and, is_text}
 use Rattle.heard_routing.specs.Entries.{HasEachOnce}
@@ -14,15 +16,17 @@ use Rattle.heard_routing.specs.Heard.{HeardSeen, courtesies, heard_age, heard_at
 use Rattle.heard_routing.proofs.EntryLemmas.{links_listed, once_filtered, once_set}
 use Rattle.heard_routing.proofs.LookLemmas.{heard_noted, heard_without_link, promised_promised, promised_without_link, promised_without_promises}
 use Rattle.aprs_history.specs.declared.verdicts.Verdict.TheVariants.{Accepted}
+use Rattle.aprs_history.specs.declared.verdicts.LinkKind.{LinkKind}
+use Rattle.aprs_history.specs.declared.verdicts.LinkKind.TheVariants.{Client, Uplink}
 use Rattle.aprs_history.specs.declared.verdicts.Admission.{Admission}
 use Rattle.aprs_history.specs.declared.verdicts.Admission.TheVariants.{Served}
-use Rattle.aprs_history.specs.Trace.{EndReason, Ended, Opened, Said, opened_link, Trace, is_live, is_member, is_other, live_links, moment_of}
-use Rattle.aprs_history.specs.Links.{opening_of}
-use Rattle.aprs_history.specs.Scenes.{has_filters, packet_of}
+use Rattle.aprs_history.specs.Trace.{Door, EndReason, Ended, Opened, Said, opened_link, Trace, is_from, is_live, is_member, is_other, live_links, moment_of}
+use Rattle.aprs_history.specs.Links.{Opening, has_filters, is_client, is_client_link, is_client_of, is_filter_of, opening_by, opening_of}
+use Rattle.aprs_history.specs.Scenes.{packet_of}
 use Rattle.aprs_history.specs.Messages.{has_heard, heard_of, is_message, is_owed, is_position, is_to_heard, promise_after, promise_of, promises}
 use Rattle.aprs_history.specs.History.{end_each}
 use Rattle.aprs_history.specs.Stands.{LinkSeen, Remembers}
-use Rattle.server_core.specs.LinkSteps.{call_in, filters_at, forgotten_all, hearers_of, may_promise, promised_all, promised_one, receiver_of, spent}
+use Rattle.server_core.specs.LinkSteps.{call_in, client_at, filters_at, forgotten_all, hearers_of, may_promise, noted_from, promised_all, promised_one, receiver_of, spent}
 use Rattle.server_core.proofs.MemberLemmas.{eqb_turned, member_filter, member_push}
 
 -- ---- promises of several links
@@ -38,7 +42,7 @@ more_promises true false true may' false x y is = rw (is refl) refl
 more_promises true true false may' same x y is = rw (is refl) refl
 more_promises true false false may' same x y is = rw (is refl) refl
 
-module _ (links : List LinkSeen) (from : ℕ) (sender : List ℕ) (now : ℕ) where
+module _ (links : List LinkSeen) (from : Source) (sender : List ℕ) (now : ℕ) where
   one_promised : (table : HeardSeen) (k l : ℕ) (s : List ℕ)
       → promised_at (promised_one links from sender now k table) l s ≡ cond (may_promise links from k && (l == k && is_text s sender)) (Some now) (promised_at table l s)
   one_promised table k l s = by (may_promise links from k)
@@ -99,45 +103,103 @@ gone_shape : (gone member : Bool) (told : Option ℕ) → cond (not gone) (if me
 gone_shape true member told = refl
 gone_shape false member told = refl
 
-pub remembers_opened : (table : HeardSeen) (t : Trace) (listener : ℕ) (kind : PortKind) (k : ℕ) (from : Addr) → is_live t k ≡ false → Remembers table t → Remembers table (Opened listener (Served kind) k from ∷ t)
-remembers_opened table t listener kind k from dead remembers = record {
+-- the same of what only clients are remembered for
+came_client : (member same client new : Bool) (told : Option ℕ) → (same ≡ true → member ≡ false)
+    → (if member && client then told else None) ≡ (if (member || same) && (if same then new else client) then (if same then None else told) else None)
+came_client true true client new told none = absurd (true≢false (none refl))
+came_client true false client new told none = refl
+came_client false true client true told none = refl
+came_client false true client false told none = refl
+came_client false false client new told none = refl
+
+missed_client : (member same client new : Bool) (told : Option ℕ) → (same ≡ true → member ≡ false)
+    → (if member && client then told else None) ≡ (if member && (if same then new else client) then (if same then None else told) else None)
+missed_client true true client new told none = absurd (true≢false (none refl))
+missed_client true false client new told none = refl
+missed_client false same client new told none = refl
+
+gone_client : (gone member client : Bool) (told : Option ℕ) → cond (not gone) (if member && client then told else None) None ≡ (if (not gone && member) && client then told else None)
+gone_client true member client told = refl
+gone_client false member client told = refl
+
+-- whether a link is a client, once one has come
+client_come : (same : Bool) (new old : Option Opening) → is_client_link (if same then new else old) ≡ (if same then is_client_link new else is_client_link old)
+client_come true new old = refl
+client_come false new old = refl
+
+pub remembers_opened : (table : HeardSeen) (t : Trace) (door : Door) (kind : LinkKind) (k : ℕ) (from : Addr) → is_live t k ≡ false → Remembers table t → Remembers table (Opened door (Served kind) k from ∷ t)
+remembers_opened table t door kind k from dead remembers = record {
   once_heard = remembers.once_heard;
   once_promised = remembers.once_promised;
-  heard = λ l call. remembers.heard l call ∙ came (heard_of t l call) l;
+  heard = λ l call. remembers.heard l call ∙ came_as (heard_of t l call) l;
   promised = λ l sender. remembers.promised l sender ∙ came (promise_of t l sender) l;
 }
   where
-    came : (told : Option ℕ) (l : ℕ) → (if is_live t l then told else None) ≡ (if is_member l (live_links t ++ k ∷ []) then (if l == k then None else told) else None)
-    came told l =
-        came_shape (is_live t l) (l == k) told (λ same. ap (is_live t) (eqb-true l k same) ∙ dead)
-        ∙ ap (λ b. if b then (if l == k then None else told) else None) (ap (λ b. is_live t l || b) (eqb_turned l k) ∙ sym (member_push l k (live_links t)))
+    new : Option Opening
+    new = opening_by (Served kind) from (moment_of t)
 
-pub remembers_unserved : (table : HeardSeen) (t : Trace) (listener : ℕ) (admission : Admission) (k : ℕ) (from : Addr) → opened_link admission k ≡ [] → is_live t k ≡ false → Remembers table t
-    → Remembers table (Opened listener admission k from ∷ t)
-remembers_unserved table t listener admission k from none dead remembers = record {
+    not_there : (l : ℕ) → (l == k) ≡ true → is_live t l ≡ false
+    not_there l same = ap (is_live t) (eqb-true l k same) ∙ dead
+
+    lives : (l : ℕ) → (is_live t l || l == k) ≡ is_member l (live_links t ++ k ∷ [])
+    lives l = ap (λ b. is_live t l || b) (eqb_turned l k) ∙ sym (member_push l k (live_links t))
+
+    came : (told : Option ℕ) (l : ℕ) → (if is_live t l then told else None) ≡ (if is_member l (live_links t ++ k ∷ []) then (if l == k then None else told) else None)
+    came told l = came_shape (is_live t l) (l == k) told (not_there l) ∙ ap (λ b. if b then (if l == k then None else told) else None) (lives l)
+
+    came_as : (told : Option ℕ) (l : ℕ)
+        → (if is_client t l then told else None) ≡ (if is_member l (live_links t ++ k ∷ []) && is_client_link (if l == k then new else opening_of t l) then (if l == k then None else told) else None)
+    came_as told l =
+        came_client (is_live t l) (l == k) (is_client_link (opening_of t l)) (is_client_link new) told (not_there l)
+        ∙ ap (λ b. if b && (if l == k then is_client_link new else is_client_link (opening_of t l)) then (if l == k then None else told) else None) (lives l)
+        ∙ ap (λ b. if is_member l (live_links t ++ k ∷ []) && b then (if l == k then None else told) else None) (sym (client_come (l == k) new (opening_of t l)))
+
+pub remembers_unserved : (table : HeardSeen) (t : Trace) (door : Door) (admission : Admission) (k : ℕ) (from : Addr) → opened_link admission k ≡ [] → is_live t k ≡ false → Remembers table t
+    → Remembers table (Opened door admission k from ∷ t)
+remembers_unserved table t door admission k from none dead remembers = record {
   once_heard = remembers.once_heard;
   once_promised = remembers.once_promised;
-  heard = λ l call. remembers.heard l call ∙ missed (heard_of t l call) l;
+  heard = λ l call. remembers.heard l call ∙ missed_as (heard_of t l call) l;
   promised = λ l sender. remembers.promised l sender ∙ missed (promise_of t l sender) l;
 }
   where
+    new : Option Opening
+    new = opening_by admission from (moment_of t)
+
+    not_there : (l : ℕ) → (l == k) ≡ true → is_live t l ≡ false
+    not_there l same = ap (is_live t) (eqb-true l k same) ∙ dead
+
+    lives : (l : ℕ) → is_live t l ≡ is_member l (live_links t ++ opened_link admission k)
+    lives l = ap (is_member l) (sym (ap (λ new. live_links t ++ new) none ∙ append-nil (live_links t)))
+
     missed : (told : Option ℕ) (l : ℕ) → (if is_live t l then told else None) ≡ (if is_member l (live_links t ++ opened_link admission k) then (if l == k then None else told) else None)
-    missed told l =
-        missed_shape (is_live t l) (l == k) told (λ same. ap (is_live t) (eqb-true l k same) ∙ dead)
-        ∙ ap (λ ks. if is_member l ks then (if l == k then None else told) else None) (sym (ap (λ new. live_links t ++ new) none ∙ append-nil (live_links t)))
+    missed told l = missed_shape (is_live t l) (l == k) told (not_there l) ∙ ap (λ b. if b then (if l == k then None else told) else None) (lives l)
+
+    missed_as : (told : Option ℕ) (l : ℕ)
+        → (if is_client t l then told else None)
+        ≡ (if is_member l (live_links t ++ opened_link admission k) && is_client_link (if l == k then new else opening_of t l) then (if l == k then None else told) else None)
+    missed_as told l =
+        missed_client (is_live t l) (l == k) (is_client_link (opening_of t l)) (is_client_link new) told (not_there l)
+        ∙ ap (λ b. if b && (if l == k then is_client_link new else is_client_link (opening_of t l)) then (if l == k then None else told) else None) (lives l)
+        ∙ ap (λ b. if is_member l (live_links t ++ opened_link admission k) && b then (if l == k then None else told) else None) (sym (client_come (l == k) new (opening_of t l)))
 
 pub remembers_ended : (table : HeardSeen) (t : Trace) (k : ℕ) (reason : EndReason) → Remembers table t → Remembers (without_link k table) (Ended k reason ∷ t)
 remembers_ended table t k reason remembers = record {
   once_heard = once_filtered (is_of_another_link k) table.heard (without_link k table).heard refl remembers.once_heard;
   once_promised = once_filtered (is_of_another_link k) table.promises (without_link k table).promises refl remembers.once_promised;
-  heard = λ l call. heard_without_link table k l call ∙ ap (λ told. cond (not (k == l)) told None) (remembers.heard l call) ∙ gone (heard_of t l call) l;
+  heard = λ l call. heard_without_link table k l call ∙ ap (λ told. cond (not (k == l)) told None) (remembers.heard l call) ∙ gone_as (heard_of t l call) l;
   promised = λ l sender. promised_without_link table k l sender ∙ ap (λ told. cond (not (k == l)) told None) (remembers.promised l sender) ∙ gone (promise_of t l sender) l;
 }
   where
+    left : (l : ℕ) → (not (k == l) && is_live t l) ≡ is_member l (filter (is_other k) (live_links t))
+    left l = ap (λ b. not b && is_live t l) (eqb_turned k l) ∙ sym (member_filter (is_other k) (live_links t) l)
+
     gone : (told : Option ℕ) (l : ℕ) → cond (not (k == l)) (if is_live t l then told else None) None ≡ (if is_member l (filter (is_other k) (live_links t)) then told else None)
-    gone told l =
-        gone_shape (k == l) (is_live t l) told
-        ∙ ap (λ b. if b then told else None) (ap (λ b. not b && is_live t l) (eqb_turned k l) ∙ sym (member_filter (is_other k) (live_links t) l))
+    gone told l = gone_shape (k == l) (is_live t l) told ∙ ap (λ b. if b then told else None) (left l)
+
+    gone_as : (told : Option ℕ) (l : ℕ)
+        → cond (not (k == l)) (if is_client t l then told else None) None ≡ (if is_member l (filter (is_other k) (live_links t)) && is_client_link (opening_of t l) then told else None)
+    gone_as told l = gone_client (k == l) (is_live t l) (is_client_link (opening_of t l)) told ∙ ap (λ b. if b && is_client_link (opening_of t l) then told else None) (left l)
 
 pub remembers_all_ended : (reason : ℕ → EndReason) (ks : List ℕ) (table : HeardSeen) (t : Trace) → Remembers table t → Remembers (forgotten_all ks table) (end_each reason ks t)
 remembers_all_ended reason [] table t remembers = remembers
@@ -149,7 +211,7 @@ pub remembers_no_end : (table : HeardSeen) (t : Trace) (k : ℕ) → is_live t k
 remembers_no_end table t k dead remembers = record {
   once_heard = once_filtered (is_of_another_link k) table.heard (without_link k table).heard refl remembers.once_heard;
   once_promised = once_filtered (is_of_another_link k) table.promises (without_link k table).promises refl remembers.once_promised;
-  heard = λ l call. heard_without_link table k l call ∙ ap (λ told. cond (not (k == l)) told None) (remembers.heard l call) ∙ nowhere (heard_of t l call) l;
+  heard = λ l call. heard_without_link table k l call ∙ ap (λ told. cond (not (k == l)) told None) (remembers.heard l call) ∙ nowhere_as (heard_of t l call) l;
   promised = λ l sender. promised_without_link table k l sender ∙ ap (λ told. cond (not (k == l)) told None) (remembers.promised l sender) ∙ nowhere (promise_of t l sender) l;
 }
   where
@@ -159,6 +221,9 @@ remembers_no_end table t k dead remembers = record {
 
     nowhere : (told : Option ℕ) (l : ℕ) → cond (not (k == l)) (if is_live t l then told else None) None ≡ (if is_live t l then told else None)
     nowhere told l = nowhere_shape (k == l) (is_live t l) told (λ same. ap (is_live t) (sym (eqb-true k l same)) ∙ dead)
+
+    nowhere_as : (told : Option ℕ) (l : ℕ) → cond (not (k == l)) (if is_client t l then told else None) None ≡ (if is_client t l then told else None)
+    nowhere_as told l = nowhere_shape (k == l) (is_client t l) told (λ same. ap (λ b. b && is_client_link (opening_of t l)) (ap (is_live t) (sym (eqb-true k l same)) ∙ dead))
 
 -- ---- a packet is accepted
 
@@ -194,6 +259,27 @@ promise_shape hears other filters false position now told = unchanged hears (oth
     unchanged true false p = kept p
     unchanged false m p = kept p
 
+-- a link whose port has no filters is promised nothing
+unpromised_shape : (hears other same position heard : Bool) (now : ℕ) (told : Option ℕ)
+    → cond (hears && ((other && false) && same)) (Some now) (if position then cond (not same) told None else told)
+    ≡ (if same then promise_after (other && true && false && heard) position now told else told)
+unpromised_shape true true true true heard now told = refl
+unpromised_shape true true true false heard now told = refl
+unpromised_shape true true false true heard now told = refl
+unpromised_shape true true false false heard now told = refl
+unpromised_shape true false true true heard now told = refl
+unpromised_shape true false true false heard now told = refl
+unpromised_shape true false false true heard now told = refl
+unpromised_shape true false false false heard now told = refl
+unpromised_shape false true true true heard now told = refl
+unpromised_shape false true true false heard now told = refl
+unpromised_shape false true false true heard now told = refl
+unpromised_shape false true false false heard now told = refl
+unpromised_shape false false true true heard now told = refl
+unpromised_shape false false true false heard now told = refl
+unpromised_shape false false false true heard now told = refl
+unpromised_shape false false false false heard now told = refl
+
 unlived_shape : (hears other same position : Bool) (now : ℕ) (none : Option ℕ)
     → cond (hears && ((other && false) && same)) (Some now) (if position then cond (not same) none None else none) ≡ (if position then cond (not same) none None else none)
 unlived_shape true true same position now none = refl
@@ -206,14 +292,14 @@ nothing_left false true none is = is
 nothing_left same false none is = is
 
 module _ (table : HeardSeen) (t : Trace) (remembers : Remembers table t) (packet : PacketSeen) where
-  -- the links that heard the receiver are those that the trace says
-  pub hearers_are : (l : ℕ) → is_live t l ≡ true → is_among l (hearers_of (moment_of t) table (receiver_of packet)) ≡ is_to_heard t packet l
-  hearers_are l live = by (is_message packet) packet.body.to
+  -- the clients that heard the receiver are those that the trace says
+  pub hearers_are : (l : ℕ) → is_client t l ≡ true → is_among l (hearers_of (moment_of t) table (receiver_of packet)) ≡ is_to_heard t packet l
+  hearers_are l client = by (is_message packet) packet.body.to
     where
       heard_there : (to : List ℕ) → is_among l (receivers table to (moment_of t)) ≡ is_some_and (is_recent heard_age (moment_of t)) (heard_of t l to)
       heard_there to =
           (links_listed heard_age (moment_of t) to table.heard remembers.once_heard).exactly l
-          ∙ ap (is_some_and (is_recent heard_age (moment_of t))) (remembers.heard l to ∙ ap (λ b. if b then heard_of t l to else None) live)
+          ∙ ap (is_some_and (is_recent heard_age (moment_of t))) (remembers.heard l to ∙ ap (λ b. if b then heard_of t l to else None) client)
 
       by_call : (to : List ℕ) (call : Bool) → is_among l (hearers_of (moment_of t) table (if call then Some to else None)) ≡ call && is_some_and (is_recent heard_age (moment_of t)) (heard_of t l to)
       by_call to true = heard_there to
@@ -259,55 +345,138 @@ module _ (table : HeardSeen) (t : Trace) (remembers : Remembers table t) (packet
       by true = once_filtered (is_of_another_call packet.parts.source) table.promises (without_promises packet.parts.source table).promises refl remembers.once_promised
       by false = remembers.once_promised
 
+-- a packet of a link that isn't a client is heard by nobody
+unnoted_shape : (client from same : Bool) (now : ℕ) (told : Option ℕ) → (from ≡ true → client ≡ false)
+    → (if client then told else None) ≡ (if client then (if from && same then Some now else told) else None)
+unnoted_shape true true same now told none = absurd (true≢false (none refl))
+unnoted_shape true false same now told none = refl
+unnoted_shape false from same now told none = refl
+
+-- what becomes of what was heard, where the packet came from there
+module _ (table : HeardSeen) (t : Trace) (heard : (link : ℕ) (call : List ℕ) → heard_at table link call ≡ (if is_client t link then heard_of t link call else None)) (links : List LinkSeen) (call : List ℕ) where
+  abbrev NotedSo : Source → Type 0
+  NotedSo from = (l : ℕ) (c : List ℕ) → heard_at (noted_from links from call (moment_of t) table) l c ≡ (if is_client t l then (if is_from l from && is_text c call then Some (moment_of t) else heard_of t l c) else None)
+
+  noted_at : (k : ℕ) (b : Bool) → client_at k links ≡ b → is_client t k ≡ b → (l : ℕ) (c : List ℕ)
+      → heard_at (if b then noted k call (moment_of t) table else table) l c ≡ (if is_client t l then (if l == k && is_text c call then Some (moment_of t) else heard_of t l c) else None)
+  noted_at k true at is l c =
+      heard_noted table k l call c (moment_of t)
+      ∙ ap (cond (l == k && is_text c call) (Some (moment_of t))) (heard l c)
+      ∙ noted_shape (is_client t l) (l == k) (is_text c call) (moment_of t) (heard_of t l c) (λ same. ap (is_client t) (eqb-true l k same) ∙ is)
+  noted_at k false at is l c =
+      heard l c ∙ unnoted_shape (is_client t l) (l == k) (is_text c call) (moment_of t) (heard_of t l c) (λ same. ap (is_client t) (eqb-true l k same) ∙ is)
+
+  noted_as : (k : ℕ) → client_at k links ≡ is_client t k → NotedSo (source.Link k)
+  noted_as k same l c = ap (λ b. heard_at (if b then noted k call (moment_of t) table else table) l c) same ∙ noted_at k (is_client t k) same refl l c
+
+  noted_elsewhere : (from : Source) → noted_from links from call (moment_of t) table ≡ table → ((l : ℕ) → is_from l from ≡ false) → NotedSo from
+  noted_elsewhere from none other l c =
+      ap (λ entries. heard_at entries l c) none ∙ heard l c
+      ∙ ap (λ told. if is_client t l then told else None) (sym (ap (λ b. if b && is_text c call then Some (moment_of t) else heard_of t l c) (other l)))
+
+-- whose packet it is: that of a link that lives, or of a datagram
+abbrev pub Speaks : Trace → List LinkSeen → Source → Type 0
+Speaks t links (source.Link k) = (is_live t k ≡ true) × (client_at k links ≡ is_client t k)
+Speaks t links (source.Submit listener) = ⊤
+Speaks t links (source.Peer peer) = ⊤
+
+noted_so : (table : HeardSeen) (t : Trace) (heard : (link : ℕ) (call : List ℕ) → heard_at table link call ≡ (if is_client t link then heard_of t link call else None))
+    (links : List LinkSeen) (call : List ℕ) (from : Source) → Speaks t links from → NotedSo table t heard links call from
+noted_so table t heard links call (source.Link k) speaks = noted_as table t heard links call k speaks.1
+noted_so table t heard links call (source.Submit listener) speaks = noted_elsewhere table t heard links call (source.Submit listener) refl (λ l. refl)
+noted_so table t heard links call (source.Peer peer) speaks = noted_elsewhere table t heard links call (source.Peer peer) refl (λ l. refl)
+
+noted_once : (table : HeardSeen) (links : List LinkSeen) (call : List ℕ) (now : ℕ) (from : Source) → HasEachOnce table.heard → HasEachOnce (noted_from links from call now table).heard
+noted_once table links call now (source.Link k) once = by (client_at k links)
+  where
+    by : (b : Bool) → HasEachOnce (if b then noted k call now table else table).heard
+    by true = once_set (k, call) now table.heard (noted k call now table).heard refl once
+    by false = once
+noted_once table links call now (source.Submit listener) once = once
+noted_once table links call now (source.Peer peer) once = once
+
+noted_promises : (table : HeardSeen) (links : List LinkSeen) (call : List ℕ) (now : ℕ) (from : Source) → (noted_from links from call now table).promises ≡ table.promises
+noted_promises table links call now (source.Link k) = by (client_at k links)
+  where
+    by : (b : Bool) → (if b then noted k call now table else table).promises ≡ table.promises
+    by true = refl
+    by false = refl
+noted_promises table links call now (source.Submit listener) = refl
+noted_promises table links call now (source.Peer peer) = refl
+
 module _ (table : HeardSeen) (t : Trace) (remembers : Remembers table t) (links : List LinkSeen)
-    (k : ℕ) (cut : Cut) (parts : Parts) (line : List ℕ) (speaks : is_live t k ≡ true)
+    (from : Source) (cut : Cut) (parts : Parts) (line : List ℕ) (speaks : Speaks t links from)
     (filters : (l : ℕ) → is_live t l ≡ true → filters_at l links ≡ has_filters (opening_of t l)) (nowhere : (l : ℕ) → is_live t l ≡ false → filters_at l links ≡ false) where
   abbrev packet : PacketSeen
-  packet = packet_of k (moment_of t) parts line
+  packet = packet_of from (moment_of t) parts line
 
   abbrev hearers : List ℕ
   hearers = hearers_of (moment_of t) table (receiver_of packet)
 
-  abbrev after : HeardSeen
-  after = noted k parts.source (moment_of t) (promised_all links k parts.source (moment_of t) hearers (spent packet table))
+  abbrev promised_now : HeardSeen
+  promised_now = promised_all links from parts.source (moment_of t) hearers (spent packet table)
 
-  heard_then : (l : ℕ) (call : List ℕ) → heard_at after l call ≡ (if is_live t l then (if l == k && is_text call parts.source then Some (moment_of t) else heard_of t l call) else None)
-  heard_then l call =
-      heard_noted (promised_all links k parts.source (moment_of t) hearers (spent packet table)) k l parts.source call (moment_of t)
-      ∙ ap (λ entries. cond (l == k && is_text call parts.source) (Some (moment_of t)) (heard_at (record table { heard = entries }) l call))
-      (all_heard links k parts.source (moment_of t) hearers (spent packet table) ∙ spent_heard table t remembers packet)
-      ∙ ap (cond (l == k && is_text call parts.source) (Some (moment_of t))) (remembers.heard l call)
-      ∙ noted_shape (is_live t l) (l == k) (is_text call parts.source) (moment_of t) (heard_of t l call) (λ same. ap (is_live t) (eqb-true l k same) ∙ speaks)
+  abbrev after : HeardSeen
+  after = noted_from links from parts.source (moment_of t) promised_now
+
+  same_heard : promised_now.heard ≡ table.heard
+  same_heard = all_heard links from parts.source (moment_of t) hearers (spent packet table) ∙ spent_heard table t remembers packet
+
+  heard_then : (l : ℕ) (call : List ℕ) → heard_at after l call ≡ (if is_client t l then (if is_from l from && is_text call parts.source then Some (moment_of t) else heard_of t l call) else None)
+  heard_then = noted_so promised_now t (λ l call. ap (λ entries. heard_at (record table { heard = entries }) l call) same_heard ∙ remembers.heard l call) links parts.source from speaks
+
+  promised_before : (l : ℕ) (s : List ℕ) → promised_at after l s ≡ promised_at promised_now l s
+  promised_before l s = ap (λ entries. promised_at (record table { promises = entries }) l s) (noted_promises promised_now links parts.source (moment_of t) from)
 
   promised_then : (l : ℕ) (s : List ℕ) (live : Bool) → is_live t l ≡ live
-      → promised_at after l s
-      ≡ (if live then (if is_text s parts.source then promise_after (promises t k packet l) (is_position packet) (moment_of t) (promise_of t l s) else promise_of t l s) else None)
+      → promised_at promised_now l s
+      ≡ (if live then (if is_text s parts.source then promise_after (promises t packet l) (is_position packet) (moment_of t) (promise_of t l s) else promise_of t l s) else None)
   promised_then l s true is =
-      all_promised links k parts.source (moment_of t) hearers (spent packet table) l s
-      ∙ ap (cond (is_among l hearers && (may_promise links k l && is_text s parts.source)) (Some (moment_of t)))
+      all_promised links from parts.source (moment_of t) hearers (spent packet table) l s
+      ∙ ap (cond (is_among l hearers && (may_promise links from l && is_text s parts.source)) (Some (moment_of t)))
       (spent_at table t remembers packet l s
       ∙ ap (λ told. if is_position packet then cond (not (is_text s parts.source)) told None else told) (remembers.promised l s ∙ ap (λ b. if b then promise_of t l s else None) is))
-      ∙ ap (λ b. cond (b && (may_promise links k l && is_text s parts.source)) (Some (moment_of t)) (if is_position packet then cond (not (is_text s parts.source)) (promise_of t l s) None else promise_of t l s))
-      (hearers_are table t remembers packet l is)
-      ∙ ap (λ b. cond (is_to_heard t packet l && ((not (k == l) && b) && is_text s parts.source)) (Some (moment_of t)) (if is_position packet then cond (not (is_text s parts.source)) (promise_of t l s) None else promise_of t l s))
+      ∙ ap (λ b. cond (is_among l hearers && ((not (is_from l from) && b) && is_text s parts.source)) (Some (moment_of t)) (if is_position packet then cond (not (is_text s parts.source)) (promise_of t l s) None else promise_of t l s))
       (filters l is)
-      ∙ promise_shape (is_to_heard t packet l) (not (k == l)) (has_filters (opening_of t l)) (is_text s parts.source) (is_position packet) (moment_of t) (promise_of t l s)
-      ∙ ap (λ b. if is_text s parts.source then promise_after (not (k == l) && b && has_filters (opening_of t l) && is_to_heard t packet l) (is_position packet) (moment_of t) (promise_of t l s) else promise_of t l s) (sym is)
+      ∙ by_filters (has_filters (opening_of t l)) (client_with_filters (opening_of t l))
+      ∙ ap (λ b. if is_text s parts.source then promise_after (not (is_from l from) && b && has_filters (opening_of t l) && is_to_heard t packet l) (is_position packet) (moment_of t) (promise_of t l s) else promise_of t l s) (sym is)
+    where
+      left : Option ℕ
+      left = if is_position packet then cond (not (is_text s parts.source)) (promise_of t l s) None else promise_of t l s
+
+      -- only clients have filters
+      client_with_filters : (opening : Option Opening) → has_filters opening ≡ true → is_client_link opening ≡ true
+      client_with_filters None has = absurd (true≢false (sym has))
+      client_with_filters (Some opening) has = by_kind opening.kind refl
+        where
+          by_kind : (kind : LinkKind) → opening.kind ≡ kind → is_client_of opening.kind ≡ true
+          by_kind (Client port) is_kind = ap is_client_of is_kind
+          by_kind (Uplink uplink) is_kind = absurd (true≢false (sym (ap is_filter_of (sym is_kind) ∙ has)))
+
+      by_filters : (b : Bool) → (b ≡ true → is_client_link (opening_of t l) ≡ true)
+          → cond (is_among l hearers && ((not (is_from l from) && b) && is_text s parts.source)) (Some (moment_of t)) left
+          ≡ (if is_text s parts.source then promise_after (not (is_from l from) && true && b && is_to_heard t packet l) (is_position packet) (moment_of t) (promise_of t l s) else promise_of t l s)
+      by_filters true client =
+          let is_one : is_client t l ≡ true = ap (λ b. b && is_client_link (opening_of t l)) is ∙ client refl in
+          ap (λ b. cond (b && ((not (is_from l from) && true) && is_text s parts.source)) (Some (moment_of t)) left) (hearers_are table t remembers packet l is_one)
+          ∙ promise_shape (is_to_heard t packet l) (not (is_from l from)) true (is_text s parts.source) (is_position packet) (moment_of t) (promise_of t l s)
+      by_filters false client =
+          unpromised_shape (is_among l hearers) (not (is_from l from)) (is_text s parts.source) (is_position packet) (is_to_heard t packet l) (moment_of t) (promise_of t l s)
   promised_then l s false is =
-      all_promised links k parts.source (moment_of t) hearers (spent packet table) l s
-      ∙ ap (cond (is_among l hearers && (may_promise links k l && is_text s parts.source)) (Some (moment_of t)))
+      all_promised links from parts.source (moment_of t) hearers (spent packet table) l s
+      ∙ ap (cond (is_among l hearers && (may_promise links from l && is_text s parts.source)) (Some (moment_of t)))
       (spent_at table t remembers packet l s
       ∙ ap (λ told. if is_position packet then cond (not (is_text s parts.source)) told None else told) (remembers.promised l s ∙ ap (λ b. if b then promise_of t l s else None) is))
-      ∙ ap (λ b. cond (is_among l hearers && ((not (k == l) && b) && is_text s parts.source)) (Some (moment_of t)) (if is_position packet then cond (not (is_text s parts.source)) None None else None))
+      ∙ ap (λ b. cond (is_among l hearers && ((not (is_from l from) && b) && is_text s parts.source)) (Some (moment_of t)) (if is_position packet then cond (not (is_text s parts.source)) None None else None))
       (nowhere l is)
-      ∙ unlived_shape (is_among l hearers) (not (k == l)) (is_text s parts.source) (is_position packet) (moment_of t) None
+      ∙ unlived_shape (is_among l hearers) (not (is_from l from)) (is_text s parts.source) (is_position packet) (moment_of t) None
       ∙ nothing_left (is_text s parts.source) (is_position packet) None refl
 
-  pub remembers_accepted : Remembers after (Said k cut (Accepted parts line) ∷ t)
+  pub remembers_accepted : Remembers after (Said from cut (Accepted parts line) ∷ t)
   remembers_accepted = record {
-    once_heard = once_set (k, parts.source) (moment_of t) table.heard after.heard
-        (ap (λ entries. (noted k parts.source (moment_of t) (record table { heard = entries })).heard) (all_heard links k parts.source (moment_of t) hearers (spent packet table) ∙ spent_heard table t remembers packet)) remembers.once_heard;
-    once_promised = all_once links k parts.source (moment_of t) hearers (spent packet table) (spent_once table t remembers packet);
+    once_heard = noted_once promised_now links parts.source (moment_of t) from (subst (λ entries. HasEachOnce entries) (sym same_heard) remembers.once_heard);
+    once_promised = subst (λ entries. HasEachOnce entries) (sym (noted_promises promised_now links parts.source (moment_of t) from))
+        (all_once links from parts.source (moment_of t) hearers (spent packet table) (spent_once table t remembers packet));
     heard = heard_then;
-    promised = λ l s. promised_then l s (is_live t l) refl;
+    promised = λ l s. promised_before l s ∙ promised_then l s (is_live t l) refl;
   }

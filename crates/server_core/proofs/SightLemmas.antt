@@ -3,6 +3,7 @@ use Rattle.std.proofs.Common.{◌≡◌, ℕ, ◌-◌, ◌≤◌, ◌<◌, Bool,
 use Rattle.std.specs.List.{zip}
 use Rattle.std.specs.Option.{option_and_then}
 use Rattle.std.proofs.lemmas.Bool.{cases_Bool, ltb-true, ltb-false, false_from_ne_true, lt-ltb}
+use Rattle.aprs_base.specs.declared.packets.Source.{Source}
 use Rattle.aprs_base.specs.PacketSeen.{PacketSeen}
 use Rattle.filter_lang.specs.Terms.{TermSeen}
 use Rattle.aprs_base.specs.declared.packets.Place.{Place}
@@ -17,7 +18,7 @@ use Rattle.aprs_history.specs.declared.verdicts.FilterAnswer.TheVariants.{Active
 use Rattle.aprs_history.specs.declared.verdicts.Session.{Session}
 use Rattle.aprs_history.specs.Sights.{friend_in, is_gate_at, login_in, named_call, sighting}
 use Rattle.aprs_history.specs.Stands.{LinkSeen, CoreSeen}
-use Rattle.server_core.specs.LinkSteps.{found_in, friend_seen, login_seen, place_young, source_found, with_answer, with_filter, with_seen}
+use Rattle.server_core.specs.LinkSteps.{found_in, friend_seen, login_seen, place_young, source_found, submitted_from, with_answer, with_filter, with_seen}
 
 pub map_same : {X Y : Type 0} (f g : X → Y) → ((x : X) → f x ≡ g x) → (xs : List X) → map f xs ≡ map g xs
 map_same f g same [] = refl
@@ -151,11 +152,13 @@ module _ (core : CoreSeen) (accepted : List PacketSeen) (now : ℕ) (moment : co
   pub friends_found : (term : TermSeen) → found_in core.moment core.stations term ≡ friend_in accepted now term
   friends_found term = friend_found (named_call term.what)
 
-  pub source_known : (call : List ℕ) → source_found core call ≡ record { place = sighting accepted now call; gate = is_gate_at accepted now call }
-  source_known call =
-      ap (λ (place : Option Seen). record { place = place; gate = is_some_and (is_young core.moment) (gate_at core.stations call) }) (sighting_found call)
-      ∙ ap (λ (m : ℕ). record { place = sighting accepted now call; gate = is_some_and (is_young m) (gate_at core.stations call) }) moment
-      ∙ ap (λ (gate : Option ℕ). record { place = sighting accepted now call; gate = is_some_and (is_young now) gate }) (agrees.gate call)
+  pub source_known : (from : Source) (call : List ℕ)
+      → source_found core from call ≡ record { place = sighting accepted now call; gate = is_gate_at accepted now call; submitted = submitted_from from core.links }
+  source_known from call =
+      let submitted = submitted_from from core.links in
+      ap (λ (place : Option Seen). record { place = place; gate = is_some_and (is_young core.moment) (gate_at core.stations call); submitted = submitted }) (sighting_found call)
+      ∙ ap (λ (m : ℕ). record { place = sighting accepted now call; gate = is_some_and (is_young m) (gate_at core.stations call); submitted = submitted }) moment
+      ∙ ap (λ (gate : Option ℕ). record { place = sighting accepted now call; gate = is_some_and (is_young now) gate; submitted = submitted }) (agrees.gate call)
 
 -- answers by two ways of finding that find the same
 pub answer_same : (f g : TermSeen → Option Seen) → ((term : TermSeen) → f term ≡ g term) → (answer : FilterAnswer) (link : LinkSeen)
