@@ -6,7 +6,8 @@ use Rattle.std.proofs.lemmas.Bool.{le-leb}
 use Rattle.std.proofs.lemmas.List.Folds.{list_all-append}
 use Rattle.std.specs.Fmt.{decimal}
 use Rattle.aprs_base.proofs.CallLemmas.{call_inner, call_short, each_weaker}
-use Rattle.filter_lang.proofs.NumberLaws.{decimal_is, decimal_short}
+use Rattle.filter_lang.proofs.NumberLaws.{decimal_is, decimal_short, digits_all}
+use Rattle.std.proofs.lemmas.Fmt.{decimal_is_IsNumeral, length-decimal-le}
 use Rattle.filter_lang.specs.Grammar.{terms_of}
 use Rattle.filter_lang.specs.Terms.{TermSeen}
 use Rattle.filter_lang.specs.declared.errors.FilterError.{FilterError}
@@ -81,13 +82,12 @@ term_words n small =
     (rw list_all-append (rw (each_weaker is_digit is_inner no_line_end (decimal n) digits.digits) refl), omega (arith, length-append (codes "term ") (decimal n), short))
 
 -- the line by which the server logs in is one
-pub code_digits : (n : ℕ) → n < 100000 → (IsInner (decimal n)) × (length (decimal n) ≤ 5)
+pub code_digits : (n : ℕ) → n < 2 ^ 32 → (IsInner (decimal n)) × (length (decimal n) ≤ 10)
 code_digits n small =
-    let short : length (decimal n) ≤ 5 = decimal_short n 5 (omega arith) (omega arith) (omega arith) in
-    let digits = decimal_is n (omega arith) in
-    (each_weaker is_digit is_inner no_line_end (decimal n) digits.digits, short)
+    let digits = decimal_is_IsNumeral n (omega arith) in
+    (each_weaker is_digit is_inner no_line_end (decimal n) (digits_all (decimal n) digits.0.1), length-decimal-le 10 n (omega arith) (omega arith) (omega arith))
 
-pub login_is_line : (server digits : List ℕ) → IsCall server → IsInner digits → length digits ≤ 5 → IsLine (login_by server digits)
+pub login_is_line : (server digits : List ℕ) → IsCall server → IsInner digits → length digits ≤ 10 → IsLine (login_by server digits)
 login_is_line server digits h inner_digits short =
     let last = digits ++ codes " vers aprsc 1.0" in
     let last_inner : IsInner last = rw list_all-append (rw inner_digits refl) in

@@ -1,5 +1,5 @@
 //! What the server answers.
-ghost use Rattle.std.specs.Prelude.{◌≡◌, ◌++◌, ◌+◌, ◌≤◌, ◌<◌, IfOk, Ok, codes, length};
+ghost use Rattle.std.specs.Prelude.{◌≡◌, ◌++◌, ◌+◌, ◌≤◌, IfOk, Ok, codes, length};
 ghost use Rattle.aprs_base.specs.Bytes.{IsInner, IsLine};
 ghost use Rattle.aprs_history.specs.Dates.{comment_text};
 ghost use Rattle.aprs_history.specs.Verdicts.{active_reply};
@@ -37,7 +37,6 @@ pub fn banner_line() -> Line
 
 /// The line by which the server logs in at an uplink.
 pub fn uplink_line(alloc: Global, server: &Call, code: u32) -> Result<Line, Memory>
-    requires { code < 100000 }
     ensures { IfOk result (λ line. line ≡ login_with server.now code) }
 {
     let digits = code.to_string(alloc)?;
@@ -45,7 +44,7 @@ pub fn uplink_line(alloc: Global, server: &Call, code: u32) -> Result<Line, Memo
 }
 
 fn login_by(server: &Call, digits: &[u8]) -> Line
-    requires { IsInner digits.now × (length digits.now ≤ 5) }
+    requires { IsInner digits.now × (length digits.now ≤ 10) }
     ensures { result ≡ login_by server.now digits.now }
 {
     let mut text = ArrayVec::new();

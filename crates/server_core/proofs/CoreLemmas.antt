@@ -1,34 +1,47 @@
 -- The steps of the core, and the trace that it follows.
-use Rattle.std.proofs.Common.{◌≡◌, ℕ, ◌<◌, ◌==◌, ◌/◌, nat_lt, length, if◌then◌else◌, ◌∷◌, ◌++◌, [], List, map, filter, refl, sym, ap, ◌∙◌, subst, Bool, true, false, Some, None, max, min, append-nil, arith, ⊎_elim, ◌||◌, not, cond, ◌^◌, IfOk, Result, Ok, Err, Vec, Global}
+use Rattle.std.proofs.Common.{◌≡◌, ℕ, ◌<◌, ◌==◌, ◌/◌, nat_lt, length, if◌then◌else◌, ◌∷◌, ◌++◌, [], List, map, filter, refl, sym, ap, ◌∙◌, subst, Bool, true, false, Option, Some, None, max, min, append-nil, arith, ⊎_elim, ◌||◌, not, cond, ◌^◌, IfOk, Result, Ok, Err, Vec, Global}
 use Rattle.std.specs.List.{flat_map}
 use Rattle.std.proofs.lemmas.Bool.{true≢false, cases_Bool}
 use Rattle.std.proofs.lemmas.List.{length-map}
 use Rattle.aprs_base.specs.Held.{held_after}
 use Rattle.aprs_base.specs.declared.texts.Addr.{Addr}
 use Rattle.aprs_base.specs.declared.cutting.Cut.{Cut}
-use Rattle.aprs_base.specs.declared.packets.PortKind.{PortKind}
+use Rattle.aprs_base.specs.declared.packets.PortKind.TheVariants as port
+use Rattle.aprs_base.specs.declared.packets.Source.{Source}
+use Rattle.aprs_base.specs.declared.packets.Source.TheVariants as source
+use Rattle.q_construct.specs.declared.origins.Origin.{Origin}
+use Rattle.uplinks_peers.specs.declared.uplinks.UpEvent.TheVariants as up
+use Rattle.uplinks_peers.specs.Uplinks.{acts_at, uplinks_after}
+use Rattle.aprs_history.specs.Dials.{uplinks_of}
+use Rattle.aprs_history.specs.declared.verdicts.LinkKind.{LinkKind}
+use Rattle.aprs_history.specs.declared.verdicts.LinkKind.TheVariants.{Uplink}
+use Rattle.aprs_history.specs.declared.verdicts.Refusal.{Refusal}
+use Rattle.aprs_history.specs.declared.verdicts.Refusal.TheVariants as refusal
+use Rattle.aprs_history.specs.declared.verdicts.FilterAnswer.{FilterAnswer}
+use Rattle.aprs_history.specs.declared.verdicts.Session.{Session}
 use Rattle.aprs_history.specs.declared.verdicts.Verdict.{Verdict}
 use Rattle.aprs_history.specs.declared.verdicts.Verdict.TheVariants.{PassedOver, Refused, LoggedIn, Filtered, Accepted}
 use Rattle.aprs_history.specs.Setting.{Setting, kind_at}
-use Rattle.aprs_history.specs.Scenes.{has_filters, is_only, others_of, scene_of, verified_login}
-use Rattle.aprs_history.specs.Verdicts.{verdict_of}
+use Rattle.aprs_history.specs.Scenes.{datagram_scene, logins_of, others_of, scene_of, speaker_of, verified_login}
+use Rattle.aprs_history.specs.Verdicts.{Visitor, verdict_of}
 use Rattle.aprs_history.specs.declared.verdicts.Admission.{Admission}
-use Rattle.aprs_history.specs.declared.verdicts.Admission.TheVariants.{NoPort, Served, TurnedAway}
-use Rattle.aprs_history.specs.Trace.{Trace, Dated, FoundGone, RoundBegan, Ticked, Opened, Brought, Said, Roomed, Ended, ByPeer, is_live, is_member, is_other, live_links, moment_of, placed_all, stopped_links, last_moment}
-use Rattle.aprs_history.specs.Links.{session_of, opening_of, brought_by, gone_links, late_links, late_reason}
+use Rattle.aprs_history.specs.declared.verdicts.Admission.TheVariants.{NoPort, NotAsked, Served, TurnedAway}
+use Rattle.aprs_history.specs.Trace.{Trace, AtListener, ByUplink, Dated, Looked, Unjoined, FoundGone, RoundBegan, Ticked, Opened, Brought, Said, Roomed, Ended, ByPeer, is_live, is_member, is_other, live_links, moment_of, placed_all, stopped_links, last_moment}
+use Rattle.aprs_history.specs.Links.{client_links, is_client_link, session_of, opening_of, brought_by, gone_links, late_links, late_reason}
 use Rattle.aprs_history.specs.Dates.{comment_text}
-use Rattle.aprs_history.specs.History.{admission, admitted, begin_round, comment_seconds, dated, end_each, end_stopped, refused_links, refused_reason}
-use Rattle.aprs_history.specs.Stands.{LinkSeen, CoreSeen, link_seen, Follows}
-use Rattle.server_core.specs.LinkSteps.{at_link, has_that, has_number, is_in_time, is_late_link, is_none_of, is_overfull, is_there, is_another, number_of, with_room, with_text, with_bytes, new_link_seen, numbers, Rises, session_at, held_at, session_kept, held_kept, filters_at, filters_kept, only_at, only_kept, others_at, at_moment, forgotten_all, is_lost}
+use Rattle.aprs_history.specs.History.{admission, admitted, joined_admission, refuse_datagram, begin_round, comment_seconds, dated, end_each, end_stopped, refused_links, refused_reason}
+use Rattle.aprs_history.specs.Stands.{LinkSeen, CoreSeen, ReachSeen, link_seen, Follows}
+use Rattle.server_core.specs.LinkSteps.{at_link, has_that, has_number, is_in_time, is_late_link, is_none_of, is_overfull, is_there, is_another, number_of, with_room, with_text, with_bytes, new_link_seen, numbers, Rises, IsDatagram, admitted_in, joined_outcome, client_kept, clients_in, ended_all, held_at, held_kept, logins_at, login_kept, speaker_at, speaker_kept, with_date, with_reply, others_at, at_moment, forgotten_all, is_lost}
 use Rattle.heard_routing.specs.Heard.{HeardSeen, without_link}
 use Rattle.aprs_conf.specs.Seen.{ConfSeen}
-use Rattle.server_core.specs.Meaning.{CoreMeaning, setting_of}
+use Rattle.server_core.specs.Meaning.{CoreMeaning, setting_of, timeouts_of}
 use Rattle.server_core.specs.Kept.{IsKept}
-use Rattle.server_core.specs.Steps.{SameRest, Walks, saying, scene_at, with_verdict}
+use Rattle.server_core.specs.Steps.{SameRest, Walks, carried_at, scene_at, with_verdict}
 use Rattle.server_core.proofs.LinkLemmas.{changed_none, rises_to, rises_push}
 use Rattle.server_core.proofs.FollowLemmas.{picked_missing, picked_seen}
 use Rattle.server_core.proofs.HeardLemmas.{remembers_no_end}
-use Rattle.server_core.proofs.WalkLemmas.{with_heard, with_links, follows_began, follows_dated, follows_gone, follows_late, follows_refused_client, follows_refused_links, going_after, late_goes, live_numbers, refused_goes, follows_said, follows_roomed, follows_ticked, follows_brought, follows_opened, follows_unserved, follows_ended, follows_stopped}
+use Rattle.server_core.proofs.WalkLemmas.{with_ends, with_heard, with_links, with_reach, filter_seen, follows_began, follows_dated, follows_gone, follows_late, follows_looked, follows_turned_away, follows_unasked, follows_unjoined, follows_refused_links, going_after, late_goes, live_numbers, refused_goes, follows_said, follows_roomed, follows_ticked, follows_brought, follows_opened, follows_unserved, follows_ended, follows_stopped}
+use Rattle.aprs_history.proofs.EntryLemmas.{IsSaidBy}
 
 -- the core with other links
 abbrev pub relinked : List LinkSeen → CoreMeaning → CoreMeaning
@@ -39,19 +52,19 @@ abbrev pub reheard : HeardSeen → CoreMeaning → CoreMeaning
 reheard heard core = record core { seen = record core.seen { heard = heard } }
 
 -- a round begins
-pub walks_begun : (core : CoreMeaning) (t : Trace) (links : List LinkSeen) (heard : HeardSeen) (turned closing : List ℕ) → Walks core t → links ≡ filter is_there core.seen.links
-    → heard ≡ forgotten_all (numbers (filter is_lost core.seen.links)) core.seen.heard → turned ≡ [] → closing ≡ []
-    → Walks (record core { seen = record core.seen { links = links; heard = heard; turned = turned; closing = closing } }) (begin_round t)
-walks_begun core t links heard turned closing walks is forgotten no_turned no_closing =
+pub walks_begun : (core : CoreMeaning) (t : Trace) (links : List LinkSeen) (heard : HeardSeen) (reach : ReachSeen) (turned closing : List ℕ) → Walks core t → links ≡ filter is_there core.seen.links
+    → heard ≡ forgotten_all (numbers (filter is_lost core.seen.links)) core.seen.heard
+    → reach ≡ record core.seen.reach { uplinks = ended_all (numbers (filter is_lost core.seen.links)) core.seen.moment core.seen.reach.uplinks; dial = None; casts = [] } → turned ≡ [] → closing ≡ []
+    → Walks (record core { seen = record core.seen { links = links; heard = heard; reach = reach; turned = turned; closing = closing } }) (begin_round t)
+walks_begun core t links heard reach turned closing walks is forgotten reached no_turned no_closing =
     let s = setting_of core.conf in
     let began = follows_began s core.seen t walks.follows in
-    let with_all : List LinkSeen → HeardSeen → List ℕ → List ℕ → CoreSeen = λ ls table ts cs. record core.seen { links = ls; heard = table; turned = ts; closing = cs } in
+    let fresh = record core.seen { turned = []; closing = []; reach = record core.seen.reach { dial = None; casts = [] } } in
+    let ends = numbers (filter is_lost core.seen.links) in
+    let same : record core.seen { links = links; heard = heard; reach = reach; turned = turned; closing = closing } ≡ with_ends ends (filter is_there core.seen.links) [] fresh =
+    rw (is, forgotten, reached, no_turned, no_closing) refl in
     record {
-      follows = subst (λ ls. Follows s (with_all ls heard turned closing) (begin_round t)) (sym is)
-          (subst (λ table. Follows s (with_all (filter is_there core.seen.links) table turned closing) (begin_round t)) (sym forgotten)
-          (subst (λ ts. Follows s (with_all (filter is_there core.seen.links) (forgotten_all (numbers (filter is_lost core.seen.links)) core.seen.heard) ts closing) (begin_round t)) (sym no_turned)
-          (subst (λ cs. Follows s (with_all (filter is_there core.seen.links) (forgotten_all (numbers (filter is_lost core.seen.links)) core.seen.heard) [] cs) (begin_round t)) (sym no_closing)
-          (follows_gone s (record core.seen { turned = []; closing = [] }) (RoundBegan ∷ t) began walks.going))));
+      follows = subst (λ seen. Follows s seen (begin_round t)) (sym same) (follows_gone s fresh (RoundBegan ∷ t) began walks.going);
       going = going_after (λ k. FoundGone) (λ k. refl) (gone_links (RoundBegan ∷ t)) (RoundBegan ∷ t) ∙ walks.going;
     }
 
@@ -67,13 +80,27 @@ others_seen s t number (k ∷ ks) =
     (λ left. rw left rest)
     (cases_Bool (is_other number k))
 
+-- and those of all
+logins_seen : (s : Setting) (t : Trace) (ks : List ℕ) → logins_at (map (link_seen s t) ks) ≡ logins_of t ks
+unfolding link_seen
+logins_seen s t [] = refl
+logins_seen s t (k ∷ ks) = ap (λ calls. verified_login (session_of t k) ++ calls) (logins_seen s t ks)
+
+pub number_member : (s : Setting) (t : Trace) (k : ℕ) (ks : List ℕ) → has_number k (map (link_seen s t) ks) ≡ is_member k ks
+unfolding link_seen
+number_member s t k [] = refl
+number_member s t k (x ∷ ks) = ap (λ b. (x == k) || b) (number_member s t k ks)
+
 module _ (core : CoreMeaning) (t : Trace) (walks : Walks core t) where
   live_now : core.seen.links ≡ map (link_seen (setting_of core.conf) t) (live_links t)
   live_now = walks.follows.links ∙ ap (λ stopped. map (link_seen (setting_of core.conf) t) (stopped ++ live_links t)) walks.going
 
-  session_now : (number : ℕ) → is_live t number ≡ true → session_at number core.seen.links ≡ session_of t number
+  speaker_now : (number : ℕ) → is_live t number ≡ true → speaker_at number core.seen.links ≡ speaker_of (opening_of t number) (session_of t number)
   unfolding link_seen
-  session_now number live = ap (session_at number) live_now ∙ picked_seen session_kept None (setting_of core.conf) t number (live_links t) live
+  speaker_now number live = ap (speaker_at number) live_now ∙ picked_seen speaker_kept (Visitor port.Full None) (setting_of core.conf) t number (live_links t) live
+
+  pub there_now : (number : ℕ) → has_number number core.seen.links ≡ is_live t number
+  there_now number = ap (has_number number) live_now ∙ number_member (setting_of core.conf) t number (live_links t)
 
   pub held_now : (number : ℕ) → is_live t number ≡ true → held_at number core.seen.links ≡ Some (held_after (brought_by t number))
   unfolding link_seen
@@ -82,26 +109,32 @@ module _ (core : CoreMeaning) (t : Trace) (walks : Walks core t) where
   pub held_never : (number : ℕ) → is_live t number ≡ false → held_at number core.seen.links ≡ None
   held_never number dead = ap (held_at number) live_now ∙ picked_missing held_kept None (setting_of core.conf) t number (live_links t) dead
 
-  only_now : (number : ℕ) → is_live t number ≡ true → only_at number core.seen.links ≡ is_only (opening_of t number)
-  unfolding link_seen
-  only_now number live = ap (only_at number) live_now ∙ picked_seen only_kept false (setting_of core.conf) t number (live_links t) live
-
-  filters_now : (number : ℕ) → is_live t number ≡ true → filters_at number core.seen.links ≡ has_filters (opening_of t number)
-  unfolding link_seen
-  filters_now number live = ap (filters_at number) live_now ∙ picked_seen filters_kept false (setting_of core.conf) t number (live_links t) live
-
   others_now : (number : ℕ) → others_at number core.seen.links ≡ others_of t number
   others_now number = ap (others_at number) live_now ∙ others_seen (setting_of core.conf) t number (live_links t)
 
   -- a line of a link that lives meets what the trace says
   scene_now : (number : ℕ) → is_live t number ≡ true → scene_at core number ≡ scene_of (setting_of core.conf) t number
   scene_now number live =
-      ap (λ only. record (scene_at core number) { only = only }) (only_now number live)
-      ∙ ap (λ filters. record (scene_at core number) { only = is_only (opening_of t number); filters = filters }) (filters_now number live)
-      ∙ ap (λ session. record (scene_at core number) { only = is_only (opening_of t number); filters = has_filters (opening_of t number); session = session }) (session_now number live)
+      ap (λ speaker. record (scene_at core number) { speaker = speaker }) (speaker_now number live)
       ∙ ap (λ others. record (scene_of (setting_of core.conf) t number) { others = others; moment = core.seen.moment; accepted = core.seen.accepted }) (others_now number)
       ∙ ap (λ moment. record (scene_of (setting_of core.conf) t number) { moment = moment; accepted = core.seen.accepted }) walks.follows.moment
       ∙ ap (λ accepted. record (scene_of (setting_of core.conf) t number) { accepted = accepted }) walks.follows.tables.accepted
+
+  -- and so does a line of a datagram
+  carried_now : (origin : Origin) → carried_at origin core ≡ datagram_scene (setting_of core.conf) origin t
+  carried_now origin =
+      ap (λ others. record (carried_at origin core) { others = others }) (ap logins_at live_now ∙ logins_seen (setting_of core.conf) t (live_links t))
+      ∙ ap (λ moment. record (datagram_scene (setting_of core.conf) origin t) { moment = moment; accepted = core.seen.accepted }) walks.follows.moment
+      ∙ ap (λ accepted. record (datagram_scene (setting_of core.conf) origin t) { accepted = accepted }) walks.follows.tables.accepted
+
+  -- how many clients there are
+  pub clients_now : clients_in core.seen.links ≡ length (client_links t)
+  unfolding link_seen
+  clients_now =
+      let s = setting_of core.conf in
+      let clients : filter client_kept (map (link_seen s t) (live_links t)) ≡ map (link_seen s t) (client_links t) =
+      filter_seen s core.seen t walks.follows client_kept (λ l. is_client_link (opening_of t l)) (live_links t) (λ j. refl) in
+      ap (λ links. length (filter client_kept links)) live_now ∙ ap length clients ∙ length-map (client_links t) (link_seen s t)
 
   pub walks_roomed : (number : ℕ) (links : List LinkSeen) → links ≡ map (at_link number with_room) core.seen.links → Walks (relinked links core) (Roomed number ∷ t)
   walks_roomed number links new = record {
@@ -110,86 +143,132 @@ module _ (core : CoreMeaning) (t : Trace) (walks : Walks core t) where
     going = walks.going;
   }
 
-  pub walks_brought : (number : ℕ) (bytes : List ℕ) (links : List LinkSeen)
+  pub walks_brought : (number : ℕ) (bytes : List ℕ) (links : List LinkSeen) (reach : ReachSeen) → is_live t number ≡ true
+      → reach ≡ (if has_number number core.seen.links then record core.seen.reach { uplinks = uplinks_after (up.Heard number) core.seen.moment core.seen.reach.uplinks } else core.seen.reach)
       → links ≡ map (at_link number (with_bytes core.seen.moment (held_after (brought_by t number ++ bytes)))) core.seen.links
-      → Walks (relinked links core) (Brought number bytes ∷ t)
-  walks_brought number bytes links new = record {
-    follows = subst (λ ls. Follows (setting_of core.conf) (with_links ls core.seen) (Brought number bytes ∷ t)) (sym new)
-        (follows_brought (setting_of core.conf) core.seen t walks.follows number bytes);
+      → Walks (record core { seen = record core.seen { links = links; reach = reach } }) (Brought number bytes ∷ t)
+  walks_brought number bytes links reach live reached new =
+      let stepped = record core.seen.reach { uplinks = uplinks_after (up.Heard number) core.seen.moment core.seen.reach.uplinks } in
+      let there : has_number number core.seen.links ≡ true = there_now number ∙ live in
+      let heard : reach ≡ stepped = reached ∙ ap (λ b. if b then stepped else core.seen.reach) there in
+      record {
+        follows = subst (λ ls. Follows (setting_of core.conf) (record core.seen { links = ls; reach = reach }) (Brought number bytes ∷ t)) (sym new)
+            (subst (λ r. Follows (setting_of core.conf) (record core.seen { links = map (at_link number (with_bytes core.seen.moment (held_after (brought_by t number ++ bytes)))) core.seen.links; reach = r }) (Brought number bytes ∷ t)) (sym heard)
+            (follows_brought (setting_of core.conf) core.seen t walks.follows number bytes));
+        going = walks.going;
+      }
+
+  pub walks_ended : (number : ℕ) (links : List LinkSeen) (heard : HeardSeen) (reach : ReachSeen) → is_live t number ≡ true
+      → links ≡ filter (is_another number) core.seen.links → heard ≡ without_link number core.seen.heard
+      → reach ≡ (if has_number number core.seen.links then record core.seen.reach { uplinks = uplinks_after (up.Ended number) core.seen.moment core.seen.reach.uplinks } else core.seen.reach)
+      → Walks (record core { seen = record core.seen { links = links; heard = heard; reach = reach } }) (Ended number ByPeer ∷ t)
+  walks_ended number links heard reach live new forgotten reached =
+      let stepped = record core.seen.reach { uplinks = uplinks_after (up.Ended number) core.seen.moment core.seen.reach.uplinks } in
+      let there : has_number number core.seen.links ≡ true = there_now number ∙ live in
+      let ended : reach ≡ stepped = reached ∙ ap (λ b. if b then stepped else core.seen.reach) there in
+      let same : record core.seen { links = links; heard = heard; reach = reach } ≡ record core.seen { links = filter (is_another number) core.seen.links; heard = without_link number core.seen.heard; reach = stepped } =
+      rw (new, forgotten, ended) refl in
+      record {
+        follows = subst (λ seen. Follows (setting_of core.conf) seen (Ended number ByPeer ∷ t)) (sym same) (follows_ended (setting_of core.conf) core.seen t walks.follows walks.going number);
+        going = append-nil (stopped_links t) ∙ walks.going;
+      }
+
+  pub walks_looked : (reach : ReachSeen)
+      → reach ≡ record core.seen.reach { uplinks = uplinks_after up.Tick core.seen.moment core.seen.reach.uplinks; dial = (acts_at up.Tick core.seen.moment core.seen.reach.uplinks).dial }
+      → Walks (record core { seen = record core.seen { reach = reach } }) (Looked ∷ t)
+  walks_looked reach is = record {
+    follows = subst (λ r. Follows (setting_of core.conf) (with_reach r core.seen) (Looked ∷ t)) (sym is) (follows_looked (setting_of core.conf) core.seen t walks.follows);
     going = walks.going;
   }
 
-  pub walks_ended : (number : ℕ) (links : List LinkSeen) (heard : HeardSeen) → links ≡ filter (is_another number) core.seen.links → heard ≡ without_link number core.seen.heard
-      → Walks (reheard heard (relinked links core)) (Ended number ByPeer ∷ t)
-  walks_ended number links heard new forgotten = record {
-    follows = subst (λ ls. Follows (setting_of core.conf) (with_heard heard (with_links ls core.seen)) (Ended number ByPeer ∷ t)) (sym new)
-        (subst (λ table. Follows (setting_of core.conf) (with_heard table (with_links (filter (is_another number) core.seen.links) core.seen)) (Ended number ByPeer ∷ t)) (sym forgotten)
-        (follows_ended (setting_of core.conf) core.seen t walks.follows walks.going number));
-    going = append-nil (stopped_links t) ∙ walks.going;
+  pub walks_unjoined : (uplink : ℕ) (reach : ReachSeen) → reach ≡ record core.seen.reach { uplinks = uplinks_after (up.Unjoined uplink) core.seen.moment core.seen.reach.uplinks }
+      → Walks (record core { seen = record core.seen { reach = reach } }) (Unjoined uplink ∷ t)
+  walks_unjoined uplink reach is = record {
+    follows = subst (λ r. Follows (setting_of core.conf) (with_reach r core.seen) (Unjoined uplink ∷ t)) (sym is) (follows_unjoined (setting_of core.conf) core.seen t walks.follows uplink);
+    going = walks.going;
   }
 
 -- a line that a link said
 pub walks_heard : (core : CoreMeaning) (t : Trace) → Walks core t → (number : ℕ) (cut : Cut) → is_live t number ≡ true
-    → Walks (with_verdict number (verdict_of (scene_at core number) cut) core) (saying (setting_of core.conf) number cut t)
+    → Walks (with_verdict (source.Link number) (verdict_of (scene_at core number) cut) core) (Said (source.Link number) cut (verdict_of (scene_of (setting_of core.conf) t number) cut) ∷ t)
 walks_heard core t walks number cut live =
     let verdict = verdict_of (scene_at core number) cut in
     let same : verdict ≡ verdict_of (scene_of (setting_of core.conf) t number) cut = ap (λ scene. verdict_of scene cut) (scene_now core t walks number live) in
-    subst (λ judged. Walks (with_verdict number verdict core) (Said number cut judged ∷ t)) same
-    (record { follows = follows_said (setting_of core.conf) core.seen t walks.follows walks.going number cut verdict live; going = walks.going })
+    subst (λ judged. Walks (with_verdict (source.Link number) verdict core) (Said (source.Link number) cut judged ∷ t)) same
+    (record { follows = follows_said (setting_of core.conf) core.seen t walks.follows walks.going (source.Link number) cut verdict live; going = walks.going })
+
+said_by : (t : Trace) (from : Source) → IsDatagram from → IsSaidBy t from
+said_by t (source.Link number) datagram = absurd datagram
+said_by t (source.Submit listener) datagram = tt
+said_by t (source.Peer peer) datagram = tt
+
+-- a line of a datagram
+pub walks_carried : (core : CoreMeaning) (t : Trace) → Walks core t → (from : Source) (origin : Origin) (cut : Cut) → IsDatagram from
+    → Walks (with_verdict from (verdict_of (carried_at origin core) cut) core) (Said from cut (verdict_of (datagram_scene (setting_of core.conf) origin t) cut) ∷ t)
+walks_carried core t walks from origin cut datagram =
+    let verdict = verdict_of (carried_at origin core) cut in
+    let same : verdict ≡ verdict_of (datagram_scene (setting_of core.conf) origin t) cut = ap (λ scene. verdict_of scene cut) (carried_now core t walks origin) in
+    subst (λ judged. Walks (with_verdict from verdict core) (Said from cut judged ∷ t)) same
+    (record { follows = follows_said (setting_of core.conf) core.seen t walks.follows walks.going from cut verdict (said_by t from datagram); going = walks.going })
+
+-- a datagram that is refused whole
+pub walks_unread : (core : CoreMeaning) (t : Trace) → Walks core t → (listener : ℕ) (cut : Cut) (why : Refusal)
+    → Walks (with_verdict (source.Submit listener) (Refused why) core) (refuse_datagram listener cut why t)
+walks_unread core t walks listener cut why =
+    record { follows = follows_said (setting_of core.conf) core.seen t walks.follows walks.going (source.Submit listener) cut (Refused why) tt; going = walks.going }
 
 -- what a verdict leaves as it is
-pub rest_kept : (core : CoreMeaning) (number : ℕ) (verdict : Verdict) → SameRest core (with_verdict number verdict core)
-rest_kept core number PassedOver = record { conf = refl; greatest = refl; stopped = refl }
-rest_kept core number (Refused why) = record { conf = refl; greatest = refl; stopped = refl }
-rest_kept core number (LoggedIn session None) = record { conf = refl; greatest = refl; stopped = refl }
-rest_kept core number (LoggedIn session (Some answer)) = record { conf = refl; greatest = refl; stopped = refl }
-rest_kept core number (Filtered answer) = record { conf = refl; greatest = refl; stopped = refl }
-rest_kept core number (Accepted parts line) = record { conf = refl; greatest = refl; stopped = refl }
+pub rest_kept : (core : CoreMeaning) (from : Source) (verdict : Verdict) → SameRest core (with_verdict from verdict core)
+rest_kept core from PassedOver = record { conf = refl; greatest = refl; stopped = refl }
+rest_kept core from (Refused why) = record { conf = refl; greatest = refl; stopped = refl }
+rest_kept core from (LoggedIn session None) = record { conf = refl; greatest = refl; stopped = refl }
+rest_kept core from (LoggedIn session (Some answer)) = record { conf = refl; greatest = refl; stopped = refl }
+rest_kept core from (Filtered answer) = record { conf = refl; greatest = refl; stopped = refl }
+rest_kept core from (Accepted parts line) = record { conf = refl; greatest = refl; stopped = refl }
 
--- what becomes of a connection is what the trace says
-module _ (core : CoreMeaning) (conf : ConfSeen) (t : Trace) (walks : Walks core t) (same : core.conf ≡ conf) (listener k : ℕ) (from : Addr) (outcome : Admission)
-    (is : outcome ≡ admitted core.conf.max_clients (length core.seen.links) (kind_at (setting_of core.conf) listener)) (kept : IsKept core) (above : core.seen.greatest < k) where
-  admitted_so : outcome ≡ admission (setting_of conf) t listener
-  admitted_so =
-      is
-      ∙ ap (λ n. admitted core.conf.max_clients n (kind_at (setting_of core.conf) listener))
-      (sym (length-map core.seen.links number_of) ∙ ap length (live_numbers (setting_of core.conf) core.seen t walks.follows walks.going))
-      ∙ ap (λ c. admission (setting_of c) t listener) same
+-- a link comes, by whichever door
+module _ (core : CoreMeaning) (t : Trace) (walks : Walks core t) (k : ℕ) (from : Addr) (rising : Rises 0 (numbers core.seen.links) core.seen.greatest) (above : core.seen.greatest < k) where
+  pub walks_admitted : (listener : ℕ) (outcome : Admission)
+      → Walks (record core { seen = admitted_in (setting_of core.conf) outcome k from core.seen }) (Opened (AtListener listener) outcome k from ∷ t)
+  walks_admitted listener NoPort =
+      let follows = follows_unserved (setting_of core.conf) core.seen t walks.follows (AtListener listener) k core.seen.greatest from rising above in
+      record { follows = record { moment = follows.moment; reach = follows.reach; turned = follows.turned; closing = follows.closing; links = follows.links; tables = follows.tables; took = follows.took }; going = walks.going }
+  walks_admitted listener TurnedAway =
+      let follows = follows_turned_away (setting_of core.conf) core.seen t walks.follows (AtListener listener) k core.seen.greatest from rising above in
+      record { follows = record { moment = follows.moment; reach = follows.reach; turned = follows.turned; closing = follows.closing; links = follows.links; tables = follows.tables; took = follows.took }; going = walks.going }
+  walks_admitted listener NotAsked =
+      let follows = follows_unasked (setting_of core.conf) core.seen t walks.follows (AtListener listener) k core.seen.greatest from rising above in
+      record { follows = record { moment = follows.moment; reach = follows.reach; turned = follows.turned; closing = follows.closing; links = follows.links; tables = follows.tables; took = follows.took }; going = walks.going }
+  walks_admitted listener (Served kind) =
+      let follows = follows_opened (setting_of core.conf) core.seen t walks.follows (AtListener listener) kind k core.seen.greatest from rising above in
+      record { follows = record { moment = follows.moment; reach = follows.reach; turned = follows.turned; closing = follows.closing; links = follows.links; tables = follows.tables; took = follows.took }; going = walks.going }
 
-  pub walks_served : (kind : PortKind) (links : List LinkSeen) → outcome ≡ Served kind → links ≡ core.seen.links ++ new_link_seen k (record { kind = kind; from = from; moment = core.seen.moment }) ∷ []
-      → Walks (record core { seen = record core.seen { links = links; greatest = k } }) (Opened listener (admission (setting_of conf) t listener) k from ∷ t)
-  walks_served kind links some new =
-      let follows = follows_opened (setting_of core.conf) core.seen t walks.follows listener kind k core.seen.greatest from kept.rising above in
-      subst (λ became. Walks (record core { seen = record core.seen { links = links; greatest = k } }) (Opened listener became k from ∷ t)) (sym some ∙ admitted_so) (record {
-        follows = record { moment = follows.moment; turned = follows.turned; closing = follows.closing; links = new ∙ follows.links; tables = follows.tables; took = follows.took };
-        going = walks.going;
-      })
+  pub walks_opened : (listener : ℕ) (outcome : Admission) → outcome ≡ admitted core.conf.max_clients (clients_in core.seen.links) (kind_at (setting_of core.conf) listener)
+      → Walks (record core { seen = admitted_in (setting_of core.conf) outcome k from core.seen }) (Opened (AtListener listener) (admission (setting_of core.conf) t listener) k from ∷ t)
+  walks_opened listener outcome is =
+      let same : outcome ≡ admission (setting_of core.conf) t listener = is ∙ ap (λ n. admitted core.conf.max_clients n (kind_at (setting_of core.conf) listener)) (clients_now core t walks) in
+      subst (λ became. Walks (record core { seen = admitted_in (setting_of core.conf) outcome k from core.seen }) (Opened (AtListener listener) became k from ∷ t)) same (walks_admitted listener outcome)
 
-  pub walks_turned : (turned : List ℕ) → outcome ≡ TurnedAway → turned ≡ core.seen.turned ++ k ∷ []
-      → Walks (record core { seen = record core.seen { turned = turned; greatest = k } }) (Opened listener (admission (setting_of conf) t listener) k from ∷ t)
-  walks_turned turned away new =
-      let follows = follows_refused_client (setting_of core.conf) core.seen t walks.follows listener k core.seen.greatest from kept.rising above in
-      subst (λ became. Walks (record core { seen = record core.seen { turned = turned; greatest = k } }) (Opened listener became k from ∷ t)) (sym away ∙ admitted_so) (record {
-        follows = record { moment = follows.moment; turned = new ∙ follows.turned; closing = follows.closing; links = follows.links; tables = follows.tables; took = follows.took };
-        going = walks.going;
-      })
+  -- an uplink has joined
+  abbrev joined_core : ℕ → CoreSeen
+  joined_core uplink = with_reach (record core.seen.reach { uplinks = uplinks_after (up.Joined uplink k) core.seen.moment core.seen.reach.uplinks }) core.seen
 
-  pub walks_unserved : outcome ≡ NoPort → Walks (record core { seen = record core.seen { greatest = k } }) (Opened listener (admission (setting_of conf) t listener) k from ∷ t)
-  walks_unserved none =
-      let follows = follows_unserved (setting_of core.conf) core.seen t walks.follows listener k core.seen.greatest from kept.rising above in
-      subst (λ became. Walks (record core { seen = record core.seen { greatest = k } }) (Opened listener became k from ∷ t)) (sym none ∙ admitted_so) (record {
-        follows = record { moment = follows.moment; turned = follows.turned; closing = follows.closing; links = follows.links; tables = follows.tables; took = follows.took };
-        going = walks.going;
-      })
+  walks_by : (uplink : ℕ) (asked : Bool)
+      → Walks (record core { seen = admitted_in (setting_of core.conf) (joined_outcome uplink asked) k from (joined_core uplink) }) (Opened (ByUplink uplink) (joined_outcome uplink asked) k from ∷ t)
+  walks_by uplink true =
+      let follows = follows_opened (setting_of core.conf) core.seen t walks.follows (ByUplink uplink) (Uplink uplink) k core.seen.greatest from rising above in
+      record { follows = record { moment = follows.moment; reach = follows.reach; turned = follows.turned; closing = follows.closing; links = follows.links; tables = follows.tables; took = follows.took }; going = walks.going }
+  walks_by uplink false =
+      let follows = follows_unasked (setting_of core.conf) core.seen t walks.follows (ByUplink uplink) k core.seen.greatest from rising above in
+      record { follows = record { moment = follows.moment; reach = follows.reach; turned = follows.turned; closing = follows.closing; links = follows.links; tables = follows.tables; took = follows.took }; going = walks.going }
 
-absent : (s : Setting) (t : Trace) (number : ℕ) (ks : List ℕ) → is_member number ks ≡ false → has_number number (map (link_seen s t) ks) ≡ false
-unfolding link_seen
-absent s t number [] dead = refl
-absent s t number (k ∷ ks) dead =
-    ⊎_elim
-    (λ here. absurd (true≢false (sym (ap (λ b. b || is_member number ks) here) ∙ dead)))
-    (λ other. ap (λ b. b || has_number number (map (link_seen s t) ks)) other ∙ absent s t number ks (sym (ap (λ b. b || is_member number ks) other) ∙ dead))
-    (cases_Bool (k == number))
+  pub walks_joined : (uplink : ℕ) (asked : Bool) → asked ≡ (acts_at (up.Joined uplink k) core.seen.moment core.seen.reach.uplinks).login
+      → Walks (record core { seen = admitted_in (setting_of core.conf) (joined_outcome uplink asked) k from (joined_core uplink) }) (Opened (ByUplink uplink) (joined_admission (setting_of core.conf) t uplink k) k from ∷ t)
+  walks_joined uplink asked is =
+      let login : asked ≡ (acts_at (up.Joined uplink k) (moment_of t) (uplinks_of (setting_of core.conf) t)).login =
+      is ∙ ap (λ m. (acts_at (up.Joined uplink k) m core.seen.reach.uplinks).login) walks.follows.moment
+      ∙ ap (λ (reach : ReachSeen). (acts_at (up.Joined uplink k) (moment_of t) reach.uplinks).login) walks.follows.reach in
+      subst (λ b. Walks (record core { seen = admitted_in (setting_of core.conf) (joined_outcome uplink asked) k from (joined_core uplink) }) (Opened (ByUplink uplink) (joined_outcome uplink b) k from ∷ t)) login (walks_by uplink asked)
 
 all_other : (number : ℕ) (links : List LinkSeen) → has_number number links ≡ false → filter (is_another number) links ≡ links
 all_other number [] none = refl
@@ -202,7 +281,7 @@ all_other number (x ∷ links) none =
 
 -- a step at a link that doesn't live changes nothing
 no_number : (core : CoreMeaning) (t : Trace) → Walks core t → (number : ℕ) → is_live t number ≡ false → has_number number core.seen.links ≡ false
-no_number core t walks number dead = ap (has_number number) (live_now core t walks) ∙ absent (setting_of core.conf) t number (live_links t) dead
+no_number core t walks number dead = there_now core t walks number ∙ dead
 
 pub walks_unmoved : (core : CoreMeaning) (t : Trace) (links : List LinkSeen) → Walks core t → links ≡ core.seen.links → Walks (relinked links core) t
 walks_unmoved core t links walks same = subst (λ ls. Walks (relinked ls core) t) (sym same) walks
@@ -210,13 +289,21 @@ walks_unmoved core t links walks same = subst (λ ls. Walks (relinked ls core) t
 pub walks_no_room : (core : CoreMeaning) (t : Trace) → Walks core t → (number : ℕ) (links : List LinkSeen) → is_live t number ≡ false → links ≡ map (at_link number with_room) core.seen.links → Walks (relinked links core) t
 walks_no_room core t walks number links dead new = walks_unmoved core t links walks (new ∙ changed_none number with_room core.seen.links (no_number core t walks number dead))
 
-pub walks_no_end : (core : CoreMeaning) (t : Trace) → Walks core t → (number : ℕ) (links : List LinkSeen) (heard : HeardSeen) → is_live t number ≡ false
-    → links ≡ filter (is_another number) core.seen.links → heard ≡ without_link number core.seen.heard → Walks (reheard heard (relinked links core)) t
-walks_no_end core t walks number links heard dead new forgotten =
+pub walks_no_end : (core : CoreMeaning) (t : Trace) → Walks core t → (number : ℕ) (links : List LinkSeen) (heard : HeardSeen) (reach : ReachSeen) → is_live t number ≡ false
+    → links ≡ filter (is_another number) core.seen.links → heard ≡ without_link number core.seen.heard
+    → reach ≡ (if has_number number core.seen.links then record core.seen.reach { uplinks = uplinks_after (up.Ended number) core.seen.moment core.seen.reach.uplinks } else core.seen.reach)
+    → Walks (record core { seen = record core.seen { links = links; heard = heard; reach = reach } }) t
+walks_no_end core t walks number links heard reach dead new forgotten reached =
     let follows = walks.follows in
-    let unheard : Walks (reheard (without_link number core.seen.heard) core) t = record {
+    let missing = no_number core t walks number dead in
+    let stays : reach ≡ core.seen.reach =
+    reached ∙ ap (λ b. if b then record core.seen.reach { uplinks = uplinks_after (up.Ended number) core.seen.moment core.seen.reach.uplinks } else core.seen.reach) missing in
+    let same : record core.seen { links = links; heard = heard; reach = reach } ≡ record core.seen { heard = without_link number core.seen.heard } =
+    rw (forgotten, stays) (ap (λ ls. record core.seen { links = ls; heard = without_link number core.seen.heard }) (new ∙ all_other number core.seen.links missing)) in
+    subst (λ seen. Walks (record core { seen = seen }) t) (sym same) (record {
       follows = record {
         moment = follows.moment;
+        reach = follows.reach;
         turned = follows.turned;
         closing = follows.closing;
         links = follows.links;
@@ -224,8 +311,19 @@ walks_no_end core t walks number links heard dead new forgotten =
         took = follows.took;
       };
       going = walks.going;
-    } in
-    walks_unmoved (reheard heard core) t links (subst (λ table. Walks (reheard table core) t) (sym forgotten) unheard) (new ∙ all_other number core.seen.links (no_number core t walks number dead))
+    })
+
+-- bytes of a link that isn't there are nobody's
+pub walks_unbrought : {E : Type 0} (core : CoreMeaning) (t : Trace) → Walks core t → (number : ℕ) (links : List LinkSeen) (reach : ReachSeen) (result : Result (Vec Cut Global) E) → is_live t number ≡ false
+    → reach ≡ (if has_number number core.seen.links then record core.seen.reach { uplinks = uplinks_after (up.Heard number) core.seen.moment core.seen.reach.uplinks } else core.seen.reach)
+    → IfOk result (λ cuts. (cuts.items ≡ []) × (links ≡ core.seen.links))
+    → IfOk result (λ cuts. (cuts.items ≡ []) × Walks (record core { seen = record core.seen { links = links; reach = reach } }) t)
+walks_unbrought core t walks number links reach (Err e) dead reached h = h
+walks_unbrought core t walks number links reach (Ok cuts) dead reached h =
+    let stays : reach ≡ core.seen.reach =
+    reached ∙ ap (λ b. if b then record core.seen.reach { uplinks = uplinks_after (up.Heard number) core.seen.moment core.seen.reach.uplinks } else core.seen.reach) (no_number core t walks number dead) in
+    let same : record core.seen { links = links; reach = reach } ≡ core.seen = rw stays (ap (λ ls. record core.seen { links = ls }) h.1) in
+    (h.0, subst (λ seen. Walks (record core { seen = seen }) t) (sym same) walks)
 
 pub walks_ticked : (core : CoreMeaning) (t : Trace) → Walks core t → (m : ℕ) (moment : ℕ) (links : List LinkSeen) → moment ≡ max (min m last_moment) core.seen.moment
     → links ≡ map (at_moment moment) core.seen.links
@@ -237,10 +335,10 @@ walks_ticked core t walks m moment links is new =
 
 -- a core stays sound as a link comes
 pub kept_above : (core : CoreMeaning) (k : ℕ) → IsKept core → core.seen.greatest < k → k < 2 ^ 32 → IsKept (record core { seen = record core.seen { greatest = k } })
-kept_above core k kept above small = record { rising = rises_to 0 core.seen.greatest k (numbers core.seen.links) kept.rising (omega arith); small = small; station = kept.station }
+kept_above core k kept above small = record { rising = rises_to 0 core.seen.greatest k (numbers core.seen.links) kept.rising (omega arith); small = small; station = kept.station; group = kept.group }
 
 pub kept_turned : (core : CoreMeaning) (turned : List ℕ) → IsKept core → IsKept (record core { seen = record core.seen { turned = turned } })
-kept_turned core turned kept = record { rising = kept.rising; small = kept.small; station = kept.station }
+kept_turned core turned kept = record { rising = kept.rising; small = kept.small; station = kept.station; group = kept.group }
 
 pub kept_links : (core : CoreMeaning) (links : List LinkSeen) → links ≡ core.seen.links → IsKept core → IsKept (record core { seen = record core.seen { links = links } })
 kept_links core links same kept = subst (λ ls. IsKept (record core { seen = record core.seen { links = ls } })) (sym same) kept
@@ -253,70 +351,105 @@ kept_pushed core k link links kept above small is new =
       rising = subst (λ ls. Rises 0 (numbers ls) k) (sym new) (subst (λ n. Rises 0 (numbers (core.seen.links ++ link ∷ [])) n) is (rises_push 0 core.seen.greatest core.seen.links link kept.rising above_is));
       small = small;
       station = kept.station;
+      group = kept.group;
     }
-
--- what a dead link's bytes leave
-pub unmoved_ok : {E : Type 0} (core : CoreMeaning) (t : Trace) (links : List LinkSeen) (result : Result (Vec Cut Global) E) → Walks core t
-    → IfOk result (λ cuts. (cuts.items ≡ []) × (links ≡ core.seen.links)) → IfOk result (λ cuts. (cuts.items ≡ []) × Walks (relinked links core) t)
-unmoved_ok core t links (Ok cuts) walks h = (h.0, walks_unmoved core t links walks h.1)
-unmoved_ok core t links (Err e) walks h = h
 
 -- ---- links end
 
+-- what there is for other servers, once these have ended
+abbrev pub ReachEnds : CoreMeaning → List ℕ → ReachSeen → Type 0
+ReachEnds core ends reach = reach ≡ record core.seen.reach { uplinks = ended_all ends core.seen.moment core.seen.reach.uplinks }
+
+-- what is left where links have ended
+ends_as : (core : CoreMeaning) (ends closing : List ℕ) (links left : List LinkSeen) (heard : HeardSeen) (reach : ReachSeen) → links ≡ left → heard ≡ forgotten_all ends core.seen.heard
+    → ReachEnds core ends reach → closing ≡ placed_all ends core.seen.closing
+    → record core.seen { links = links; heard = heard; reach = reach; closing = closing } ≡ with_ends ends left (placed_all ends core.seen.closing) core.seen
+ends_as core ends closing links left heard reach is forgotten reached closed = rw (is, forgotten, reached, closed) refl
+
 -- the links that are late
-pub walks_late : (core : CoreMeaning) (conf : ConfSeen) (t : Trace) (ends closing : List ℕ) (links : List LinkSeen) (heard : HeardSeen) → Walks core t → core.conf ≡ conf
-    → ends ≡ numbers (filter (is_late_link core.conf.client_timeout core.seen.moment) core.seen.links) → links ≡ filter (is_in_time core.conf.client_timeout core.seen.moment) core.seen.links
-    → heard ≡ forgotten_all ends core.seen.heard → closing ≡ placed_all ends core.seen.closing
-    → Walks (record core { seen = record core.seen { links = links; heard = heard; closing = closing } }) (end_each (late_reason t) (late_links conf.client_timeout t) t)
-walks_late core conf t ends closing links heard walks same are left forgotten closed =
+late_walks : (core : CoreMeaning) (t : Trace) (ends closing : List ℕ) (links : List LinkSeen) (heard : HeardSeen) (reach : ReachSeen) → Walks core t
+    → ends ≡ numbers (filter (is_late_link (timeouts_of core.conf) core.seen.moment) core.seen.links) → links ≡ filter (is_in_time (timeouts_of core.conf) core.seen.moment) core.seen.links
+    → heard ≡ forgotten_all ends core.seen.heard → ReachEnds core ends reach → closing ≡ placed_all ends core.seen.closing
+    → Walks (record core { seen = record core.seen { links = links; heard = heard; reach = reach; closing = closing } }) (end_each (late_reason t) (late_links (setting_of core.conf) t) t)
+late_walks core t ends closing links heard reach walks are left forgotten reached closed =
     let s = setting_of core.conf in
-    let timeout = core.conf.client_timeout in
-    let now = end_each (late_reason t) (late_links timeout t) t in
-    let left_now : links ≡ filter (is_in_time timeout (moment_of t)) core.seen.links = left ∙ ap (λ m. filter (is_in_time timeout m) core.seen.links) walks.follows.moment in
-    let follows = follows_late s core.seen t walks.follows walks.going timeout ends (are ∙ ap (λ m. numbers (filter (is_late_link timeout m) core.seen.links)) walks.follows.moment) in
-    subst (λ (c : ConfSeen). Walks (record core { seen = record core.seen { links = links; heard = heard; closing = closing } }) (end_each (late_reason t) (late_links c.client_timeout t) t)) same (record {
-      follows = subst (λ ls. Follows s (record core.seen { links = ls; heard = heard; closing = closing }) now) (sym left_now)
-          (subst (λ table. Follows s (record core.seen { links = filter (is_in_time timeout (moment_of t)) core.seen.links; heard = table; closing = closing }) now) (sym forgotten)
-          (subst (λ cs. Follows s (record core.seen { links = filter (is_in_time timeout (moment_of t)) core.seen.links; heard = forgotten_all ends core.seen.heard; closing = cs }) now) (sym closed) follows));
-      going = going_after (late_reason t) (late_goes t) (late_links timeout t) t ∙ walks.going;
-    })
+    let now = end_each (late_reason t) (late_links s t) t in
+    let in_time = filter (is_in_time (timeouts_of core.conf) (moment_of t)) core.seen.links in
+    let left_now : links ≡ in_time = left ∙ ap (λ m. filter (is_in_time (timeouts_of core.conf) m) core.seen.links) walks.follows.moment in
+    let follows = follows_late s core.seen t walks.follows walks.going ends (are ∙ ap (λ m. numbers (filter (is_late_link (timeouts_of core.conf) m) core.seen.links)) walks.follows.moment) in
+    record {
+      follows = subst (λ seen. Follows s seen now) (sym (ends_as core ends closing links in_time heard reach left_now forgotten reached closed)) follows;
+      going = going_after (late_reason t) (late_goes t) (late_links s t) t ∙ walks.going;
+    }
+
+pub walks_late : (core : CoreMeaning) (conf : ConfSeen) (t : Trace) (ends closing : List ℕ) (links : List LinkSeen) (heard : HeardSeen) (reach : ReachSeen) → Walks core t → core.conf ≡ conf
+    → ends ≡ numbers (filter (is_late_link (timeouts_of core.conf) core.seen.moment) core.seen.links) → links ≡ filter (is_in_time (timeouts_of core.conf) core.seen.moment) core.seen.links
+    → heard ≡ forgotten_all ends core.seen.heard → ReachEnds core ends reach → closing ≡ placed_all ends core.seen.closing
+    → Walks (record core { seen = record core.seen { links = links; heard = heard; reach = reach; closing = closing } }) (end_each (late_reason t) (late_links (setting_of conf) t) t)
+walks_late core conf t ends closing links heard reach walks same are left forgotten reached closed =
+    subst (λ (c : ConfSeen). Walks (record core { seen = record core.seen { links = links; heard = heard; reach = reach; closing = closing } }) (end_each (late_reason t) (late_links (setting_of c) t) t)) same
+    (late_walks core t ends closing links heard reach walks are left forgotten reached closed)
 
 -- the links that are overfull, and those that were turned away
-pub walks_refused : (core : CoreMeaning) (conf : ConfSeen) (t : Trace) (ends closing : List ℕ) (links : List LinkSeen) (heard : HeardSeen) → Walks core t → core.conf ≡ conf
+refused_walks : (core : CoreMeaning) (t : Trace) (ends closing : List ℕ) (links : List LinkSeen) (heard : HeardSeen) (reach : ReachSeen) → Walks core t
     → ends ≡ placed_all core.seen.turned (numbers (filter is_overfull core.seen.links)) → links ≡ filter (is_none_of ends) core.seen.links
-    → heard ≡ forgotten_all ends core.seen.heard → closing ≡ placed_all ends core.seen.closing
-    → Walks (record core { seen = record core.seen { links = links; heard = heard; closing = closing } }) (end_each (refused_reason t) (refused_links (setting_of conf) t) t)
-walks_refused core conf t ends closing links heard walks same are left forgotten closed =
+    → heard ≡ forgotten_all ends core.seen.heard → ReachEnds core ends reach → closing ≡ placed_all ends core.seen.closing
+    → Walks (record core { seen = record core.seen { links = links; heard = heard; reach = reach; closing = closing } }) (end_each (refused_reason t) (refused_links (setting_of core.conf) t) t)
+refused_walks core t ends closing links heard reach walks are left forgotten reached closed =
     let s = setting_of core.conf in
     let now = end_each (refused_reason t) (refused_links s t) t in
     let follows = follows_refused_links s core.seen t walks.follows walks.going ends are in
-    subst (λ (c : ConfSeen). Walks (record core { seen = record core.seen { links = links; heard = heard; closing = closing } }) (end_each (refused_reason t) (refused_links (setting_of c) t) t)) same (record {
-      follows = subst (λ ls. Follows s (record core.seen { links = ls; heard = heard; closing = closing }) now) (sym left)
-          (subst (λ table. Follows s (record core.seen { links = filter (is_none_of ends) core.seen.links; heard = table; closing = closing }) now) (sym forgotten)
-          (subst (λ cs. Follows s (record core.seen { links = filter (is_none_of ends) core.seen.links; heard = forgotten_all ends core.seen.heard; closing = cs }) now) (sym closed) follows));
+    record {
+      follows = subst (λ seen. Follows s seen now) (sym (ends_as core ends closing links (filter (is_none_of ends) core.seen.links) heard reach left forgotten reached closed)) follows;
       going = going_after (refused_reason t) (refused_goes t) (refused_links s t) t ∙ walks.going;
-    })
+    }
+
+pub walks_refused : (core : CoreMeaning) (conf : ConfSeen) (t : Trace) (ends closing : List ℕ) (links : List LinkSeen) (heard : HeardSeen) (reach : ReachSeen) → Walks core t → core.conf ≡ conf
+    → ends ≡ placed_all core.seen.turned (numbers (filter is_overfull core.seen.links)) → links ≡ filter (is_none_of ends) core.seen.links
+    → heard ≡ forgotten_all ends core.seen.heard → ReachEnds core ends reach → closing ≡ placed_all ends core.seen.closing
+    → Walks (record core { seen = record core.seen { links = links; heard = heard; reach = reach; closing = closing } }) (end_each (refused_reason t) (refused_links (setting_of conf) t) t)
+walks_refused core conf t ends closing links heard reach walks same are left forgotten reached closed =
+    subst (λ (c : ConfSeen). Walks (record core { seen = record core.seen { links = links; heard = heard; reach = reach; closing = closing } }) (end_each (refused_reason t) (refused_links (setting_of c) t) t)) same
+    (refused_walks core t ends closing links heard reach walks are left forgotten reached closed)
 
 -- after a stop all links, and there is still to keep of them what there was, but what they heard
-pub follows_stop : (core : CoreMeaning) (conf : ConfSeen) (stopped : Bool) (t : Trace) (ends closing : List ℕ) (heard : HeardSeen) → Walks core t → core.conf ≡ conf → stopped ≡ true
-    → ends ≡ numbers core.seen.links → heard ≡ forgotten_all ends core.seen.heard → closing ≡ placed_all ends core.seen.closing
-    → Follows (setting_of conf) (record core.seen { heard = heard; closing = closing }) (end_stopped stopped t)
-follows_stop core conf stopped t ends closing heard walks same stops are forgotten closed =
+stop_follows : (core : CoreMeaning) (stopped : Bool) (t : Trace) (ends closing : List ℕ) (heard : HeardSeen) (reach : ReachSeen) → Walks core t → stopped ≡ true
+    → ends ≡ numbers core.seen.links → heard ≡ forgotten_all ends core.seen.heard → ReachEnds core ends reach → closing ≡ placed_all ends core.seen.closing
+    → Follows (setting_of core.conf) (record core.seen { heard = heard; reach = reach; closing = closing }) (end_stopped stopped t)
+stop_follows core stopped t ends closing heard reach walks stops are forgotten reached closed =
     let follows = follows_stopped (setting_of core.conf) core.seen t walks.follows walks.going ends are in
-    subst (λ b. Follows (setting_of conf) (record core.seen { heard = heard; closing = closing }) (end_stopped b t)) (sym stops)
-    (subst (λ c. Follows (setting_of c) (record core.seen { heard = heard; closing = closing }) (end_stopped true t)) same
-    (subst (λ table. Follows (setting_of core.conf) (record core.seen { heard = table; closing = closing }) (end_stopped true t)) (sym forgotten)
-    (subst (λ cs. Follows (setting_of core.conf) (record core.seen { heard = forgotten_all ends core.seen.heard; closing = cs }) (end_stopped true t)) (sym closed) follows)))
+    subst (λ b. Follows (setting_of core.conf) (record core.seen { heard = heard; reach = reach; closing = closing }) (end_stopped b t)) (sym stops)
+    (subst (λ seen. Follows (setting_of core.conf) seen (end_stopped true t)) (sym (ends_as core ends closing core.seen.links core.seen.links heard reach refl forgotten reached closed)) follows)
+
+pub follows_stop : (core : CoreMeaning) (conf : ConfSeen) (stopped : Bool) (t : Trace) (ends closing : List ℕ) (heard : HeardSeen) (reach : ReachSeen) → Walks core t → core.conf ≡ conf → stopped ≡ true
+    → ends ≡ numbers core.seen.links → heard ≡ forgotten_all ends core.seen.heard → ReachEnds core ends reach → closing ≡ placed_all ends core.seen.closing
+    → Follows (setting_of conf) (record core.seen { heard = heard; reach = reach; closing = closing }) (end_stopped stopped t)
+follows_stop core conf stopped t ends closing heard reach walks same stops are forgotten reached closed =
+    subst (λ (c : ConfSeen). Follows (setting_of c) (record core.seen { heard = heard; reach = reach; closing = closing }) (end_stopped stopped t)) same
+    (stop_follows core stopped t ends closing heard reach walks stops are forgotten reached closed)
+
+-- what a line of a datagram can't be changes nothing
+pub carried_quiet : (core : CoreMeaning) (from : Source) (session : Session) (answer : Option FilterAnswer) → IsDatagram from → core ≡ with_verdict from (LoggedIn session answer) core
+carried_quiet core (source.Link number) session answer datagram = absurd datagram
+carried_quiet core (source.Submit listener) session None datagram = refl
+carried_quiet core (source.Submit listener) session (Some answer) datagram = refl
+carried_quiet core (source.Peer peer) session None datagram = refl
+carried_quiet core (source.Peer peer) session (Some answer) datagram = refl
+
+pub carried_unset : (core : CoreMeaning) (from : Source) (answer : FilterAnswer) → IsDatagram from → core ≡ with_verdict from (Filtered answer) core
+carried_unset core (source.Link number) answer datagram = absurd datagram
+carried_unset core (source.Submit listener) answer datagram = refl
+carried_unset core (source.Peer peer) answer datagram = refl
 
 -- ---- comment lines
 
 pub walks_dated : (core : CoreMeaning) (t : Trace) (before : ℕ) (links : List LinkSeen) (line : List ℕ) → Walks core t → nat_lt (before / comment_seconds) (core.seen.moment / comment_seconds) ≡ true
-    → line ≡ comment_text core.conf.server core.seen.moment → links ≡ map (with_text line) core.seen.links → Walks (relinked links core) (dated before t)
+    → line ≡ comment_text core.conf.server core.seen.moment → links ≡ map (with_date line) core.seen.links → Walks (relinked links core) (dated before t)
 walks_dated core t before links line walks passed is new =
     let s = setting_of core.conf in
     let m = moment_of t in
-    let told : links ≡ map (with_text (comment_text core.conf.server m)) core.seen.links =
-    new ∙ ap (λ text. map (with_text text) core.seen.links) (is ∙ ap (comment_text core.conf.server) walks.follows.moment) in
+    let told : links ≡ map (with_date (comment_text core.conf.server m)) core.seen.links =
+    new ∙ ap (λ text. map (with_date text) core.seen.links) (is ∙ ap (comment_text core.conf.server) walks.follows.moment) in
     let border : nat_lt (before / comment_seconds) (m / comment_seconds) ≡ true = ap (λ n. nat_lt (before / comment_seconds) (n / comment_seconds)) (sym walks.follows.moment) ∙ passed in
     subst (λ b. Walks (relinked links core) (if b then Dated m ∷ t else t)) (sym border) (record {
       follows = subst (λ ls. Follows s (with_links ls core.seen) (Dated m ∷ t)) (sym told) (follows_dated s core.seen t walks.follows walks.going m);

@@ -7,6 +7,5 @@ pub mod PartLemmas
 pub mod RoundLemmas
 pub mod SendLemmas
 pub mod SightLemmas
-pub mod VerdictLemmas
 pub mod WalkLemmas
 pub mod WholeRoundLemmas

@@ -68,6 +68,16 @@ module _ {X : Type 0} (test : X → Bool) where
       list_any_none test xs (λ k d lt. fails_before_first test xs k d (omega arith)))
       (cases_Bool (nat_lt (position_or_len test xs) (length xs)))
 
+  pub position_there : (xs : List X) (i : ℕ) → Some i ≡ position test xs → list_any test xs ≡ true
+  position_there xs i is = there xs (omega (arith, (position_some xs i is).0, (position_some xs i is).1))
+    where
+      there : (xs : List X) → position_or_len test xs < length xs → list_any test xs ≡ true
+      there [] lt = absurd (omega arith)
+      there (x ∷ xs) lt = ⊎_elim
+          (λ here. ap (λ b. b || list_any test xs) here)
+          (λ other. ap (λ b. b || list_any test xs) other ∙ there xs (let later : 1 + position_or_len test xs < length (x ∷ xs) = rw other at lt in omega arith))
+          (cases_Bool (test x))
+
 -- the link that a search found, as a step leaves it
 pub changed_by : (number : ℕ) (step : LinkSeen → LinkSeen) (high : ℕ) (links : List LinkSeen) (place : ℕ) (link new : LinkSeen)
     → Rises 0 (numbers links) high → Some place ≡ position (has_that number) links → link ≡ get_or links place link → new ≡ step link

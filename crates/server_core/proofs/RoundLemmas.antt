@@ -1,5 +1,5 @@
 -- Whole rounds: the history with a round's events, its trace, and the acts that are due after it.
-use Rattle.std.proofs.Common.{◌≡◌, ℕ, ◌+◌, ◌/◌, ◌==◌, nat_lt, length, Bool, true, false, not, ◌&&◌, ◌||◌, List, [], ◌∷◌, ◌++◌, map, filter, refl, sym, ap, ◌∙◌, arith, append-nil, if◌then◌else◌}
+use Rattle.std.proofs.Common.{◌≡◌, ℕ, ◌+◌, ◌/◌, ◌==◌, nat_lt, length, Bool, true, false, not, ◌&&◌, ◌||◌, List, [], ◌∷◌, ◌++◌, map, filter, refl, sym, ap, ◌∙◌, arith, append-nil, Option, Some, None, Result, Ok, Err, if◌then◌else◌}
 use Rattle.std.proofs.lemmas.Bool.{eqb-true, false_from_ne_true, true≢false, false≢true}
 use Rattle.std.proofs.lemmas.Bool.{and_parts}
 use Rattle.aprs_base.specs.Cuts.{cuts_by}
@@ -8,14 +8,21 @@ use Rattle.aprs_base.specs.declared.events.Event.{Event}
 use Rattle.aprs_base.specs.declared.events.Event.TheVariants as event
 use Rattle.aprs_base.specs.declared.events.Sent.TheVariants as sent
 use Rattle.aprs_base.specs.declared.events.Happening.TheVariants as did
-use Rattle.aprs_history.specs.Setting.{Setting}
-use Rattle.aprs_history.specs.Scenes.{scene_of}
-use Rattle.aprs_history.specs.Verdicts.{verdict_of}
+use Rattle.aprs_base.specs.declared.packets.PortKind.{PortKind}
+use Rattle.aprs_base.specs.declared.packets.PortKind.TheVariants as kind
+use Rattle.aprs_base.specs.declared.packets.Source.{Source}
+use Rattle.aprs_base.specs.declared.packets.Source.TheVariants as source
+use Rattle.aprs_base.specs.declared.texts.Addr.{Addr}
+use Rattle.q_construct.specs.declared.origins.Origin.TheVariants as origin
+use Rattle.aprs_history.specs.declared.verdicts.Refusal.{Refusal}
+use Rattle.aprs_history.specs.Setting.{Setting, kind_at, peer_from}
+use Rattle.aprs_history.specs.Scenes.{datagram_scene, scene_of}
+use Rattle.aprs_history.specs.Verdicts.{Scene, submitter_of, verdict_of}
 use Rattle.aprs_history.specs.Trace.{Trace, Dated, FoundGone, RoundBegan, Said, Ticked, Brought, Roomed, Ended, ByPeer, moment_of, stopped_links, served_links, is_live}
 use Rattle.aprs_history.specs.Links.{brought_by, gone_links, is_blocked, late_links, late_reason, taken_by}
 use Rattle.link_queue.specs.Lines.{text_bytes}
 use Rattle.aprs_history.specs.Texts.{lines_of}
-use Rattle.aprs_history.specs.History.{History, open_events, ends_round, is_stop, is_stopped, greatest_link, trace_of, with_event, begun, begin_round, bring, comment_seconds, dated, end_each, end_round, ended, refused_links, refused_reason, say_all}
+use Rattle.aprs_history.specs.History.{History, open_events, ends_round, is_stop, is_stopped, greatest_link, trace_of, with_event, begun, begin_round, bring, comment_seconds, dated, datagram_cuts, end_each, end_round, ended, refused_links, refused_reason, relay, say_all, submit, with_lines}
 use Rattle.aprs_history.specs.Rounds.{is_whole, with_events, events_trace, greatest_after, stopped_after}
 use Rattle.aprs_history.specs.Acts.{acts_after, due, is_offered, offered_links}
 use Rattle.aprs_history.specs.Stands.{CoreSeen, link_seen, Follows}
@@ -105,9 +112,27 @@ due_whole s n (e ∷ next ∷ events) h whole open_is =
 
 -- ---- a stop
 
-said_going : (s : Setting) (k : ℕ) (cuts : List Cut) (t : Trace) → stopped_links (say_all s k cuts t) ≡ stopped_links t
-said_going s k [] t = refl
-said_going s k (cut ∷ cuts) t = said_going s k cuts (Said k cut (verdict_of (scene_of s t k) cut) ∷ t)
+said_going : (scene : Trace → Scene) (from : Source) (cuts : List Cut) (t : Trace) → stopped_links (say_all scene from cuts t) ≡ stopped_links t
+said_going scene from [] t = refl
+said_going scene from (cut ∷ cuts) t = said_going scene from cuts (Said from cut (verdict_of (scene t) cut) ∷ t)
+
+submit_going : (s : Setting) (listener : ℕ) (cut : Cut) (cuts : List Cut) (submitter : Result (List ℕ) Refusal) (t : Trace) → stopped_links (submit s listener cut cuts submitter t) ≡ stopped_links t
+submit_going s listener cut cuts (Err why) t = refl
+submit_going s listener cut cuts (Ok login) t = said_going (datagram_scene s (origin.Udp login)) (source.Submit listener) cuts t
+
+relay_going : (s : Setting) (listener : ℕ) (cut : Cut) (cuts : List Cut) (peer : Option (ℕ × List ℕ)) (t : Trace) → stopped_links (relay s listener cut cuts peer t) ≡ stopped_links t
+relay_going s listener cut cuts None t = refl
+relay_going s listener cut cuts (Some peer) t = said_going (datagram_scene s (origin.Peer peer.1)) (source.Peer peer.0) (cut ∷ cuts) t
+
+lines_going : (s : Setting) (served : Option PortKind) (listener : ℕ) (from : Addr) (cuts : List Cut) (t : Trace) → stopped_links (with_lines s served listener from cuts t) ≡ stopped_links t
+lines_going s served listener from [] t = refl
+lines_going s None listener from (cut ∷ cuts) t = refl
+lines_going s (Some kind.Full) listener from (cut ∷ cuts) t = refl
+lines_going s (Some kind.Igate) listener from (cut ∷ cuts) t = refl
+lines_going s (Some kind.Only) listener from (cut ∷ cuts) t = refl
+lines_going s (Some kind.Dupe) listener from (cut ∷ cuts) t = refl
+lines_going s (Some kind.Submit) listener from (cut ∷ cuts) t = submit_going s listener cut cuts (submitter_of s.server cut) t
+lines_going s (Some kind.Core) listener from (cut ∷ cuts) t = relay_going s listener cut cuts (peer_from 0 s.peers from) t
 
 if_going : (b : Bool) (t u : Trace) → stopped_links t ≡ stopped_links u → stopped_links (if b then t else u) ≡ stopped_links u
 if_going true t u same = same
@@ -120,15 +145,15 @@ dated_going before t = if_going (nat_lt (before / comment_seconds) (moment_of t 
 pub event_going : (s : Setting) (e : Event) (t : Trace) → stopped_links (with_event s e t) ≡ stopped_links t
 event_going s (event.Tick moment) t =
     let now = Ticked moment ∷ t in
-    dated_going (moment_of t) (end_each (late_reason now) (late_links s.client_timeout now) now) ∙ going_after (late_reason now) (late_goes now) (late_links s.client_timeout now) now
+    dated_going (moment_of t) (end_each (late_reason now) (late_links s now) now) ∙ going_after (late_reason now) (late_goes now) (late_links s now) now
 event_going s (event.Opened listener link from) t = refl
-event_going s (event.Bytes link bytes) t = if_going (is_live t link) (bring s link bytes t) t (said_going s link (cuts_by (brought_by t link) bytes) (Brought link bytes ∷ t))
+event_going s (event.Bytes link bytes) t = if_going (is_live t link) (bring s link bytes t) t (said_going (λ now. scene_of s now link) (source.Link link) (cuts_by (brought_by t link) bytes) (Brought link bytes ∷ t))
 event_going s (event.Ended link) t = if_going (is_live t link) (Ended link ByPeer ∷ t) t (append-nil (stopped_links t))
 event_going s (event.Room link) t = if_going (is_live t link) (Roomed link ∷ t) t refl
 event_going s event.Stop t = refl
 event_going s (event.Joined uplink link at) t = refl
 event_going s (event.Unjoined uplink) t = refl
-event_going s (event.Datagram listener from bytes) t = refl
+event_going s (event.Datagram listener from bytes) t = lines_going s (kind_at s listener) listener from (datagram_cuts bytes) t
 
 ended_going : (s : Setting) (ends : Bool) (e : Event) (t : Trace) → is_stop e ≡ false → stopped_links (ended s ends e t) ≡ stopped_links t
 ended_going s true e t no_stop = ap (λ b. stopped_links (end_round s b t)) no_stop ∙ going_after (refused_reason t) (refused_goes t) (refused_links s t) t

@@ -17,17 +17,12 @@ use Rattle.link_queue.specs.Lines.{text_bytes}
 use Rattle.aprs_history.specs.Texts.{lines_of, untaken}
 use Rattle.aprs_history.specs.History.{History, trace_of}
 use Rattle.aprs_history.specs.Rounds.{listens_after}
-use Rattle.aprs_history.specs.Stands.{LinkSeen, CoreSeen, link_seen, Follows, StandsFor, Remembers}
+use Rattle.aprs_history.specs.Stands.{LinkSeen, CoreSeen, link_seen, reach_of, Follows, StandsFor, Remembers}
 use Rattle.server_core.specs.LinkSteps.{at_link, has_number, with_taken, when_gone, pending_at, pending_of}
 use Rattle.server_core.specs.Meaning.{CoreMeaning, setting_of, Stands}
 use Rattle.server_core.proofs.FollowLemmas.{queued-bytes, picked_seen, picked_missing}
 use Rattle.server_core.proofs.WalkLemmas.{follows_took, follows_lost}
-use Rattle.server_core.proofs.CoreLemmas.{relinked}
-
-number_member : (s : Setting) (t : Trace) (k : ℕ) (ks : List ℕ) → has_number k (map (link_seen s t) ks) ≡ is_member k ks
-unfolding link_seen
-number_member s t k [] = refl
-number_member s t k (x ∷ ks) = ap (λ b. (x == k) || b) (number_member s t k ks)
+use Rattle.server_core.proofs.CoreLemmas.{number_member, relinked}
 
 module _ (s : Setting) (core : CoreSeen) (t : Trace) (follows : Follows s core t) (k : ℕ) where
   pending_served : is_member k (served_links t) ≡ true → pending_at k core.links ≡ untaken s t k
@@ -62,6 +57,7 @@ stands_took core links k offered n bytes h size stands part pending new =
       finished = stands.finished;
       follows = record {
         moment = follows.moment;
+        reach = follows.reach;
         turned = follows.turned;
         closing = follows.closing;
         links = new ∙ ap (λ m. map (at_link k (with_taken m n)) core.seen.links) (sym size) ∙ follows.links;
@@ -80,7 +76,7 @@ stands_gone core links k bytes h stands new =
     let follows = follows_lost s core.seen (trace_of s h) stands.follows k in
     record {
       finished = stands.finished;
-      follows = record { moment = follows.moment; turned = follows.turned; closing = follows.closing; links = new ∙ follows.links; tables = follows.tables; took = follows.took };
+      follows = record { moment = follows.moment; reach = follows.reach; turned = follows.turned; closing = follows.closing; links = new ∙ follows.links; tables = follows.tables; took = follows.took };
       greatest = stands.greatest;
       stopped = stands.stopped;
     }
@@ -98,12 +94,13 @@ stands_listening s core (spec ∷ specs) n h stands = stands_listening s core sp
 
 -- nothing has happened
 pub stands_new : (s : Setting) (core : CoreSeen) (hasher : RandomState) → core.moment ≡ 0 → core.links ≡ [] → core.turned ≡ [] → core.closing ≡ [] → core.accepted ≡ [] → core.stations ≡ no_stations hasher → core.heard ≡ nothing hasher
-    → core.greatest ≡ 0 → core.stopped ≡ false → StandsFor s core []
+    → core.reach ≡ reach_of s [] → core.greatest ≡ 0 → core.stopped ≡ false → StandsFor s core []
 unfolding trace_of
-stands_new s core hasher moment links turned closing accepted stations heard greatest stopped = record {
+stands_new s core hasher moment links turned closing accepted stations heard reach greatest stopped = record {
   finished = refl;
   follows = record {
     moment = moment;
+    reach = reach;
     turned = turned;
     closing = closing;
     links = links;

@@ -1,38 +1,47 @@
 -- The walk over a round: what the core keeps follows the trace, entry by entry.
-use Rattle.std.proofs.Common.{◌≡◌, ℕ, ◌+◌, ◌≤◌, ◌<◌, ◌==◌, Bool, true, false, not, ◌||◌, List, [], ◌∷◌, ◌++◌, length, map, filter, refl, sym, ap, ◌∙◌, subst, arith, Option, Some, None, ⊎_elim, append-nil, append_assoc, max, min, eq-eqb, cond, if◌then◌else◌}
+use Rattle.std.proofs.Common.{◌≡◌, ℕ, ◌+◌, ◌≤◌, ◌<◌, ◌==◌, Bool, true, false, not, ◌||◌, ◌&&◌, List, [], ◌∷◌, ◌++◌, length, map, filter, refl, sym, ap, ◌∙◌, subst, arith, Option, Some, None, ⊎_elim, append-nil, append_assoc, max, min, eq-eqb, cond, if◌then◌else◌}
+use Rattle.std.specs.Bool.{⊤}
 use Rattle.std.proofs.lemmas.Bool.{eqb-true, cases_Bool, false_from_ne_true, true≢false}
 use Rattle.aprs_base.specs.Held.{held_after}
 use Rattle.aprs_base.specs.declared.texts.Addr.{Addr}
 use Rattle.aprs_base.specs.declared.cutting.Cut.{Cut}
 use Rattle.aprs_base.specs.declared.packets.Parts.{Parts}
-use Rattle.aprs_base.specs.declared.packets.PortKind.{PortKind}
+use Rattle.aprs_base.specs.declared.packets.Source.{Source}
+use Rattle.aprs_base.specs.declared.packets.Source.TheVariants as source
 use Rattle.heard_routing.specs.Heard.{HeardSeen, without_link}
 use Rattle.station_table.specs.Last.{Agrees}
 use Rattle.station_table.proofs.LastSeen.{note_agrees}
 use Rattle.aprs_history.specs.declared.verdicts.FilterAnswer.{FilterAnswer}
 use Rattle.aprs_history.specs.declared.verdicts.Session.{Session}
+use Rattle.aprs_history.specs.declared.verdicts.LinkKind.{LinkKind}
 use Rattle.aprs_history.specs.declared.verdicts.Refusal.{Refusal}
+use Rattle.aprs_history.specs.declared.verdicts.Refusal.TheVariants as refusal
+use Rattle.uplinks_peers.specs.declared.uplinks.UpEvent.TheVariants as up
+use Rattle.uplinks_peers.specs.Uplinks.{UplinksSeen, acts_at, uplinks_after}
+use Rattle.aprs_history.specs.Dials.{casts_of, casts_to, dial_of, joined_by, uplinks_of}
 use Rattle.aprs_history.specs.declared.verdicts.Verdict.{Verdict}
 use Rattle.aprs_history.specs.declared.verdicts.Verdict.TheVariants.{PassedOver, Refused, LoggedIn, Filtered, Accepted}
 use Rattle.aprs_history.specs.Setting.{Setting}
 use Rattle.aprs_history.specs.declared.verdicts.Admission.{Admission}
-use Rattle.aprs_history.specs.declared.verdicts.Admission.TheVariants.{NoPort, TurnedAway, Served}
-use Rattle.aprs_history.specs.Trace.{Trace, RoundBegan, Dated, Ticked, Opened, Brought, Said, Roomed, Took, Lost, Ended, EndReason, FoundGone, ByPeer, ByStop, Full, NoLogin, Overfull, Silent, closed_links, is_closing, live_links, opened_link, placed, placed_all, stopped_link, stopped_links, served_links, turned_links, is_live, is_member, is_other, moment_of, last_moment}
-use Rattle.aprs_history.specs.Links.{brought_by, opening_of, taken_by, is_gone, gone_links, is_late, is_nameless, late_links, late_reason}
-use Rattle.aprs_history.specs.Scenes.{accepted_of, has_filters, packet_of}
+use Rattle.aprs_history.specs.declared.verdicts.Admission.TheVariants.{NoPort, NotAsked, TurnedAway, Served}
+use Rattle.aprs_history.specs.Trace.{Trace, Door, RoundBegan, Dated, Looked, Unjoined, Ticked, Opened, Brought, Said, Roomed, Took, Lost, Ended, EndReason, FoundGone, ByPeer, ByStop, Full, NoLogin, Overfull, Silent, Unasked, closed_links, is_closing, live_links, opened_link, placed, placed_all, stopped_link, stopped_links, served_links, turned_links, is_from, is_unasked, is_live, is_member, is_other, moment_of, last_moment}
+use Rattle.aprs_history.specs.Links.{Opening, brought_by, has_filters, is_client, is_client_link, is_submitted, opening_of, taken_by, is_gone, gone_links, is_late, is_nameless, late_links, late_reason}
+use Rattle.aprs_history.specs.Scenes.{accepted_of, packet_of}
 use Rattle.aprs_history.specs.Messages.{heard_of, promise_of}
 use Rattle.aprs_history.specs.Sights.{friend_in, is_gate_at, sighting}
 use Rattle.link_queue.specs.Lines.{text_bytes}
-use Rattle.aprs_history.specs.Texts.{comment_line, lines_of, over_links, text_to, added_by, login_reply, refusal_reply}
-use Rattle.aprs_history.specs.Stands.{LinkSeen, CoreSeen, link_seen, TookNoMore, Follows, Keeps, Remembers}
+use Rattle.aprs_history.specs.Texts.{comment_line, first_line, lines_of, over_links, refused_lines, reply_lines, text_to, added_by, login_reply, refusal_reply}
+use Rattle.aprs_history.specs.Stands.{LinkSeen, CoreSeen, ReachSeen, link_seen, reach_of, TookNoMore, Follows, Keeps, Remembers}
 use Rattle.aprs_history.specs.Dates.{comment_text}
 use Rattle.aprs_history.specs.History.{end_all, end_each, end_gone, refused_links, refused_reason}
-use Rattle.server_core.specs.LinkSteps.{filters_at, filters_kept, forgotten_all, hearers_of, is_lost, owed_in, receiver_of, after_answer, after_login, after_login_answer, after_packet, after_verdict, found_in, has_that, with_answer, with_reply, at_link, at_moment, with_room, when_gone, with_taken, with_bytes, with_text, with_session, with_packet, new_link_seen, numbers, is_there, is_another, is_in_time, is_late_link, is_none_of, is_overfull, Rises}
+use Rattle.server_core.specs.LinkSteps.{at_source, client_at, client_kept, ended_all, submitted_from, with_date, with_refusal, with_shown, filters_at, filters_kept, forgotten_all, hearers_of, is_lost, owed_in, receiver_of, after_answer, after_login, after_login_answer, after_packet, after_verdict, found_in, has_that, with_answer, with_reply, at_link, at_moment, with_room, when_gone, with_taken, with_bytes, with_text, with_session, with_packet, new_link_seen, numbers, is_there, is_another, is_in_time, is_late_link, is_none_of, is_overfull, Rises}
 use Rattle.server_core.specs.declared.link.SourcePlace.{SourcePlace}
+use Rattle.server_core.specs.declared.link.Timeouts.{Timeouts}
+use Rattle.aprs_history.proofs.EntryLemmas.{IsSaidBy}
 use Rattle.server_core.proofs.SightLemmas.{answer_same, friends_found, map_same, sighting_found, source_known}
 use Rattle.server_core.proofs.MemberLemmas.{eqb_turned, member_filtered, member_later}
-use Rattle.server_core.proofs.HeardLemmas.{hearers_are, owed_are, remembers_accepted, remembers_all_ended, remembers_ended, remembers_opened, remembers_unserved}
-use Rattle.server_core.proofs.FollowLemmas.{picked_missing, picked_seen, answered_seen, map_through, dated_seen, round_seen, text_number, texts_grow, ticked_seen, with_login, roomed_seen, lost_seen, took_seen, brought_seen, refused_seen, replied_seen, passed_seen, login_seen, accepted_seen, opened_seen, new_seen}
+use Rattle.server_core.proofs.HeardLemmas.{Speaks, hearers_are, owed_are, remembers_accepted, remembers_all_ended, remembers_ended, remembers_opened, remembers_unserved}
+use Rattle.server_core.proofs.FollowLemmas.{picked_missing, picked_seen, answered_seen, map_through, dated_seen, round_seen, text_number, texts_grow, ticked_seen, with_login, roomed_seen, lost_seen, took_seen, brought_seen, refused_seen, replied_seen, passed_seen, login_seen, accepted_seen, opened_seen, new_seen, shown_seen, looked_seen, unjoined_seen}
 
 -- ---- lists of numbers
 
@@ -79,26 +88,26 @@ member_below low high (n ∷ ns) x rises member =
 
 -- ---- no link takes more than its text
 
--- entries that leave live links, and what they heard and were promised, leave what a table remembers
-remembers_as : (table : HeardSeen) (t u : Trace) → ((l : ℕ) → is_live u l ≡ is_live t l) → ((l : ℕ) (call : List ℕ) → heard_of u l call ≡ heard_of t l call)
+-- entries that leave live links and clients, and what they heard and were promised, leave what a table remembers
+remembers_as : (table : HeardSeen) (t u : Trace) → ((l : ℕ) → is_live u l ≡ is_live t l) → ((l : ℕ) → is_client u l ≡ is_client t l) → ((l : ℕ) (call : List ℕ) → heard_of u l call ≡ heard_of t l call)
     → ((l : ℕ) (sender : List ℕ) → promise_of u l sender ≡ promise_of t l sender) → Remembers table t → Remembers table u
-remembers_as table t u live heard promised remembers = record {
+remembers_as table t u live client heard promised remembers = record {
   once_heard = remembers.once_heard;
   once_promised = remembers.once_promised;
-  heard = λ l call. remembers.heard l call ∙ ap (λ b. if b then heard_of t l call else None) (sym (live l)) ∙ ap (λ told. if is_live u l then told else None) (sym (heard l call));
+  heard = λ l call. remembers.heard l call ∙ ap (λ b. if b then heard_of t l call else None) (sym (client l)) ∙ ap (λ told. if is_client u l then told else None) (sym (heard l call));
   promised = λ l sender. remembers.promised l sender ∙ ap (λ b. if b then promise_of t l sender else None) (sym (live l)) ∙ ap (λ told. if is_live u l then told else None) (sym (promised l sender));
 }
 
 module _ (s : Setting) where
-  took_said : (t : Trace) → TookNoMore s t → (k : ℕ) (cut : Cut) (verdict : Verdict) → TookNoMore s (Said k cut verdict ∷ t)
+  took_said : (t : Trace) → TookNoMore s t → (k : Source) (cut : Cut) (verdict : Verdict) → TookNoMore s (Said k cut verdict ∷ t)
   took_said t took k cut verdict j = texts_grow (taken_by t j) (added_by s t k verdict j) (text_to s t j) (taken_by t j) (took j)
 
   took_dated : (t : Trace) → TookNoMore s t → (moment : ℕ) → TookNoMore s (Dated moment ∷ t)
   took_dated t took moment j =
-      texts_grow (taken_by t j) (if is_live t j then comment_line s.server moment ∷ [] else []) (text_to s t j) (taken_by t j) (took j)
+      texts_grow (taken_by t j) (if is_client t j then comment_line s.server moment ∷ [] else []) (text_to s t j) (taken_by t j) (took j)
 
-  took_opened : (t : Trace) → TookNoMore s t → (listener : ℕ) (admission : Admission) (k : ℕ) (from : Addr) → TookNoMore s (Opened listener admission k from ∷ t)
-  took_opened t took listener admission k from j = ⊎_elim (λ here. rw here (omega arith)) (λ other. rw other (took j)) (cases_Bool (j == k))
+  took_opened : (t : Trace) → TookNoMore s t → (door : Door) (admission : Admission) (k : ℕ) (from : Addr) → TookNoMore s (Opened door admission k from ∷ t)
+  took_opened t took door admission k from j = ⊎_elim (λ here. rw here (omega arith)) (λ other. rw other (took j)) (cases_Bool (j == k))
 
   took_took : (t : Trace) → TookNoMore s t → (k offered n : ℕ) → taken_by t k + n ≤ length (text_bytes (lines_of s t k)) → TookNoMore s (Took k offered n ∷ t)
   took_took t took k offered n le j =
@@ -130,59 +139,66 @@ with_links links core = record core { links = links }
 abbrev pub with_heard : HeardSeen → CoreSeen → CoreSeen
 with_heard heard core = record core { heard = heard }
 
+abbrev pub with_reach : ReachSeen → CoreSeen → CoreSeen
+with_reach reach core = record core { reach = reach }
+
 abbrev pub with_moment : ℕ → CoreSeen → CoreSeen
 with_moment moment core = record core { moment = moment; links = map (at_moment moment) core.links }
 
 module _ (s : Setting) (core : CoreSeen) (t : Trace) (follows : Follows s core t) where
   -- entries that accept nothing, and leave live links with what they heard and were promised, leave what the tables have
-  same_tables : (u : Trace) → accepted_of u ≡ accepted_of t → ((l : ℕ) → is_live u l ≡ is_live t l) → ((l : ℕ) (call : List ℕ) → heard_of u l call ≡ heard_of t l call)
+  same_tables : (u : Trace) → accepted_of u ≡ accepted_of t → ((l : ℕ) → is_live u l ≡ is_live t l) → ((l : ℕ) → is_client u l ≡ is_client t l) → ((l : ℕ) (call : List ℕ) → heard_of u l call ≡ heard_of t l call)
       → ((l : ℕ) (sender : List ℕ) → promise_of u l sender ≡ promise_of t l sender) → Keeps core.accepted core.stations core.heard u
-  same_tables u accepted live heard promised = record {
+  same_tables u accepted live client heard promised = record {
     accepted = follows.tables.accepted ∙ sym accepted;
     stations = subst (Agrees core.stations) (sym accepted) follows.tables.stations;
-    heard = remembers_as core.heard t u live heard promised follows.tables.heard;
+    heard = remembers_as core.heard t u live client heard promised follows.tables.heard;
   }
 
   -- a round begins
-  pub follows_began : Follows s (record core { turned = []; closing = [] }) (RoundBegan ∷ t)
+  pub follows_began : Follows s (record core { turned = []; closing = []; reach = record core.reach { dial = None; casts = [] } }) (RoundBegan ∷ t)
   follows_began = record {
     moment = follows.moment;
+    reach = ap (λ (reach : ReachSeen). record reach { dial = None; casts = [] }) follows.reach;
     turned = refl;
     closing = refl;
     links = follows.links ∙ sym (map_on (link_seen s (RoundBegan ∷ t)) (link_seen s t) (served_links t) (λ j member. round_seen s t j));
-    tables = same_tables (RoundBegan ∷ t) refl (λ l. refl) (λ l call. refl) (λ l sender. refl);
+    tables = same_tables (RoundBegan ∷ t) refl (λ l. refl) (λ l. refl) (λ l call. refl) (λ l sender. refl);
     took = follows.took;
   }
 
   pub follows_ticked : (m : ℕ) → Follows s (with_moment (max (min m last_moment) core.moment) core) (Ticked m ∷ t)
   follows_ticked m = record {
     moment = ap (max (min m last_moment)) follows.moment;
+    reach = follows.reach;
     turned = follows.turned;
     closing = follows.closing;
     links = ap (λ now. map (at_moment (max (min m last_moment) now)) core.links) follows.moment
         ∙ ap (map (at_moment (moment_of (Ticked m ∷ t)))) follows.links
         ∙ sym (map_through (link_seen s (Ticked m ∷ t)) (at_moment (moment_of (Ticked m ∷ t))) (link_seen s t) (ticked_seen s t m) (served_links t));
-    tables = same_tables (Ticked m ∷ t) refl (λ l. refl) (λ l call. refl) (λ l sender. refl);
+    tables = same_tables (Ticked m ∷ t) refl (λ l. refl) (λ l. refl) (λ l call. refl) (λ l sender. refl);
     took = follows.took;
   }
 
   pub follows_roomed : (k : ℕ) → Follows s (with_links (map (at_link k with_room) core.links) core) (Roomed k ∷ t)
   follows_roomed k = record {
     moment = follows.moment;
+    reach = follows.reach;
     turned = follows.turned;
     closing = follows.closing;
     links = ap (map (at_link k with_room)) follows.links ∙ sym (map_through (link_seen s (Roomed k ∷ t)) (at_link k with_room) (link_seen s t) (roomed_seen s t k) (served_links t));
-    tables = same_tables (Roomed k ∷ t) refl (λ l. refl) (λ l call. refl) (λ l sender. refl);
+    tables = same_tables (Roomed k ∷ t) refl (λ l. refl) (λ l. refl) (λ l call. refl) (λ l sender. refl);
     took = follows.took;
   }
 
   pub follows_lost : (k : ℕ) → Follows s (with_links (map (at_link k when_gone) core.links) core) (Lost k ∷ t)
   follows_lost k = record {
     moment = follows.moment;
+    reach = follows.reach;
     turned = follows.turned;
     closing = follows.closing;
     links = ap (map (at_link k when_gone)) follows.links ∙ sym (map_through (link_seen s (Lost k ∷ t)) (at_link k when_gone) (link_seen s t) (lost_seen s t k) (served_links t));
-    tables = same_tables (Lost k ∷ t) refl (λ l. refl) (λ l call. refl) (λ l sender. refl);
+    tables = same_tables (Lost k ∷ t) refl (λ l. refl) (λ l. refl) (λ l call. refl) (λ l sender. refl);
     took = follows.took;
   }
 
@@ -190,125 +206,196 @@ module _ (s : Setting) (core : CoreSeen) (t : Trace) (follows : Follows s core t
       → Follows s (with_links (map (at_link k (with_taken offered n)) core.links) core) (Took k offered n ∷ t)
   follows_took k offered n le = record {
     moment = follows.moment;
+    reach = follows.reach;
     turned = follows.turned;
     closing = follows.closing;
     links = ap (map (at_link k (with_taken offered n))) follows.links
         ∙ sym (map_through (link_seen s (Took k offered n ∷ t)) (at_link k (with_taken offered n)) (link_seen s t) (took_seen s t k offered n) (served_links t));
-    tables = same_tables (Took k offered n ∷ t) refl (λ l. refl) (λ l call. refl) (λ l sender. refl);
+    tables = same_tables (Took k offered n ∷ t) refl (λ l. refl) (λ l. refl) (λ l call. refl) (λ l sender. refl);
     took = took_took s t follows.took k offered n le;
   }
 
+  -- what there is for other servers, once a step was taken at the moment
+  stepped_reach : (step : ℕ → UplinksSeen → UplinksSeen) → record core.reach { uplinks = step core.moment core.reach.uplinks } ≡ record (reach_of s t) { uplinks = step (moment_of t) (uplinks_of s t) }
+  stepped_reach step =
+      ap (λ m. record core.reach { uplinks = step m core.reach.uplinks }) follows.moment ∙ ap (λ (reach : ReachSeen). record reach { uplinks = step (moment_of t) reach.uplinks }) follows.reach
+
   pub follows_brought : (k : ℕ) (bytes : List ℕ)
-      → Follows s (with_links (map (at_link k (with_bytes core.moment (held_after (brought_by t k ++ bytes)))) core.links) core) (Brought k bytes ∷ t)
+      → Follows s (with_reach (record core.reach { uplinks = uplinks_after (up.Heard k) core.moment core.reach.uplinks })
+      (with_links (map (at_link k (with_bytes core.moment (held_after (brought_by t k ++ bytes)))) core.links) core)) (Brought k bytes ∷ t)
   follows_brought k bytes = record {
     moment = follows.moment;
+    reach = stepped_reach (uplinks_after (up.Heard k));
     turned = follows.turned;
     closing = follows.closing;
     links = ap (λ m. map (at_link k (with_bytes m (held_after (brought_by t k ++ bytes)))) core.links) follows.moment
         ∙ ap (map (at_link k (with_bytes (moment_of t) (held_after (brought_by t k ++ bytes))))) follows.links
         ∙ sym (map_through (link_seen s (Brought k bytes ∷ t)) (at_link k (with_bytes (moment_of t) (held_after (brought_by t k ++ bytes)))) (link_seen s t)
         (brought_seen s t k bytes) (served_links t));
-    tables = same_tables (Brought k bytes ∷ t) refl (λ l. refl) (λ l call. refl) (λ l sender. refl);
+    tables = same_tables (Brought k bytes ∷ t) refl (λ l. refl) (λ l. refl) (λ l call. refl) (λ l sender. refl);
     took = follows.took;
   }
 
-  follows_passed : (k : ℕ) (cut : Cut) → Follows s core (Said k cut PassedOver ∷ t)
-  follows_passed k cut = record {
+  -- an uplink may be dialled
+  pub follows_looked : Follows s (with_reach (record core.reach {
+    uplinks = uplinks_after up.Tick core.moment core.reach.uplinks;
+    dial = (acts_at up.Tick core.moment core.reach.uplinks).dial;
+  }) core) (Looked ∷ t)
+  follows_looked = record {
     moment = follows.moment;
+    reach = ap (λ m. record core.reach { uplinks = uplinks_after up.Tick m core.reach.uplinks; dial = (acts_at up.Tick m core.reach.uplinks).dial }) follows.moment
+        ∙ ap (λ (reach : ReachSeen). record reach { uplinks = uplinks_after up.Tick (moment_of t) reach.uplinks; dial = (acts_at up.Tick (moment_of t) reach.uplinks).dial }) follows.reach;
     turned = follows.turned;
     closing = follows.closing;
-    links = follows.links ∙ sym (map_on (link_seen s (Said k cut PassedOver ∷ t)) (link_seen s t) (served_links t) (λ j member. passed_seen s t k cut j));
-    tables = same_tables (Said k cut PassedOver ∷ t) (append-nil (accepted_of t)) (λ l. refl) (λ l call. refl) (λ l sender. refl);
-    took = took_said s t follows.took k cut PassedOver;
+    links = follows.links ∙ sym (map_on (link_seen s (Looked ∷ t)) (link_seen s t) (served_links t) (λ j member. looked_seen s t j));
+    tables = same_tables (Looked ∷ t) refl (λ l. refl) (λ l. refl) (λ l call. refl) (λ l sender. refl);
+    took = follows.took;
   }
 
-  follows_told : (k : ℕ) (cut : Cut) (why : Refusal) (reply : Option (List ℕ)) → reply ≡ refusal_reply why
-      → Follows s (with_links (with_reply k reply core.links) core) (Said k cut (Refused why) ∷ t)
-  follows_told k cut why None none = record {
+  pub follows_unjoined : (uplink : ℕ) → Follows s (with_reach (record core.reach { uplinks = uplinks_after (up.Unjoined uplink) core.moment core.reach.uplinks }) core) (Unjoined uplink ∷ t)
+  follows_unjoined uplink = record {
     moment = follows.moment;
+    reach = stepped_reach (uplinks_after (up.Unjoined uplink));
     turned = follows.turned;
     closing = follows.closing;
-    links = follows.links ∙ sym (map_on (link_seen s (Said k cut (Refused why) ∷ t)) (link_seen s t) (served_links t) (λ j member. refused_seen s t k cut why j none));
-    tables = same_tables (Said k cut (Refused why) ∷ t) (append-nil (accepted_of t)) (λ l. refl) (λ l call. refl) (λ l sender. refl);
-    took = took_said s t follows.took k cut (Refused why);
-  }
-  follows_told k cut why (Some line) some = record {
-    moment = follows.moment;
-    turned = follows.turned;
-    closing = follows.closing;
-    links = ap (map (at_link k (with_text line))) follows.links
-        ∙ sym (map_through (link_seen s (Said k cut (Refused why) ∷ t)) (at_link k (with_text line)) (link_seen s t)
-        (λ j. replied_seen s t follows.took k cut why line j some) (served_links t));
-    tables = same_tables (Said k cut (Refused why) ∷ t) (append-nil (accepted_of t)) (λ l. refl) (λ l call. refl) (λ l sender. refl);
-    took = took_said s t follows.took k cut (Refused why);
+    links = follows.links ∙ sym (map_on (link_seen s (Unjoined uplink ∷ t)) (link_seen s t) (served_links t) (λ j member. unjoined_seen s t uplink j));
+    tables = same_tables (Unjoined uplink ∷ t) refl (λ l. refl) (λ l. refl) (λ l call. refl) (λ l sender. refl);
+    took = follows.took;
   }
 
-  follows_refused : (k : ℕ) (cut : Cut) (why : Refusal) → Follows s (with_links (with_reply k (refusal_reply why) core.links) core) (Said k cut (Refused why) ∷ t)
-  follows_refused k cut why = follows_told k cut why (refusal_reply why) refl
+  -- a line that isn't accepted is for no peer
+  no_casts : core.reach ≡ record (reach_of s t) { casts = casts_of s t ++ [] }
+  no_casts = follows.reach ∙ ap (λ casts. record (reach_of s t) { casts = casts }) (sym (append-nil (casts_of s t)))
+
+  -- a step at the link whose line it is
+  stepped_at : (from : Source) (step : LinkSeen → LinkSeen) (u : Trace) → ((j : ℕ) → link_seen s u j ≡ (if is_from j from then step (link_seen s t j) else link_seen s t j))
+      → at_source from step core.links ≡ map (link_seen s u) (served_links t)
+  unfolding link_seen
+  stepped_at (source.Link k) step u same =
+      ap (map (at_link k step)) follows.links ∙ sym (map_through (link_seen s u) (at_link k step) (link_seen s t) same (served_links t))
+  stepped_at (source.Submit listener) step u same = follows.links ∙ sym (map_on (link_seen s u) (link_seen s t) (served_links t) (λ j member. same j))
+  stepped_at (source.Peer peer) step u same = follows.links ∙ sym (map_on (link_seen s u) (link_seen s t) (served_links t) (λ j member. same j))
+
+  follows_passed : (from : Source) (cut : Cut) → Follows s core (Said from cut PassedOver ∷ t)
+  follows_passed from cut = record {
+    moment = follows.moment;
+    reach = no_casts;
+    turned = follows.turned;
+    closing = follows.closing;
+    links = follows.links ∙ sym (map_on (link_seen s (Said from cut PassedOver ∷ t)) (link_seen s t) (served_links t) (λ j member. passed_seen s t from cut j));
+    tables = same_tables (Said from cut PassedOver ∷ t) (append-nil (accepted_of t)) (λ l. refl) (λ l. refl) (λ l call. refl) (λ l sender. refl);
+    took = took_said s t follows.took from cut PassedOver;
+  }
+
+  -- a line that is refused, with a reply or without
+  refused_as : (from : Source) (cut : Cut) (why : Refusal) (links : List LinkSeen) → links ≡ map (link_seen s (Said from cut (Refused why) ∷ t)) (served_links t)
+      → Follows s (with_links links core) (Said from cut (Refused why) ∷ t)
+  refused_as from cut why links are = record {
+    moment = follows.moment;
+    reach = no_casts;
+    turned = follows.turned;
+    closing = follows.closing;
+    links = are;
+    tables = same_tables (Said from cut (Refused why) ∷ t) (append-nil (accepted_of t)) (λ l. refl) (λ l. refl) (λ l call. refl) (λ l sender. refl);
+    took = took_said s t follows.took from cut (Refused why);
+  }
+
+  follows_told : (from : Source) (cut : Cut) (why : Refusal) (reply : Option (List ℕ)) → ((j : ℕ) → refused_lines t from why j ≡ (if is_from j from then reply_lines (refusal_reply why) else [])) → reply ≡ refusal_reply why
+      → Follows s (with_links (with_reply from reply core.links) core) (Said from cut (Refused why) ∷ t)
+  follows_told from cut why None plain none =
+      refused_as from cut why core.links
+      (follows.links ∙ sym (map_on (link_seen s (Said from cut (Refused why) ∷ t)) (link_seen s t) (served_links t) (λ j member. refused_seen s t from cut why j (plain j) none)))
+  follows_told from cut why (Some line) plain some =
+      refused_as from cut why (at_source from (with_text line) core.links)
+      (stepped_at from (with_text line) (Said from cut (Refused why) ∷ t) (λ j. replied_seen s t follows.took from cut why line j (plain j) some))
+
+  follows_shown : stopped_links t ≡ [] → (from : Source) (cut : Cut) (parts : Parts) (line : List ℕ)
+      → Follows s (with_links (map (with_shown from line) core.links) core) (Said from cut (Refused (refusal.Duplicate parts line)) ∷ t)
+  follows_shown going from cut parts line =
+      let u = Said from cut (Refused (refusal.Duplicate parts line)) ∷ t in
+      refused_as from cut (refusal.Duplicate parts line) (map (with_shown from line) core.links)
+      (ap (map (with_shown from line)) follows.links ∙ map_twice (with_shown from line) (link_seen s t) (served_links t)
+      ∙ sym (map_on (link_seen s u) (λ j. with_shown from line (link_seen s t j)) (served_links t)
+      (λ j member. shown_seen s t follows.took from cut parts line j (subst (λ stopped. is_member j (stopped ++ live_links t) ≡ true) going member))))
+
+  follows_refused : stopped_links t ≡ [] → (from : Source) (cut : Cut) (why : Refusal) → Follows s (with_links (with_refusal from why core.links) core) (Said from cut (Refused why) ∷ t)
+  follows_refused going from cut (refusal.Duplicate parts line) = follows_shown going from cut parts line
+  follows_refused going from cut refusal.Long = follows_told from cut refusal.Long None (λ j. refl) refl
+  follows_refused going from cut (refusal.Login fault) = follows_told from cut (refusal.Login fault) (refusal_reply (refusal.Login fault)) (λ j. refl) refl
+  follows_refused going from cut refusal.OwnName = follows_told from cut refusal.OwnName (refusal_reply refusal.OwnName) (λ j. refl) refl
+  follows_refused going from cut refusal.ReadOnly = follows_told from cut refusal.ReadOnly None (λ j. refl) refl
+  follows_refused going from cut refusal.Stranger = follows_told from cut refusal.Stranger None (λ j. refl) refl
+  follows_refused going from cut (refusal.Packet fault) = follows_told from cut (refusal.Packet fault) None (λ j. refl) refl
+  follows_refused going from cut (refusal.Path drop') = follows_told from cut (refusal.Path drop') None (λ j. refl) refl
 
   -- where the calls of terms are found is where the trace says that they were last seen
-  answers_agree : (k : ℕ) (answer : FilterAnswer) (links : List LinkSeen)
-      → map (at_link k (with_answer (found_in core.moment core.stations) answer)) links ≡ map (at_link k (with_answer (friend_in (accepted_of t) (moment_of t)) answer)) links
-  answers_agree k answer links =
+  answers_agree : (from : Source) (answer : FilterAnswer) (links : List LinkSeen)
+      → at_source from (with_answer (found_in core.moment core.stations) answer) links ≡ at_source from (with_answer (friend_in (accepted_of t) (moment_of t)) answer) links
+  answers_agree (source.Link k) answer links =
       map_same (at_link k (with_answer (found_in core.moment core.stations) answer)) (at_link k (with_answer (friend_in (accepted_of t) (moment_of t)) answer))
       (λ link. ap (λ answered. if has_that k link then answered else link)
       (answer_same (found_in core.moment core.stations) (friend_in (accepted_of t) (moment_of t)) (friends_found core (accepted_of t) (moment_of t) follows.moment follows.tables.stations) answer link)) links
+  answers_agree (source.Submit listener) answer links = refl
+  answers_agree (source.Peer peer) answer links = refl
 
-  follows_answer : (k : ℕ) (cut : Cut) (answer : FilterAnswer) → Follows s (after_answer k answer core) (Said k cut (Filtered answer) ∷ t)
-  follows_answer k cut answer = record {
+  follows_answer : (from : Source) (cut : Cut) (answer : FilterAnswer) → Follows s (after_answer from answer core) (Said from cut (Filtered answer) ∷ t)
+  follows_answer from cut answer = record {
     moment = follows.moment;
+    reach = no_casts;
     turned = follows.turned;
     closing = follows.closing;
-    links = answers_agree k answer core.links
-        ∙ ap (map (at_link k (with_answer (friend_in (accepted_of t) (moment_of t)) answer))) follows.links
-        ∙ sym (map_through (link_seen s (Said k cut (Filtered answer) ∷ t)) (at_link k (with_answer (friend_in (accepted_of t) (moment_of t)) answer)) (link_seen s t)
-        (answered_seen s t follows.took k cut answer) (served_links t));
-    tables = same_tables (Said k cut (Filtered answer) ∷ t) (append-nil (accepted_of t)) (λ l. refl) (λ l call. refl) (λ l sender. refl);
-    took = took_said s t follows.took k cut (Filtered answer);
+    links = answers_agree from answer core.links
+        ∙ stepped_at from (with_answer (friend_in (accepted_of t) (moment_of t)) answer) (Said from cut (Filtered answer) ∷ t) (answered_seen s t follows.took from cut answer);
+    tables = same_tables (Said from cut (Filtered answer) ∷ t) (append-nil (accepted_of t)) (λ l. refl) (λ l. refl) (λ l call. refl) (λ l sender. refl);
+    took = took_said s t follows.took from cut (Filtered answer);
   }
 
-  logged_links : (k : ℕ) (session : Session) (answer : Option FilterAnswer)
-      → (after_login_answer k answer (after_login s.server k session core)).links
-      ≡ map (at_link k (with_login (accepted_of t) (moment_of t) session (login_reply s.server session) answer)) core.links
-  logged_links k session None =
-      ap (λ place. map (at_link k (with_session session place (login_reply s.server session))) core.links)
+  at_source_twice : (from : Source) (g h : LinkSeen → LinkSeen) → ((link : LinkSeen) → (h link).link ≡ link.link) → (links : List LinkSeen)
+      → at_source from g (at_source from h links) ≡ at_source from (λ l. g (h l)) links
+  at_source_twice (source.Link k) g h keeps links = map_twice (at_link k g) (at_link k h) links ∙ map_same (λ link. at_link k g (at_link k h link)) (at_link k (λ l. g (h l))) (at_twice k g h keeps) links
+  at_source_twice (source.Submit listener) g h keeps links = refl
+  at_source_twice (source.Peer peer) g h keeps links = refl
+
+  logged_links : (from : Source) (session : Session) (answer : Option FilterAnswer)
+      → (after_login_answer from answer (after_login s.server from session core)).links
+      ≡ at_source from (with_login (accepted_of t) (moment_of t) session (login_reply s.server session) answer) core.links
+  logged_links from session None =
+      ap (λ place. at_source from (with_session session place (login_reply s.server session)) core.links)
       (sighting_found core (accepted_of t) (moment_of t) follows.moment follows.tables.stations session.call)
-  logged_links k session (Some answer) =
+  logged_links from session (Some answer) =
       let reply = login_reply s.server session in
       let logged = with_session session (sighting (accepted_of t) (moment_of t) session.call) reply in
       let answered = with_answer (friend_in (accepted_of t) (moment_of t)) answer in
-      ap (λ place. map (at_link k (with_answer (found_in core.moment core.stations) answer)) (map (at_link k (with_session session place reply)) core.links))
+      ap (λ place. at_source from (with_answer (found_in core.moment core.stations) answer) (at_source from (with_session session place reply) core.links))
       (sighting_found core (accepted_of t) (moment_of t) follows.moment follows.tables.stations session.call)
-      ∙ answers_agree k answer (map (at_link k logged) core.links)
-      ∙ map_twice (at_link k answered) (at_link k logged) core.links
-      ∙ map_same (λ link. at_link k answered (at_link k logged link)) (at_link k (λ link. answered (logged link))) (at_twice k answered logged (λ link. text_number reply (record link { session = Some session; mine = sighting (accepted_of t) (moment_of t) session.call }))) core.links
+      ∙ answers_agree from answer (at_source from logged core.links)
+      ∙ at_source_twice from answered logged (λ link. text_number reply (record link { session = Some session; mine = sighting (accepted_of t) (moment_of t) session.call })) core.links
 
-  follows_login : (k : ℕ) (cut : Cut) (session : Session) (answer : Option FilterAnswer)
-      → Follows s (after_login_answer k answer (after_login s.server k session core)) (Said k cut (LoggedIn session answer) ∷ t)
-  follows_login k cut session answer = logged_in answer (logged_links k session answer ∙ ap (map step) follows.links
-      ∙ sym (map_through (link_seen s (Said k cut (LoggedIn session answer) ∷ t)) step (link_seen s t) (login_seen s t follows.took k cut session answer) (served_links t)))
+  follows_login : (from : Source) (cut : Cut) (session : Session) (answer : Option FilterAnswer)
+      → Follows s (after_login_answer from answer (after_login s.server from session core)) (Said from cut (LoggedIn session answer) ∷ t)
+  follows_login from cut session answer = logged_in answer (logged_links from session answer
+      ∙ stepped_at from (with_login (accepted_of t) (moment_of t) session (login_reply s.server session) answer) (Said from cut (LoggedIn session answer) ∷ t) (login_seen s t follows.took from cut session answer))
     where
-      step : LinkSeen → LinkSeen
-      step = at_link k (with_login (accepted_of t) (moment_of t) session (login_reply s.server session) answer)
-
       logged_in : (answer : Option FilterAnswer)
-          → (after_login_answer k answer (after_login s.server k session core)).links ≡ map (link_seen s (Said k cut (LoggedIn session answer) ∷ t)) (served_links t)
-          → Follows s (after_login_answer k answer (after_login s.server k session core)) (Said k cut (LoggedIn session answer) ∷ t)
+          → (after_login_answer from answer (after_login s.server from session core)).links ≡ map (link_seen s (Said from cut (LoggedIn session answer) ∷ t)) (served_links t)
+          → Follows s (after_login_answer from answer (after_login s.server from session core)) (Said from cut (LoggedIn session answer) ∷ t)
       logged_in None links = record {
         moment = follows.moment;
+        reach = no_casts;
         turned = follows.turned;
         closing = follows.closing;
         links = links;
-        tables = same_tables (Said k cut (LoggedIn session None) ∷ t) (append-nil (accepted_of t)) (λ l. refl) (λ l call. refl) (λ l sender. refl);
-        took = took_said s t follows.took k cut (LoggedIn session None);
+        tables = same_tables (Said from cut (LoggedIn session None) ∷ t) (append-nil (accepted_of t)) (λ l. refl) (λ l. refl) (λ l call. refl) (λ l sender. refl);
+        took = took_said s t follows.took from cut (LoggedIn session None);
       }
       logged_in (Some given) links = record {
         moment = follows.moment;
+        reach = no_casts;
         turned = follows.turned;
         closing = follows.closing;
         links = links;
-        tables = same_tables (Said k cut (LoggedIn session (Some given)) ∷ t) (append-nil (accepted_of t)) (λ l. refl) (λ l call. refl) (λ l sender. refl);
-        took = took_said s t follows.took k cut (LoggedIn session (Some given));
+        tables = same_tables (Said from cut (LoggedIn session (Some given)) ∷ t) (append-nil (accepted_of t)) (λ l. refl) (λ l. refl) (λ l call. refl) (λ l sender. refl);
+        took = took_said s t follows.took from cut (LoggedIn session (Some given));
       }
 
   -- which ports have filters, of the links that live and of others
@@ -322,49 +409,70 @@ module _ (s : Setting) (core : CoreSeen) (t : Trace) (follows : Follows s core t
   filters_nowhere : stopped_links t ≡ [] → (l : ℕ) → is_live t l ≡ false → filters_at l core.links ≡ false
   filters_nowhere going l dead = ap (filters_at l) (live_now going) ∙ picked_missing filters_kept false s t l (live_links t) dead
 
-  follows_accepted : stopped_links t ≡ [] → (k : ℕ) (cut : Cut) (parts : Parts) (line : List ℕ) → is_live t k ≡ true
-      → Follows s (after_packet k (packet_of k (moment_of t) parts line) (record core { moment = moment_of t })) (Said k cut (Accepted parts line) ∷ t)
-  follows_accepted going k cut parts line live =
-      let packet = packet_of k (moment_of t) parts line in
-      let source : SourcePlace = record { place = sighting (accepted_of t) (moment_of t) parts.source; gate = is_gate_at (accepted_of t) (moment_of t) parts.source } in
+  -- which links are clients
+  client_live : stopped_links t ≡ [] → (l : ℕ) → is_live t l ≡ true → client_at l core.links ≡ is_client_link (opening_of t l)
+  unfolding link_seen
+  client_live going l live = ap (client_at l) (live_now going) ∙ picked_seen client_kept false s t l (live_links t) live
+
+  speaks : stopped_links t ≡ [] → (from : Source) → IsSaidBy t from → Speaks t core.links from
+  speaks going (source.Link k) live = (live, client_live going k live ∙ sym (ap (λ b. b && is_client_link (opening_of t k)) live))
+  speaks going (source.Submit listener) says = tt
+  speaks going (source.Peer peer) says = tt
+
+  submitted_as : stopped_links t ≡ [] → (from : Source) → IsSaidBy t from → submitted_from from core.links ≡ is_submitted t from
+  submitted_as going (source.Link k) live = client_live going k live
+  submitted_as going (source.Submit listener) says = refl
+  submitted_as going (source.Peer peer) says = refl
+
+  follows_accepted : stopped_links t ≡ [] → (from : Source) (cut : Cut) (parts : Parts) (line : List ℕ) → IsSaidBy t from
+      → Follows s (after_packet s.peers (packet_of from (moment_of t) parts line) (record core { moment = moment_of t })) (Said from cut (Accepted parts line) ∷ t)
+  follows_accepted going from cut parts line says =
+      let packet = packet_of from (moment_of t) parts line in
+      let place_of : Bool → SourcePlace = λ submitted. record { place = sighting (accepted_of t) (moment_of t) parts.source; gate = is_gate_at (accepted_of t) (moment_of t) parts.source; submitted = submitted } in
+      let source = place_of (is_submitted t from) in
       let hearers = hearers_of (moment_of t) core.heard (receiver_of packet) in
       let owed = owed_in (record core { moment = moment_of t }) packet in
       record {
         moment = refl;
+        reach = ap (λ (reach : ReachSeen). record reach { casts = reach.casts ++ (if submitted_from from core.links then casts_to 0 s.peers line else []) }) follows.reach
+            ∙ ap (λ b. record (reach_of s t) { casts = casts_of s t ++ (if b then casts_to 0 s.peers line else []) }) (submitted_as going from says);
         turned = follows.turned;
         closing = follows.closing;
-        links = ap (λ place. map (with_packet k packet place hearers owed) core.links) (source_known (record core { moment = moment_of t }) (accepted_of t) (moment_of t) refl follows.tables.stations parts.source)
-            ∙ ap (map (with_packet k packet source hearers owed)) follows.links
-            ∙ map_twice (with_packet k packet source hearers owed) (link_seen s t) (served_links t)
-            ∙ sym (map_on (link_seen s (Said k cut (Accepted parts line) ∷ t)) (λ j. with_packet k packet source hearers owed (link_seen s t j)) (served_links t)
+        links = ap (λ place. map (with_packet packet place hearers owed) core.links) (source_known (record core { moment = moment_of t }) (accepted_of t) (moment_of t) refl follows.tables.stations from parts.source)
+            ∙ ap (λ b. map (with_packet packet (place_of b) hearers owed) core.links) (submitted_as going from says)
+            ∙ ap (map (with_packet packet source hearers owed)) follows.links
+            ∙ map_twice (with_packet packet source hearers owed) (link_seen s t) (served_links t)
+            ∙ sym (map_on (link_seen s (Said from cut (Accepted parts line) ∷ t)) (λ j. with_packet packet source hearers owed (link_seen s t j)) (served_links t)
             (λ j member. let here = subst (λ stopped. is_member j (stopped ++ live_links t) ≡ true) going member in
-            accepted_seen s t follows.took k cut parts line hearers owed j here (hearers_are core.heard t follows.tables.heard packet j here) (owed_are core.heard t follows.tables.heard packet j here)));
+            accepted_seen s t follows.took from cut parts line hearers owed j here
+            (λ client. hearers_are core.heard t follows.tables.heard packet j (ap (λ b. b && is_client_link (opening_of t j)) here ∙ client))
+            (owed_are core.heard t follows.tables.heard packet j here)));
         tables = record {
           accepted = ap (λ packets. packets ++ packet ∷ []) follows.tables.accepted;
           stations = note_agrees core.stations (accepted_of t) packet follows.tables.stations;
-          heard = remembers_accepted core.heard t follows.tables.heard core.links k cut parts line live (filters_live going) (filters_nowhere going);
+          heard = remembers_accepted core.heard t follows.tables.heard core.links from cut parts line (speaks going from says) (filters_live going) (filters_nowhere going);
         };
-        took = took_said s t follows.took k cut (Accepted parts line);
+        took = took_said s t follows.took from cut (Accepted parts line);
       }
 
-  -- whatever becomes of a line of a link that lives
-  pub follows_said : stopped_links t ≡ [] → (k : ℕ) (cut : Cut) (verdict : Verdict) → is_live t k ≡ true → Follows s (after_verdict s.server k verdict core) (Said k cut verdict ∷ t)
-  follows_said going k cut PassedOver live = follows_passed k cut
-  follows_said going k cut (Refused why) live = follows_refused k cut why
-  follows_said going k cut (LoggedIn session answer) live = follows_login k cut session answer
-  follows_said going k cut (Filtered answer) live = follows_answer k cut answer
-  follows_said going k cut (Accepted parts line) live =
-      subst (λ now. Follows s (after_packet k (packet_of k now parts line) (record core { moment = now })) (Said k cut (Accepted parts line) ∷ t)) (sym follows.moment)
-      (follows_accepted going k cut parts line live)
+  -- whatever becomes of a line
+  pub follows_said : stopped_links t ≡ [] → (from : Source) (cut : Cut) (verdict : Verdict) → IsSaidBy t from → Follows s (after_verdict s.server s.peers from verdict core) (Said from cut verdict ∷ t)
+  follows_said going from cut PassedOver says = follows_passed from cut
+  follows_said going from cut (Refused why) says = follows_refused going from cut why
+  follows_said going from cut (LoggedIn session answer) says = follows_login from cut session answer
+  follows_said going from cut (Filtered answer) says = follows_answer from cut answer
+  follows_said going from cut (Accepted parts line) says =
+      subst (λ now. Follows s (after_packet s.peers (packet_of from now parts line) (record core { moment = now })) (Said from cut (Accepted parts line) ∷ t)) (sym follows.moment)
+      (follows_accepted going from cut parts line says)
 
   numbers_are : numbers core.links ≡ served_links t
   numbers_are = ap numbers follows.links ∙ numbers_seen s t (served_links t)
 
-  opened_kept : (listener : ℕ) (admission : Admission) (k high : ℕ) (from : Addr) → Rises 0 (numbers core.links) high → high < k
-      → map (link_seen s t) (served_links t) ≡ map (link_seen s (Opened listener admission k from ∷ t)) (served_links t)
-  opened_kept listener admission k high from rises above =
-      sym (map_on (link_seen s (Opened listener admission k from ∷ t)) (link_seen s t) (served_links t) (λ j member.
-      opened_seen s t listener admission k from j (below_other j k high (served_links t) (subst (λ ns. Rises 0 ns high) numbers_are rises) above member)))
+  opened_kept : (door : Door) (admission : Admission) (k high : ℕ) (from : Addr) → Rises 0 (numbers core.links) high → high < k
+      → map (link_seen s t) (served_links t) ≡ map (link_seen s (Opened door admission k from ∷ t)) (served_links t)
+  opened_kept door admission k high from rises above =
+      sym (map_on (link_seen s (Opened door admission k from ∷ t)) (link_seen s t) (served_links t) (λ j member.
+      opened_seen s t door admission k from j (below_other j k high (served_links t) (subst (λ ns. Rises 0 ns high) numbers_are rises) above member)))
 
   -- a link whose number is above all others doesn't live yet
   not_yet : (k high : ℕ) → Rises 0 (numbers core.links) high → high < k → is_live t k ≡ false
@@ -373,71 +481,85 @@ module _ (s : Setting) (core : CoreSeen) (t : Trace) (follows : Follows s core t
       let le : k ≤ high = within.1 in
       absurd (omega arith))
 
-  -- a link that a client opens
-  pub follows_opened : (listener : ℕ) (kind : PortKind) (k high : ℕ) (from : Addr) → Rises 0 (numbers core.links) high → high < k
-      → Follows s (with_links (core.links ++ new_link_seen k (record { kind = kind; from = from; moment = core.moment }) ∷ []) core) (Opened listener (Served kind) k from ∷ t)
-  follows_opened listener kind k high from rises above =
-      let seen = link_seen s (Opened listener (Served kind) k from ∷ t) in
+  -- what there is for other servers, once a link has come
+  abbrev pub reach_with : Door → ℕ → ReachSeen
+  reach_with door k = record core.reach { uplinks = joined_by door k core.moment core.reach.uplinks }
+
+  -- a link that is served
+  pub follows_opened : (door : Door) (kind : LinkKind) (k high : ℕ) (from : Addr) → Rises 0 (numbers core.links) high → high < k
+      → Follows s (with_reach (reach_with door k) (with_links (core.links ++ new_link_seen k (record { kind = kind; from = from; moment = core.moment }) (first_line s kind).line ∷ []) core)) (Opened door (Served kind) k from ∷ t)
+  follows_opened door kind k high from rises above =
+      let seen = link_seen s (Opened door (Served kind) k from ∷ t) in
+      let new : ℕ → LinkSeen = λ m. new_link_seen k (record { kind = kind; from = from; moment = m }) (first_line s kind).line in
       record {
         moment = follows.moment;
+        reach = stepped_reach (joined_by door k);
         turned = follows.turned ∙ sym (append-nil (turned_links t));
         closing = follows.closing;
         links =
-            ap (λ links. links ++ new_link_seen k (record { kind = kind; from = from; moment = core.moment }) ∷ []) (follows.links ∙ opened_kept listener (Served kind) k high from rises above)
-            ∙ ap (λ m. map seen (served_links t) ++ new_link_seen k (record { kind = kind; from = from; moment = m }) ∷ []) follows.moment
-            ∙ ap (λ l. map seen (served_links t) ++ l ∷ []) (sym (new_seen s t listener kind k from))
+            ap (λ links. links ++ new core.moment ∷ []) (follows.links ∙ opened_kept door (Served kind) k high from rises above)
+            ∙ ap (λ m. map seen (served_links t) ++ new m ∷ []) follows.moment
+            ∙ ap (λ l. map seen (served_links t) ++ l ∷ []) (sym (new_seen s t door kind k from))
             ∙ sym (map_push seen (served_links t) k)
             ∙ ap (map seen) (append_assoc (stopped_links t) (live_links t) (k ∷ []));
         tables = record {
           accepted = follows.tables.accepted;
           stations = follows.tables.stations;
-          heard = remembers_opened core.heard t listener kind k from (not_yet k high rises above) follows.tables.heard;
+          heard = remembers_opened core.heard t door kind k from (not_yet k high rises above) follows.tables.heard;
         };
-        took = took_opened s t follows.took listener (Served kind) k from;
+        took = took_opened s t follows.took door (Served kind) k from;
       }
 
-  -- a link that comes where none is served, or as many are there as may
-  follows_turned : (listener : ℕ) (admission : Admission) (k high : ℕ) (from : Addr) → opened_link admission k ≡ [] → Rises 0 (numbers core.links) high → high < k
-      → Follows s (record core { turned = turned_links (Opened listener admission k from ∷ t) }) (Opened listener admission k from ∷ t)
-  follows_turned listener admission k high from none rises above =
-      let seen = link_seen s (Opened listener admission k from ∷ t) in
+  -- a link that comes where none is served, as many are there as may, or nobody asked for it
+  follows_turned : (door : Door) (admission : Admission) (k high : ℕ) (from : Addr) → opened_link admission k ≡ [] → Rises 0 (numbers core.links) high → high < k
+      → Follows s (with_reach (reach_with door k) (record core { turned = turned_links (Opened door admission k from ∷ t) })) (Opened door admission k from ∷ t)
+  follows_turned door admission k high from none rises above =
+      let seen = link_seen s (Opened door admission k from ∷ t) in
       record {
         moment = follows.moment;
+        reach = stepped_reach (joined_by door k);
         turned = refl;
         closing = follows.closing;
-        links = follows.links ∙ opened_kept listener admission k high from rises above
+        links = follows.links ∙ opened_kept door admission k high from rises above
             ∙ ap (λ ks. map seen (stopped_links t ++ ks)) (sym (ap (λ new. live_links t ++ new) none ∙ append-nil (live_links t)));
         tables = record {
           accepted = follows.tables.accepted;
           stations = follows.tables.stations;
-          heard = remembers_unserved core.heard t listener admission k from none (not_yet k high rises above) follows.tables.heard;
+          heard = remembers_unserved core.heard t door admission k from none (not_yet k high rises above) follows.tables.heard;
         };
-        took = took_opened s t follows.took listener admission k from;
+        took = took_opened s t follows.took door admission k from;
       }
 
-  pub follows_unserved : (listener k high : ℕ) (from : Addr) → Rises 0 (numbers core.links) high → high < k → Follows s core (Opened listener NoPort k from ∷ t)
-  follows_unserved listener k high from rises above =
-      subst (λ turned. Follows s (record core { turned = turned }) (Opened listener NoPort k from ∷ t)) (append-nil (turned_links t) ∙ sym follows.turned)
-      (follows_turned listener NoPort k high from refl rises above)
+  pub follows_unserved : (door : Door) (k high : ℕ) (from : Addr) → Rises 0 (numbers core.links) high → high < k → Follows s (with_reach (reach_with door k) core) (Opened door NoPort k from ∷ t)
+  follows_unserved door k high from rises above =
+      subst (λ turned. Follows s (with_reach (reach_with door k) (record core { turned = turned })) (Opened door NoPort k from ∷ t)) (append-nil (turned_links t) ∙ sym follows.turned)
+      (follows_turned door NoPort k high from refl rises above)
 
-  pub follows_refused_client : (listener k high : ℕ) (from : Addr) → Rises 0 (numbers core.links) high → high < k
-      → Follows s (record core { turned = core.turned ++ k ∷ [] }) (Opened listener TurnedAway k from ∷ t)
-  follows_refused_client listener k high from rises above =
-      subst (λ turned. Follows s (record core { turned = turned ++ k ∷ [] }) (Opened listener TurnedAway k from ∷ t)) (sym follows.turned)
-      (follows_turned listener TurnedAway k high from refl rises above)
+  pub follows_turned_away : (door : Door) (k high : ℕ) (from : Addr) → Rises 0 (numbers core.links) high → high < k
+      → Follows s (with_reach (reach_with door k) (record core { turned = core.turned ++ k ∷ [] })) (Opened door TurnedAway k from ∷ t)
+  follows_turned_away door k high from rises above =
+      subst (λ turned. Follows s (with_reach (reach_with door k) (record core { turned = turned ++ k ∷ [] })) (Opened door TurnedAway k from ∷ t)) (sym follows.turned)
+      (follows_turned door TurnedAway k high from refl rises above)
 
-  -- the links that live are told the date
-  pub follows_dated : stopped_links t ≡ [] → (moment : ℕ) → Follows s (with_links (map (with_text (comment_text s.server moment)) core.links) core) (Dated moment ∷ t)
+  pub follows_unasked : (door : Door) (k high : ℕ) (from : Addr) → Rises 0 (numbers core.links) high → high < k
+      → Follows s (with_reach (reach_with door k) (record core { turned = core.turned ++ k ∷ [] })) (Opened door NotAsked k from ∷ t)
+  follows_unasked door k high from rises above =
+      subst (λ turned. Follows s (with_reach (reach_with door k) (record core { turned = turned ++ k ∷ [] })) (Opened door NotAsked k from ∷ t)) (sym follows.turned)
+      (follows_turned door NotAsked k high from refl rises above)
+
+  -- the clients that live are told the date
+  pub follows_dated : stopped_links t ≡ [] → (moment : ℕ) → Follows s (with_links (map (with_date (comment_text s.server moment)) core.links) core) (Dated moment ∷ t)
   follows_dated going moment =
-      let told = with_text (comment_text s.server moment) in
+      let told = with_date (comment_text s.server moment) in
       record {
         moment = follows.moment;
+        reach = follows.reach;
         turned = follows.turned;
         closing = follows.closing;
         links = ap (map told) follows.links ∙ map_twice told (link_seen s t) (served_links t)
             ∙ sym (map_on (link_seen s (Dated moment ∷ t)) (λ j. told (link_seen s t j)) (served_links t)
             (λ j member. dated_seen s t follows.took moment j (subst (λ stopped. is_member j (stopped ++ live_links t) ≡ true) going member)));
-        tables = same_tables (Dated moment ∷ t) refl (λ l. refl) (λ l call. refl) (λ l sender. refl);
+        tables = same_tables (Dated moment ∷ t) refl (λ l. refl) (λ l. refl) (λ l call. refl) (λ l sender. refl);
         took = took_dated s t follows.took moment;
       }
 
@@ -461,9 +583,11 @@ module _ (s : Setting) (core : CoreSeen) (t : Trace) (follows : Follows s core t
   unfolding link_seen
   ended_seen k reason ks = refl
 
-  pub follows_ended : stopped_links t ≡ [] → (k : ℕ) → Follows s (with_heard (without_link k core.heard) (with_links (filter (is_another k) core.links) core)) (Ended k ByPeer ∷ t)
+  pub follows_ended : stopped_links t ≡ [] → (k : ℕ) → Follows s (with_reach (record core.reach { uplinks = uplinks_after (up.Ended k) core.moment core.reach.uplinks })
+      (with_heard (without_link k core.heard) (with_links (filter (is_another k) core.links) core))) (Ended k ByPeer ∷ t)
   follows_ended going k = record {
     moment = follows.moment;
+    reach = stepped_reach (uplinks_after (up.Ended k));
     turned = follows.turned;
     closing = follows.closing;
     links =
@@ -494,6 +618,17 @@ same_after f same reason (k ∷ ks) t = same_after f same reason ks (Ended k (re
 
 pub moment_after : (reason : ℕ → EndReason) (ks : List ℕ) (t : Trace) → moment_of (end_each reason ks t) ≡ moment_of t
 moment_after = same_after moment_of (λ k why t. refl)
+
+-- what there is for other servers once links have ended
+uplinks_ended : (s : Setting) (reason : ℕ → EndReason) (ks : List ℕ) (t : Trace) → uplinks_of s (end_each reason ks t) ≡ ended_all ks (moment_of t) (uplinks_of s t)
+uplinks_ended s reason [] t = refl
+uplinks_ended s reason (k ∷ ks) t = uplinks_ended s reason ks (Ended k (reason k) ∷ t)
+
+pub reach_after : (s : Setting) (reason : ℕ → EndReason) (ks : List ℕ) (t : Trace) → reach_of s (end_each reason ks t) ≡ record (reach_of s t) { uplinks = ended_all ks (moment_of t) (uplinks_of s t) }
+reach_after s reason ks t =
+    ap (λ uplinks. record (reach_of s (end_each reason ks t)) { uplinks = uplinks }) (uplinks_ended s reason ks t)
+    ∙ ap (λ dial. record (reach_of s (end_each reason ks t)) { uplinks = ended_all ks (moment_of t) (uplinks_of s t); dial = dial }) (same_after (dial_of s) (λ k why t. refl) reason ks t)
+    ∙ ap (λ casts. record (reach_of s t) { uplinks = ended_all ks (moment_of t) (uplinks_of s t); casts = casts }) (same_after (casts_of s) (λ k why t. refl) reason ks t)
 
 turned_after : (reason : ℕ → EndReason) (ks : List ℕ) (t : Trace) → turned_links (end_each reason ks t) ≡ turned_links t
 turned_after = same_after turned_links (λ k why t. refl)
@@ -591,22 +726,29 @@ late_closes t k = by (is_nameless t k)
     by false = refl
 
 pub refused_goes : (t : Trace) (k : ℕ) → stopped_link (refused_reason t k) k ≡ []
-refused_goes t k = by (is_member k (turned_links t))
+refused_goes t k = by (is_member k (turned_links t)) (is_unasked t k)
   where
-    by : (b : Bool) → stopped_link (if b then Full else Overfull) k ≡ []
-    by true = refl
-    by false = refl
+    by : (b c : Bool) → stopped_link (if b then (if c then Unasked else Full) else Overfull) k ≡ []
+    by true true = refl
+    by true false = refl
+    by false c = refl
 
 refused_closes : (t : Trace) (k : ℕ) → is_closing (refused_reason t k) ≡ true
-refused_closes t k = by (is_member k (turned_links t))
+refused_closes t k = by (is_member k (turned_links t)) (is_unasked t k)
   where
-    by : (b : Bool) → is_closing (if b then Full else Overfull) ≡ true
-    by true = refl
-    by false = refl
+    by : (b c : Bool) → is_closing (if b then (if c then Unasked else Full) else Overfull) ≡ true
+    by true true = refl
+    by true false = refl
+    by false c = refl
 
 -- what is kept where links have ended: the others, and which are to be closed
 abbrev pub with_ends : List ℕ → List LinkSeen → List ℕ → CoreSeen → CoreSeen
-with_ends ends links closing core = record core { links = links; closing = closing; heard = forgotten_all ends core.heard }
+with_ends ends links closing core = record core {
+  links = links;
+  closing = closing;
+  heard = forgotten_all ends core.heard;
+  reach = record core.reach { uplinks = ended_all ends core.moment core.reach.uplinks };
+}
 
 module _ (s : Setting) (core : CoreSeen) (t : Trace) (follows : Follows s core t) (going : stopped_links t ≡ []) where
   there_seen : (j : ℕ) → is_there (link_seen s t j) ≡ not (is_gone t j)
@@ -617,12 +759,15 @@ module _ (s : Setting) (core : CoreSeen) (t : Trace) (follows : Follows s core t
   unfolding link_seen
   lost_seen_as j = refl
 
-  late_seen : (timeout j : ℕ) → is_late_link timeout (moment_of t) (link_seen s t j) ≡ is_late timeout t j
-  unfolding link_seen
-  late_seen timeout j = refl
+  abbrev pub timeouts : Timeouts
+  timeouts = record { client = s.client_timeout; uplink = s.up_timeout }
 
-  in_time_seen : (timeout j : ℕ) → is_in_time timeout (moment_of t) (link_seen s t j) ≡ not (is_late timeout t j)
-  in_time_seen timeout j = ap not (late_seen timeout j)
+  late_seen : (j : ℕ) → is_late_link timeouts (moment_of t) (link_seen s t j) ≡ is_late s t j
+  unfolding link_seen
+  late_seen j = refl
+
+  in_time_seen : (j : ℕ) → is_in_time timeouts (moment_of t) (link_seen s t j) ≡ not (is_late s t j)
+  in_time_seen j = ap not (late_seen j)
 
   over_seen : (j : ℕ) → is_overfull (link_seen s t j) ≡ (text_to s t j).over
   unfolding link_seen
@@ -653,6 +798,7 @@ module _ (s : Setting) (core : CoreSeen) (t : Trace) (follows : Follows s core t
       let now = end_each reason ks t in
       record {
         moment = follows.moment ∙ sym (moment_after reason ks t);
+        reach = stepped_reach s core t follows (ended_all ks) ∙ sym (reach_after s reason ks t);
         turned = follows.turned ∙ sym (turned_after reason ks t);
         closing = closed;
         links = left
@@ -676,15 +822,15 @@ module _ (s : Setting) (core : CoreSeen) (t : Trace) (follows : Follows s core t
       (follows.closing ∙ sym (open_after (λ k. FoundGone) (λ k. refl) (gone_links t) t)))
 
   -- the links that are late end at a tick
-  pub follows_late : (timeout : ℕ) (ends : List ℕ) → ends ≡ numbers (filter (is_late_link timeout (moment_of t)) core.links)
-      → Follows s (with_ends ends (filter (is_in_time timeout (moment_of t)) core.links) (placed_all ends core.closing) core) (end_each (late_reason t) (late_links timeout t) t)
-  follows_late timeout ends are =
-      let links = filter (is_in_time timeout (moment_of t)) core.links in
-      let now = end_each (late_reason t) (late_links timeout t) t in
-      subst (λ ks. Follows s (with_ends ks links (placed_all ks core.closing) core) now) (sym (are ∙ tested_numbers (is_late_link timeout (moment_of t)) (is_late timeout t) (late_seen timeout)))
-      (follows_ends (late_reason t) (late_links timeout t) links (placed_all (late_links timeout t) core.closing) (late_goes t)
-      (tested_links (is_in_time timeout (moment_of t)) (λ j. not (is_late timeout t j)) (in_time_seen timeout) ∙ ap (map (link_seen s t)) (sym (left_failing (is_late timeout t) (live_links t))))
-      (ap (placed_all (late_links timeout t)) follows.closing ∙ sym (closed_after (late_reason t) (late_closes t) (late_links timeout t) t)))
+  pub follows_late : (ends : List ℕ) → ends ≡ numbers (filter (is_late_link timeouts (moment_of t)) core.links)
+      → Follows s (with_ends ends (filter (is_in_time timeouts (moment_of t)) core.links) (placed_all ends core.closing) core) (end_each (late_reason t) (late_links s t) t)
+  follows_late ends are =
+      let links = filter (is_in_time timeouts (moment_of t)) core.links in
+      let now = end_each (late_reason t) (late_links s t) t in
+      subst (λ ks. Follows s (with_ends ks links (placed_all ks core.closing) core) now) (sym (are ∙ tested_numbers (is_late_link timeouts (moment_of t)) (is_late s t) late_seen))
+      (follows_ends (late_reason t) (late_links s t) links (placed_all (late_links s t) core.closing) (late_goes t)
+      (tested_links (is_in_time timeouts (moment_of t)) (λ j. not (is_late s t j)) in_time_seen ∙ ap (map (link_seen s t)) (sym (left_failing (is_late s t) (live_links t))))
+      (ap (placed_all (late_links s t)) follows.closing ∙ sym (closed_after (late_reason t) (late_closes t) (late_links s t) t)))
 
   -- the links that are overfull or were turned away end with the round
   pub follows_refused_links : (ends : List ℕ) → ends ≡ placed_all core.turned (numbers (filter is_overfull core.links))
@@ -705,6 +851,7 @@ module _ (s : Setting) (core : CoreSeen) (t : Trace) (follows : Follows s core t
       let stops : ℕ → EndReason = λ k. ByStop in
       subst (λ ks. Follows s (with_ends ks core.links (placed_all ks core.closing) core) now) (sym (are ∙ live_numbers)) (record {
         moment = follows.moment ∙ sym (moment_after stops (live_links t) t);
+        reach = stepped_reach s core t follows (ended_all (live_links t)) ∙ sym (reach_after s stops (live_links t) t);
         turned = follows.turned ∙ sym (turned_after stops (live_links t) t);
         closing = ap (placed_all (live_links t)) follows.closing ∙ sym (closed_after stops (λ k. refl) (live_links t) t);
         links =

@@ -5,8 +5,9 @@ use Rattle.aprs_base.specs.declared.events.Event.TheVariants as event
 use Rattle.aprs_history.specs.Trace.{Trace, closed_links}
 use Rattle.aprs_history.specs.History.{History, is_stop, trace_of, with_event, begin_round, end_round}
 use Rattle.aprs_history.specs.Rounds.{AreFresh, is_whole, with_events, events_trace, greatest_after, stopped_after}
-use Rattle.aprs_history.specs.Acts.{Closes, offer_to, offered_links}
-use Rattle.aprs_history.specs.Stands.{Follows, StandsFor}
+use Rattle.aprs_history.specs.Acts.{Closes, cast_act, dials, offer_to, offered_links}
+use Rattle.aprs_history.specs.Dials.{casts_of, dial_of}
+use Rattle.aprs_history.specs.Stands.{Follows, ReachSeen, StandsFor}
 use Rattle.server_core.specs.ActsSeen.{ActsSeen}
 use Rattle.server_core.specs.LinkSteps.{is_ready, number_of}
 use Rattle.server_core.specs.Meaning.{CoreMeaning, setting_of, Stands, AreActs}
@@ -105,30 +106,34 @@ module _ (old mid walked new : CoreMeaning) (events : List Event) (round : Whole
         stopped = round.kept.stopped ∙ round.walking.stopped ∙ ap (stopped_after events) (round.rest.stopped ∙ stands.stopped) ∙ sym (stopped_whole events h);
       })
 
-  acts_old : (acts : ActsSeen) → acts.offers ≡ map number_of (filter is_ready new.seen.links) → acts.closes ≡ new.seen.closing → acts.dial ≡ None → acts.casts ≡ []
-      → AreActs (setting_of old.conf) (with_events events h) acts
-  acts_old acts offers closes dial casts =
+  -- what is to be done, by what the core keeps
+  abbrev pub AreKept : ActsSeen → Type 0
+  AreKept acts = (acts.offers ≡ map number_of (filter is_ready new.seen.links)) × (acts.closes ≡ new.seen.closing) × (acts.dial ≡ new.seen.reach.dial) × (acts.casts ≡ new.seen.reach.casts)
+
+  acts_old : (acts : ActsSeen) → AreKept acts → AreActs (setting_of old.conf) (with_events events h) acts
+  acts_old acts kept =
       let s = setting_of old.conf in
       let t = trace_of s (with_events events h) in
-      let offered : acts.offers ≡ offered_links s t = offers ∙ offers_are s new.seen t follows_old in
-      let closed : acts.closes ≡ closed_links t = closes ∙ follows_old.closing in
+      let offered : acts.offers ≡ offered_links s t = kept.0 ∙ offers_are s new.seen t follows_old in
+      let closed : acts.closes ≡ closed_links t = kept.1 ∙ follows_old.closing in
+      let dialled : acts.dial ≡ dial_of s t = kept.2 ∙ ap (λ (reach : ReachSeen). reach.dial) follows_old.reach in
+      let cast : acts.casts ≡ casts_of s t = kept.3 ∙ ap (λ (reach : ReachSeen). reach.casts) follows_old.reach in
       record {
-        due = due_whole s 0 events h round.whole stands.finished ∙ ap (λ ks. map (offer_to s t) ks ++ map Closes (closed_links t)) (sym offered)
-            ∙ ap (λ ks. map (offer_to s t) acts.offers ++ map Closes ks) (sym closed);
-        dial = dial;
-        casts = casts;
+        due = due_whole s 0 events h round.whole stands.finished
+            ∙ ap (λ dial. dials dial ++ (map cast_act (casts_of s t) ++ (map (offer_to s t) (offered_links s t) ++ map Closes (closed_links t)))) (sym dialled)
+            ∙ ap (λ casts. dials acts.dial ++ (map cast_act casts ++ (map (offer_to s t) (offered_links s t) ++ map Closes (closed_links t)))) (sym cast)
+            ∙ ap (λ ks. dials acts.dial ++ (map cast_act acts.casts ++ (map (offer_to s t) ks ++ map Closes (closed_links t)))) (sym offered)
+            ∙ ap (λ ks. dials acts.dial ++ (map cast_act acts.casts ++ (map (offer_to s t) acts.offers ++ map Closes ks))) (sym closed);
       }
 
-  pub round_acts : (acts : ActsSeen) → acts.offers ≡ map number_of (filter is_ready new.seen.links) → acts.closes ≡ new.seen.closing → acts.dial ≡ None → acts.casts ≡ []
-      → AreActs (setting_of new.conf) (with_events events h) acts
-  round_acts acts offers closes dial casts =
-      subst (λ conf. AreActs (setting_of conf) (with_events events h) acts) (sym same_conf) (acts_old acts offers closes dial casts)
+  pub round_acts : (acts : ActsSeen) → AreKept acts → AreActs (setting_of new.conf) (with_events events h) acts
+  round_acts acts kept = subst (λ conf. AreActs (setting_of conf) (with_events events h) acts) (sym same_conf) (acts_old acts kept)
 
   pub acts_ok : {E : Type 0} (result : Result ActsSeen E) → IfOk result (λ acts. acts.offers ≡ map number_of (filter is_ready new.seen.links))
-      → IfOk result (λ acts. acts.closes ≡ new.seen.closing) → IfOk result (λ acts. (acts.dial ≡ None) × (acts.casts ≡ []))
+      → IfOk result (λ acts. acts.closes ≡ new.seen.closing) → IfOk result (λ acts. acts.dial ≡ new.seen.reach.dial) → IfOk result (λ acts. acts.casts ≡ new.seen.reach.casts)
       → IfOk result (λ acts. AreActs (setting_of new.conf) (with_events events h) acts)
-  acts_ok (Ok acts) offers closes none = round_acts acts offers closes none.0 none.1
-  acts_ok (Err e) offers closes none = offers
+  acts_ok (Ok acts) offers closes dial casts = round_acts acts (offers, closes, dial, casts)
+  acts_ok (Err e) offers closes dial casts = offers
 
 pub stands_ok : {T E P : Type 0} (result : Result T E) → P → OnOk result P
 stands_ok (Ok x) p = p

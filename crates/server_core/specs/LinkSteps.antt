@@ -33,6 +33,7 @@ use Rattle.aprs_history.specs.Dials.{CastSeen, casts_to}
 use Rattle.aprs_history.specs.Setting.{Peer, Setting}
 use Rattle.aprs_base.specs.declared.texts.Addr.{Addr}
 use Rattle.aprs_history.specs.declared.verdicts.Admission.{Admission}
+use Rattle.aprs_history.specs.declared.verdicts.LinkKind.TheVariants.{Uplink}
 use Rattle.aprs_history.specs.declared.verdicts.Admission.TheVariants.{NoPort, NotAsked, Served, TurnedAway}
 use Rattle.aprs_history.specs.Stands.{ReachSeen}
 use Rattle.uplinks_peers.specs.declared.uplinks.UpEvent.TheVariants as up
@@ -421,16 +422,15 @@ admitted_in setting (Served kind) number from core = record core {
   links = core.links ++ new_link_seen number (record { kind = kind; from = from; moment = core.moment }) (first_line setting kind).line ∷ [];
 }
 
+-- what becomes of a link to an uplink
+abbrev pub joined_outcome : ℕ → (asked : Bool) → Admission
+joined_outcome uplink asked = if asked then Served (Uplink uplink) else NotAsked
+
 -- what comes in a datagram
 abbrev pub IsDatagram : Source → Type 0
 IsDatagram (source.Link number) = ⊥
 IsDatagram (source.Submit listener) = ⊤
 IsDatagram (source.Peer peer) = ⊤
-
--- a refusal that may be that of a whole datagram: a duplicate never is
-abbrev pub IsWhole : Refusal → Type 0
-IsWhole (refusal.Duplicate parts line) = ⊥
-IsWhole why = ⊤
 
 -- each of these numbers is a link's
 abbrev pub AreServed : List ℕ → List LinkSeen → Type 0

@@ -1,5 +1,7 @@
 //! What the core asks of a configuration.
-ghost use Rattle.std.specs.Prelude.{◌≡◌, ◌+◌, ◌≤◌, Some, None, IfOk, IfErr, length, map, option_map, slice_get};
+ghost use Rattle.std.specs.Prelude.{◌≡◌, ◌+◌, ◌≤◌, Some, None, IfOk, IfErr, IfSome, IsTrue, true, length, map, option_map, slice_get};
+ghost use Rattle.std.specs.List.{list_all};
+ghost use Rattle.aprs_base.specs.Bytes.{is_station};
 ghost use Rattle.aprs_history.specs.Setting.{is_client_kind, kind_at, peer_from};
 ghost use Rattle.server_core.specs.Meaning.{numbered, peer_of, setting_of};
 
@@ -88,7 +90,8 @@ pub(crate) fn is_client_kind(kind: PortKind) -> bool
 /// The number and the call of the first peer that has this address, port and all.
 pub(crate) fn peer_from(peers: &[PeerSpec], at: Addr) -> Option<(u16, &Call)>
     requires { length peers.now ≤ 8 }
-    ensures { option_map (λ peer. (peer.0, peer.1.now)) result ≡ peer_from 0 (map peer_of peers.now) at }
+    ensures peer { option_map (λ peer. (peer.0, peer.1.now)) result ≡ peer_from 0 (map peer_of peers.now) at }
+    ensures station { list_all (λ peer. is_station peer.call) peers.now ≡ true → IfSome result (λ peer. IsTrue (is_station peer.1.now)) }
 {
     let mut number = 0;
     for peer in peers {

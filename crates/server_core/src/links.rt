@@ -269,7 +269,13 @@ pub(crate) fn is_submitted(links: &[Link], from: &Source) -> bool
 pub(crate) fn count_clients(links: &[Link]) -> usize
     ensures { result ≡ clients_in links.now }
 {
-    links.iter().filter(|link| link.is_client()).count()
+    let mut count = 0;
+    for link in links {
+        if link.is_client() {
+            count += 1;
+        }
+    }
+    count
 }
 
 /// Whether the port of that link has filters.

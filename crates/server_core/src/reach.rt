@@ -1,14 +1,15 @@
 //! What the core keeps for other servers: its uplinks, and what the last round has for them.
-ghost use Rattle.std.specs.Prelude.{◌≡◌, ◌++◌, ◌≤◌, [], IfOk, None, OnOk, filter, length, map};
+ghost use Rattle.std.specs.Prelude.{◌≡◌, ◌++◌, ◌≤◌, [], IfOk, None, OnOk, filter, length, map, if◌then◌else◌};
 ghost use Rattle.std.specs.Arc.{arc_value};
 ghost use Rattle.aprs_history.specs.Dials.{casts_to};
-ghost use Rattle.server_core.specs.LinkSteps.{ended_all, is_lost, numbers};
+ghost use Rattle.server_core.specs.LinkSteps.{ended_all, has_number, is_lost, numbers};
 ghost use Rattle.server_core.specs.Meaning.{peer_of};
 ghost use Rattle.uplinks_peers.specs.Uplinks.{acts_at, untried, uplinks_after};
 ghost use Rattle.uplinks_peers.specs.declared.uplinks.UpEvent.TheVariants as up;
 
 use crate::acts::CastOut;
 use crate::link::Link;
+use crate::links::has_link;
 use aprs_base::{Line, Memory};
 use aprs_conf::PeerSpec;
 use std::alloc::Global;
@@ -79,15 +80,26 @@ impl Reach {
         self.uplinks.step(UpEvent::Unjoined(uplink), now);
     }
 
-    /// A link brought bytes.
-    pub fn hear(&mut self, link: u32, now: u64)
-        ensures { self.new ≡ record self.old { uplinks = uplinks_after (up.Heard link) now self.old.uplinks } }
+    /// A link brought bytes, where it is there.
+    pub fn hear_at(&mut self, links: &[Link], link: u32, now: u64)
+        ensures { self.new ≡ (if has_number link links.now then record self.old { uplinks = uplinks_after (up.Heard link) now self.old.uplinks } else self.old) }
     {
-        self.uplinks.step(UpEvent::Heard(link), now);
+        if has_link(links, link) {
+            self.uplinks.step(UpEvent::Heard(link), now);
+        }
+    }
+
+    /// A link ended, where it was there.
+    pub fn end_at(&mut self, links: &[Link], link: u32, now: u64)
+        ensures { self.new ≡ (if has_number link links.now then record self.old { uplinks = uplinks_after (up.Ended link) now self.old.uplinks } else self.old) }
+    {
+        if has_link(links, link) {
+            self.end(link, now);
+        }
     }
 
     /// A link ended.
-    pub fn end(&mut self, link: u32, now: u64)
+    fn end(&mut self, link: u32, now: u64)
         ensures { self.new ≡ record self.old { uplinks = uplinks_after (up.Ended link) now self.old.uplinks } }
     {
         self.uplinks.step(UpEvent::Ended(link), now);

@@ -1,5 +1,5 @@
 //! The core: it takes a round of events, and says what is to be done.
-ghost use Rattle.std.specs.Prelude.{◌≡◌, ◌∷◌, [], ◌≤◌, ◌<◌, ℕ, IsTrue, IfOk, OnOk, IfSome, IsNone, List, length, false, true, Some, None, filter, map, min, take, if◌then◌else◌};
+ghost use Rattle.std.specs.Prelude.{◌≡◌, ◌∷◌, [], ◌≤◌, ◌<◌, ℕ, IsTrue, IfOk, OnOk, IfSome, IsNone, List, ◌++◌, length, false, true, Some, None, filter, map, min, take, if◌then◌else◌};
 ghost use Rattle.std.specs.Arc.{arc_value};
 ghost use Rattle.aprs_base.specs.Bytes.{is_station};
 ghost use Rattle.aprs_base.specs.Outside.{new_link};
@@ -11,19 +11,22 @@ ghost use Rattle.aprs_base.specs.declared.cutting.Cut.{Cut};
 ghost use Rattle.aprs_base.specs.declared.packets.Source.TheVariants as Source;
 ghost use Rattle.aprs_conf.specs.Sound.{IsGroup};
 ghost use Rattle.q_construct.specs.Rule.{has_station};
+ghost use Rattle.uplinks_peers.specs.Uplinks.{acts_at, uplinks_after};
+ghost use Rattle.uplinks_peers.specs.declared.uplinks.UpEvent.TheVariants as up;
 ghost use Rattle.q_construct.specs.declared.origins.Origin.TheVariants as Origin;
 ghost use Rattle.tnc2_line.specs.Packet.{parts_of};
 ghost use Rattle.line_verdict.specs.Fit.{all_few, has_few};
 ghost use Rattle.line_verdict.specs.Voices.{HasStation, line_verdict, voice_verdict};
 ghost use Rattle.aprs_history.specs.Scenes.{datagram_scene, packet_of, scene_of};
 ghost use Rattle.aprs_history.specs.Verdicts.{packet_verdict, read_and_routed, submitter_of, verdict_of};
+ghost use Rattle.aprs_history.specs.declared.verdicts.Admission.TheVariants as Admission;
 ghost use Rattle.aprs_history.specs.declared.verdicts.FilterAnswer.{FilterAnswer};
 ghost use Rattle.aprs_history.specs.declared.verdicts.Verdict.{Verdict};
 ghost use Rattle.aprs_history.specs.Stands.{Follows, reach_of};
 ghost use Rattle.aprs_history.specs.History.{History, admission, admitted, begin_round, dated, datagram_cuts, end_each, end_round, end_stopped, joined_admission, refuse_datagram, refused_links, refused_reason, relay, say_all, submit, trace_of, with_bytes_of, with_event, with_lines, with_tick};
 ghost use Rattle.aprs_history.specs.Rounds.{AreFresh, events_trace, greatest_after, is_whole, only_listens, stopped_after, with_events};
 ghost use Rattle.aprs_history.specs.Texts.{first_line, untaken};
-ghost use Rattle.server_core.specs.LinkSteps.{AreServed, IsDatagram, IsWhole, Rises, admitted_in, after_login, after_packet, cast_with, clients_in, has_number, is_late_link, is_overfull, is_ready, noted_from, number_of, numbers, owed_in, pending_at, promised_all, source_found, spent, submitted_from, with_reply, with_shown};
+ghost use Rattle.server_core.specs.LinkSteps.{AreServed, IsDatagram, Rises, admitted_in, after_login, joined_outcome, after_packet, cast_with, clients_in, has_number, is_late_link, is_overfull, is_ready, noted_from, number_of, numbers, owed_in, pending_at, promised_all, source_found, spent, submitted_from, with_reply, with_shown};
 ghost use Rattle.aprs_base.specs.declared.events.Happening.{Happening};
 ghost use Rattle.aprs_base.specs.declared.events.Sent.{Sent};
 ghost use Rattle.server_core.specs.Meaning.{AreActs, Stands, numbered, peer_of, setting_of, timeouts_of};
@@ -41,8 +44,8 @@ use crate::conf::{
 use crate::link::{Link, SourcePlace, Timeouts};
 use crate::links::{
     all, bring, count_clients, drop_gone, drop_late, drop_link, drop_these, forget_places,
-    give_room, has_link, is_submitted, late, log_in, logins, lose, offer, others, overfull,
-    place_all, ready, reply, set_filter, share, show_all, take, tell_all, voice_at,
+    give_room, is_submitted, late, log_in, logins, lose, offer, others, overfull, place_all, ready,
+    reply, set_filter, share, show_all, take, tell_all, voice_at,
 };
 use crate::messages::{
     forget_all, forget_lost, hearers_of, is_position, note_from, owed_to, promise_all, receiver_of,
@@ -110,6 +113,17 @@ fn timeouts(conf: &Conf) -> Timeouts
     Timeouts {
         client: client_timeout(conf),
         uplink: uplink_timeout(conf),
+    }
+}
+
+/// What becomes of a link to an uplink, which was being dialled or wasn't.
+fn joined_outcome(uplink: u16, asked: bool) -> Admission
+    ensures { result ≡ joined_outcome uplink asked }
+{
+    if asked {
+        Admission::Served(LinkKind::Uplink(uplink))
+    } else {
+        Admission::NotAsked
     }
 }
 
@@ -480,7 +494,9 @@ impl Core {
         match self.judge_carried(alloc, origin, cut)? {
             Verdict::Refused(refusal) => self.refuse(alloc, &from, refusal),
             Verdict::Accepted(parts, line) => self.accept(alloc, from, parts, line),
-            Verdict::PassedOver | Verdict::LoggedIn(..) | Verdict::Filtered(_) => Ok(()),
+            Verdict::PassedOver => Ok(()),
+            Verdict::LoggedIn(_session, _answer) => Ok(()),
+            Verdict::Filtered(_answer) => Ok(()),
         }
     }
 
@@ -549,7 +565,6 @@ impl Core {
         listener: u16,
         refusal: Refusal,
     ) -> Result<(), Memory>
-        requires { IsWhole refusal }
         ensures walks { (t : Trace) (cut : Cut) → Walks self.old t → OnOk result (Walks self.new (refuse_datagram listener cut refusal t)) }
         ensures rest { OnOk result (SameRest self.old self.new) }
     {
@@ -639,9 +654,8 @@ impl Core {
         ensures dead { (t : Trace) → Walks self.old t → is_live t number ≡ false → IfOk result (λ cuts. (cuts.items ≡ []) × Walks self.new t) }
         ensures rest { OnOk result (SameRest self.old self.new) }
     {
-        if has_link(self.links.as_slice(), number) {
-            self.reach.hear(number, self.moment);
-        }
+        self.reach
+            .hear_at(self.links.as_slice(), number, self.moment);
         bring(alloc, &mut self.links, number, self.moment, bytes)
     }
 
@@ -654,19 +668,53 @@ impl Core {
         from: Addr,
     ) -> Result<(), Memory>
         requires { self.old.seen.greatest < number }
-        ensures admitted { OnOk result (self.new ≡ record self.old { seen = admitted_in (setting_of self.old.conf) admission number from self.old.seen }) }
+        ensures { OnOk result (self.new ≡ record self.old { seen = admitted_in (setting_of self.old.conf) admission number from self.old.seen }) }
+    {
+        match admission {
+            Admission::Served(kind) => self.serve(alloc, kind, number, from),
+            Admission::TurnedAway => self.turn_away(number),
+            Admission::NotAsked => self.turn_away(number),
+            Admission::NoPort => {
+                self.pass_over(number);
+                Ok(())
+            }
+        }
+    }
+
+    /// A link is served.
+    fn serve(
+        &mut self,
+        alloc: Global,
+        kind: LinkKind,
+        number: u32,
+        from: Addr,
+    ) -> Result<(), Memory>
+        requires { self.old.seen.greatest < number }
+        ensures { OnOk result (self.new ≡ record self.old { seen = admitted_in (setting_of self.old.conf) (Admission.Served kind) number from self.old.seen }) }
+    {
+        let first = self.first_line(alloc, kind)?;
+        let link = Link::open(alloc, number, kind, from, self.moment, first)?;
+        self.links.push(link)?;
+        self.greatest = number;
+        Ok(())
+    }
+
+    /// A link isn't served, and is closed as the round ends.
+    fn turn_away(&mut self, number: u32) -> Result<(), Memory>
+        requires { self.old.seen.greatest < number }
+        ensures { OnOk result (self.new ≡ record self.old { seen = record self.old.seen { greatest = number; turned = self.old.seen.turned ++ number ∷ [] } }) }
+    {
+        self.turned.push(number)?;
+        self.greatest = number;
+        Ok(())
+    }
+
+    /// A link comes where none is served.
+    fn pass_over(&mut self, number: u32)
+        requires { self.old.seen.greatest < number }
+        ensures { self.new ≡ record self.old { seen = record self.old.seen { greatest = number } } }
     {
         self.greatest = number;
-        match admission {
-            Admission::Served(kind) => {
-                let first = self.first_line(alloc, kind)?;
-                self.links
-                    .push(Link::open(alloc, number, kind, from, self.moment, first)?)?;
-            }
-            Admission::TurnedAway | Admission::NotAsked => self.turned.push(number)?,
-            Admission::NoPort => {}
-        }
-        Ok(())
     }
 
     /// What the text of a link begins with.
@@ -701,12 +749,19 @@ impl Core {
         ensures greatest { OnOk result (self.new.seen.greatest ≡ number) }
         ensures stopped { OnOk result (self.new.seen.stopped ≡ self.old.seen.stopped) }
     {
-        let admission = if self.reach.join(uplink, number, self.moment) {
-            Admission::Served(LinkKind::Uplink(uplink))
-        } else {
-            Admission::NotAsked
-        };
-        self.admit(alloc, admission, number, at)
+        let asked = self.ask(uplink, number);
+        self.admit(alloc, joined_outcome(uplink, asked), number, at)
+    }
+
+    /// Whether an uplink that has joined was being dialled.
+    fn ask(&mut self, uplink: u16, number: u32) -> bool
+        ensures rising { Rises 0 (numbers self.old.seen.links) self.old.seen.greatest }
+        ensures asked { result ≡ (acts_at (up.Joined uplink number) self.old.seen.moment self.old.seen.reach.uplinks).login }
+        ensures joins { self.new ≡ record self.old {
+          seen = record self.old.seen { reach = record self.old.seen.reach { uplinks = uplinks_after (up.Joined uplink number) self.old.seen.moment self.old.seen.reach.uplinks } };
+        } }
+    {
+        self.reach.join(uplink, number, self.moment)
     }
 
     /// A dial came to nothing.
@@ -719,7 +774,8 @@ impl Core {
 
     /// What becomes of a connection on that listener.
     fn admission(&self, listener: u16) -> Admission
-        ensures { result ≡ admitted self.now.conf.max_clients (clients_in self.now.seen.links) (kind_at (setting_of self.now.conf) listener) }
+        ensures value { result ≡ admitted self.now.conf.max_clients (clients_in self.now.seen.links) (kind_at (setting_of self.now.conf) listener) }
+        ensures rising { Rises 0 (numbers self.now.seen.links) self.now.seen.greatest }
     {
         match served_by(&self.conf, listener) {
             Some(kind) if is_client_kind(kind) => {
@@ -739,9 +795,8 @@ impl Core {
         ensures dead { (t : Trace) → Walks self.old t → is_live t number ≡ false → Walks self.new t }
         ensures rest { SameRest self.old self.new }
     {
-        if has_link(self.links.as_slice(), number) {
-            self.reach.end(number, self.moment);
-        }
+        self.reach
+            .end_at(self.links.as_slice(), number, self.moment);
         self.heard.forget(number);
         drop_link(&mut self.links, number);
     }

@@ -7,7 +7,7 @@ use Rattle.server_core.proofs.links.share.Goals as goal
 pub loop-link-preserved : goal.loop-link-preserved
 loop-link-preserved c = (
   map-set_same number_of c.loop-link.link-items c.loop-link.link-index c.hear.new.self c.link-item.result (c.hear.ensures.number) ∙ c.loop-link.invariant.0,
-  mapped_more (with_packet c.args.from c.args.packet.now c.args.source.now c.args.hearers.now c.args.owed.now) c.deref_mut-link-items.result.now c.loop-link.link-items c.loop-link.link-index c.hear.new.self c.link-item.result
+  mapped_more (with_packet c.args.packet.now c.args.source.now c.args.hearers.now c.args.owed.now) c.deref_mut-link-items.result.now c.loop-link.link-items c.loop-link.link-index c.hear.new.self c.link-item.result
       c.loop-link-test.true c.loop-link.invariant.1 c.in_ok-hear.ensures.ok,
 )
 

@@ -4,4 +4,4 @@ use Rattle.server_core.proofs.links.share.Given as goal
 
 abbrev pub invariant-loop-link : goal.invariant-loop-link
 invariant-loop-link l =
-    (numbers l.link-items ≡ numbers l.initial.link-items) × (l.link-items ≡ map (with_packet l.from l.packet l.source l.hearers l.owed) (take l.link-index l.initial.link-items) ++ drop l.link-index l.initial.link-items)
+    (numbers l.link-items ≡ numbers l.initial.link-items) × (l.link-items ≡ map (with_packet l.packet l.source l.hearers l.owed) (take l.link-index l.initial.link-items) ++ drop l.link-index l.initial.link-items)

@@ -1,13 +1,22 @@
-use Rattle.std.proofs.Common.{get_or, ap, ◌∙◌}
-use Rattle.std.specs.Arc.{arc_value}
+use Rattle.std.proofs.Common.{◌≡◌, ap, sym, ◌∙◌, length, slice_set, length-set}
 use Rattle.std.proofs.Math.Seq.{map-set_same}
-use Rattle.server_core.specs.LinkSteps.{with_text, number_of}
-use Rattle.server_core.proofs.LinkLemmas.{mapped_more}
+use Rattle.std.specs.Arc.{arc_value}
+use Rattle.server_core.specs.LinkSteps.{with_date, number_of, numbers}
+use Rattle.server_core.proofs.LinkLemmas.{mapped_more, written_back}
 use Rattle.server_core.proofs.links.tell_all.Goals as goal
 
 pub loop-link-preserved : goal.loop-link-preserved
 loop-link-preserved c = (
-  map-set_same number_of c.loop-link.link-items c.loop-link.link-index c.push.new.self c.link-item.result (c.push.ensures.number) ∙ c.loop-link.invariant.0,
-  mapped_more (with_text (arc_value c.args.line.now)) c.deref_mut-link-items.result.now c.loop-link.link-items c.loop-link.link-index c.push.new.self c.link-item.result
-      c.loop-link-test.true c.loop-link.invariant.1 (c.push.ensures.exact ∙ ap (λ text. with_text text (get_or c.loop-link.link-items c.loop-link.link-index c.link-item.result)) c.in_ok-clone.ensures.cases),
+  map-set_same number_of c.loop-link.link-items c.loop-link.link-index c.tell_date.new.self c.link-item.result (c.tell_date.ensures.number) ∙ c.loop-link.invariant.0,
+  mapped_more (with_date (arc_value c.args.line.now)) c.deref_mut-link-items.result.now c.loop-link.link-items c.loop-link.link-index c.tell_date.new.self c.link-item.result
+      c.loop-link-test.true c.loop-link.invariant.1 c.in_ok-tell_date.ensures.ok,
 )
+
+pub returns-in_err-tell_date-clause-numbers : goal.returns-in_err-tell_date-clause-numbers
+returns-in_err-tell_date-clause-numbers c =
+    let new = slice_set c.loop-link.link-items c.loop-link.link-index c.tell_date.new.self in
+    let kept : numbers new ≡ numbers c.deref_mut-link-items.result.now =
+    map-set_same number_of c.loop-link.link-items c.loop-link.link-index c.tell_date.new.self c.link-item.result c.tell_date.ensures.number ∙ c.loop-link.invariant.0 in
+    let size : length new ≡ length c.args.links.now.items =
+    length-set c.loop-link.link-items c.loop-link.link-index c.tell_date.new.self ∙ c.loop-link.auto.link-items ∙ ap length c.deref_mut-link-items.ensures.value in
+    ap numbers (written_back c.args.links.now.len new c.args.links.now.items size (sym c.deref_mut-link-items.ensures.len ∙ ap length c.deref_mut-link-items.ensures.value)) ∙ kept ∙ ap numbers c.deref_mut-link-items.ensures.value

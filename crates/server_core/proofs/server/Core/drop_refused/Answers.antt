@@ -1,6 +1,9 @@
 use Rattle.std.proofs.Common.{subst, sym, ap, ◌∙◌, filter}
 use Rattle.std.proofs.lemmas.Result.{on_ok_weaker}
 use Rattle.aprs_history.specs.Trace.{placed_all}
+use Rattle.aprs_conf.specs.Seen.{ConfSeen}
+use Rattle.aprs_history.specs.History.{end_each, refused_links, refused_reason}
+use Rattle.server_core.specs.Meaning.{setting_of}
 use Rattle.server_core.specs.LinkSteps.{Rises, is_none_of, is_overfull, numbers}
 use Rattle.server_core.specs.Meaning.{CoreMeaning}
 use Rattle.server_core.specs.Steps.{Walks}
@@ -14,12 +17,13 @@ invariant_of-self c = record {
       (rises_filter (is_none_of c.args.ends.now) 0 c.self.inside.greatest c.self.inside.links.items c.self.invariant.rising);
   small = c.self.invariant.small;
   station = c.self.invariant.station;
+  group = c.self.invariant.group;
 }
 
 pub returns-clause-walks : goal.returns-clause-walks
 returns-clause-walks c = λ t walks ends.
     on_ok_weaker c.place_all.result
-    (λ closed. walks_refused _ c.args.self.now.conf t c.args.ends.now c.place_all.new.numbers.items c.drop_these.new.links.items c.forget_all.new.heard (subst (λ core. Walks core t) (sym c.self.view_is) walks) (ap (λ (core : CoreMeaning). core.conf) c.self.view_is)
+    (λ closed. walks_refused _ c.args.self.now.conf t c.args.ends.now c.place_all.new.numbers.items c.drop_these.new.links.items c.forget_all.new.heard c.end_all.new.self (subst (λ core. Walks core t) (sym c.self.view_is) walks) (ap (λ (core : CoreMeaning). core.conf) c.self.view_is)
     (ends ∙ ap (λ (core : CoreMeaning). placed_all core.seen.turned (numbers (filter is_overfull core.seen.links))) (sym c.self.view_is))
-    c.drop_these.ensures c.forget_all.ensures closed)
+    c.drop_these.ensures c.forget_all.ensures c.end_all.ensures closed)
     c.place_all.ensures

@@ -1,4 +1,9 @@
 use Rattle.std.proofs.Common.{subst, sym}
+use Rattle.std.proofs.Common.{◌≡◌, ◌∙◌, ℕ, List, ap, if◌then◌else◌}
+use Rattle.aprs_history.specs.Stands.{LinkSeen, ReachSeen}
+use Rattle.uplinks_peers.specs.declared.uplinks.UpEvent.TheVariants as up
+use Rattle.uplinks_peers.specs.Uplinks.{uplinks_after}
+use Rattle.server_core.specs.LinkSteps.{has_number}
 use Rattle.server_core.specs.LinkSteps.{Rises, numbers, is_another}
 use Rattle.server_core.specs.Steps.{Walks}
 use Rattle.server_core.proofs.LinkLemmas.{rises_filter}
@@ -10,10 +15,20 @@ invariant_of-self c = record {
   rising = subst (λ links. Rises 0 (numbers links) c.self.inside.greatest) (sym c.drop_link.ensures) (rises_filter (is_another c.args.number) 0 c.self.inside.greatest c.self.inside.links.items c.self.invariant.rising);
   small = c.self.invariant.small;
   station = c.self.invariant.station;
+  group = c.self.invariant.group;
 }
 
+reach_ended : (number : ℕ) (links old : List LinkSeen) (now : ℕ) (reach new : ReachSeen) → links ≡ old
+    → new ≡ (if has_number number links then record reach { uplinks = uplinks_after (up.Ended number) now reach.uplinks } else reach)
+    → new ≡ (if has_number number old then record reach { uplinks = uplinks_after (up.Ended number) now reach.uplinks } else reach)
+reach_ended number links old now reach new same is = is ∙ ap (λ ls. if has_number number ls then record reach { uplinks = uplinks_after (up.Ended number) now reach.uplinks } else reach) same
+
 pub returns-clause-live : goal.returns-clause-live
-returns-clause-live c = λ t walks live. walks_ended _ t (subst (λ core. Walks core t) (sym c.self.view_is) walks) c.args.number c.drop_link.new.links.items c.forget.new.self c.drop_link.ensures c.forget.ensures.removed
+returns-clause-live c = λ t walks live.
+    walks_ended _ t (subst (λ core. Walks core t) (sym c.self.view_is) walks) c.args.number c.drop_link.new.links.items c.forget.new.self c.end_at.new.self live c.drop_link.ensures c.forget.ensures.removed
+    (reach_ended c.args.number c.as_slice.result.now c.self.inside.links.items c.self.inside.moment c.self.inside.reach c.end_at.new.self c.as_slice.ensures.value c.end_at.ensures)
 
 pub returns-clause-dead : goal.returns-clause-dead
-returns-clause-dead c = λ t walks dead. walks_no_end _ t (subst (λ core. Walks core t) (sym c.self.view_is) walks) c.args.number c.drop_link.new.links.items c.forget.new.self dead c.drop_link.ensures c.forget.ensures.removed
+returns-clause-dead c = λ t walks dead.
+    walks_no_end _ t (subst (λ core. Walks core t) (sym c.self.view_is) walks) c.args.number c.drop_link.new.links.items c.forget.new.self c.end_at.new.self dead c.drop_link.ensures c.forget.ensures.removed
+    (reach_ended c.args.number c.as_slice.result.now c.self.inside.links.items c.self.inside.moment c.self.inside.reach c.end_at.new.self c.as_slice.ensures.value c.end_at.ensures)

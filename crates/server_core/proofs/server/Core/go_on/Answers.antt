@@ -10,6 +10,7 @@ invariant_of-self c = record {
   rising = subst (λ ns. Rises 0 ns c.self.inside.greatest) (sym (ap numbers c.forget_places.ensures ∙ numbers_kept (at_moment c.max-self-inside.result) (λ link. refl) c.self.inside.links.items)) c.self.invariant.rising;
   small = c.self.invariant.small;
   station = c.self.invariant.station;
+  group = c.self.invariant.group;
 }
 
 pub returns-clause-walks : goal.returns-clause-walks

@@ -13,6 +13,7 @@ invariant_of-self c = record {
   rising = rises_at c.args.number with_room (λ link. refl) c.self.inside.greatest c.self.inside.links.items c.give_room.new.links.items c.give_room.ensures c.self.invariant.rising;
   small = c.self.invariant.small;
   station = c.self.invariant.station;
+  group = c.self.invariant.group;
 }
 
 pub returns-clause-live : goal.returns-clause-live

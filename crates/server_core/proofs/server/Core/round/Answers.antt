@@ -27,4 +27,4 @@ returns-clause-due g c = λ h stands.
       finished = c.in_ok-finish.ensures.follows;
       kept = c.in_ok-finish.ensures.rest;
     } in
-    acts_ok c.args.self.now c.begin.new.self c.walk.new.self c.finish.new.self c.args.events.now round h stands c.acts.result c.acts.ensures.offers c.acts.ensures.closes c.acts.ensures.none
+    acts_ok c.args.self.now c.begin.new.self c.walk.new.self c.finish.new.self c.args.events.now round h stands c.acts.result c.acts.ensures.offers c.acts.ensures.closes c.acts.ensures.dial c.acts.ensures.casts

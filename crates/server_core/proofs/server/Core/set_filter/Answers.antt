@@ -1,6 +1,23 @@
-use Rattle.std.proofs.Common.{◌^◌, arith}
+use Rattle.std.proofs.Common.{◌^◌, ◌∙◌, ap, arith, map}
+use Rattle.aprs_base.specs.declared.packets.Source.TheVariants as source
+use Rattle.std.specs.Arc.{arc_value}
+use Rattle.aprs_history.specs.declared.verdicts.FilterAnswer.TheVariants.{Active}
+use Rattle.aprs_history.specs.declared.verdicts.Verdict.TheVariants.{Filtered}
+use Rattle.server_core.specs.LinkSteps.{at_link, found_in, with_filter}
+use Rattle.server_core.specs.Meaning.{CoreMeaning}
+use Rattle.server_core.specs.Steps.{with_verdict}
+use Rattle.server_core.proofs.CoreLemmas.{relinked}
 use Rattle.server_core.proofs.LinkLemmas.{rises_to}
 use Rattle.server_core.proofs.server.Core.set_filter.Goals as goal
 
 pub set_filter-requires-clause-rises : goal.set_filter-requires-clause-rises
 set_filter-requires-clause-rises c = rises_to 0 c.self.inside.greatest (2 ^ 32) _ c.self.invariant.rising (let small = c.self.invariant.small in omega arith)
+
+pub returns : goal.returns
+returns c =
+    let i = c.self.inside in
+    let core : CoreMeaning = record { conf = i.conf; seen = record { moment = i.moment; links = i.links.items; turned = i.turned.items; closing = i.closing.items; accepted = i.accepted.items; stations = i.stations; heard = i.heard; reach = i.reach; greatest = i.greatest; stopped = i.stopped } } in
+    ap (λ links. relinked links core) (c.set_filter.ensures.exact
+    ∙ ap (λ friends. map (at_link c.args.number (with_filter c.args.filter friends (arc_value c.in_ok-line.line))) i.links.items) c.friends_found-friends.ensures
+    ∙ ap (λ line. map (at_link c.args.number (with_filter c.args.filter (map (found_in i.moment i.stations) c.args.filter) line)) i.links.items) c.in_ok-line.ensures.ok)
+    ∙ ap (with_verdict (source.Link c.args.number) (Filtered (Active c.args.filter c.args.line))) c.self.view_is

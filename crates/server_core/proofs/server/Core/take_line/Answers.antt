@@ -1,6 +1,7 @@
 use Rattle.std.proofs.Common.{subst, sym, ◌∙◌}
 use Rattle.server_core.specs.Steps.{scene_at}
-use Rattle.server_core.proofs.VerdictLemmas.{IsFit, verdict_fit}
+use Rattle.line_verdict.specs.Fit.{IsFit}
+use Rattle.line_verdict.proofs.VerdictLemmas.{verdict_fit}
 use Rattle.server_core.proofs.server.Core.take_line.Goals as goal
 
 pub log_in-requires-clause-station : goal.log_in-requires-clause-station

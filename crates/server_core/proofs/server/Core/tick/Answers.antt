@@ -2,8 +2,8 @@ use Rattle.std.proofs.Common.{◌≡◌, ◌∷◌, OnOk, subst, ap, ◌∙◌}
 use Rattle.aprs_conf.specs.Seen.{ConfSeen}
 use Rattle.aprs_history.specs.History.{dated, end_each}
 use Rattle.aprs_history.specs.Links.{late_links, late_reason}
-use Rattle.aprs_history.specs.Trace.{Ticked, moment_of}
-use Rattle.server_core.specs.Meaning.{CoreMeaning}
+use Rattle.aprs_history.specs.Trace.{Looked, Ticked, moment_of}
+use Rattle.server_core.specs.Meaning.{CoreMeaning, setting_of}
 use Rattle.server_core.specs.Steps.{Walks}
 use Rattle.server_core.proofs.server.Core.tick.Goals as goal
 
@@ -12,6 +12,7 @@ returns-clause-walks c = λ t walks.
     let now = Ticked c.args.moment ∷ t in
     let ended = c.in_ok-end_late.ensures.walks now (c.go_on.ensures.walks t walks) in
     let before : c.self.inside.moment ≡ moment_of t = ap (λ (core : CoreMeaning). core.seen.moment) c.self.view_is ∙ walks.follows.moment in
-    subst (λ (conf : ConfSeen). OnOk c.tell_date.result (Walks c.tell_date.new.self (dated (moment_of t) (end_each (late_reason now) (late_links conf.client_timeout now) now)))) c.go_on.ensures.rest.conf
-    (subst (λ m. OnOk c.tell_date.result (Walks c.tell_date.new.self (dated m (end_each (late_reason now) (late_links c.go_on.new.self.conf.client_timeout now) now)))) before
-    (c.tell_date.ensures.walks _ ended))
+    let told = c.in_ok-tell_date.ensures.walks _ ended in
+    subst (λ (conf : ConfSeen). Walks c.look.new.self (Looked ∷ dated (moment_of t) (end_each (late_reason now) (late_links (setting_of conf) now) now))) c.go_on.ensures.rest.conf
+    (subst (λ m. Walks c.look.new.self (Looked ∷ dated m (end_each (late_reason now) (late_links (setting_of c.go_on.new.self.conf) now) now))) before
+    (c.look.ensures.walks _ told))

@@ -1,0 +1,8 @@
+use Rattle.std.proofs.Common.{◌≡◌, drop}
+use Rattle.server_core.specs.LinkSteps.{ended_all}
+use Rattle.server_core.proofs.reach.Reach.end_all.Given as goal
+
+-- what is left to end, on what has ended so far, makes the whole
+abbrev pub invariant-loop-link : goal.invariant-loop-link
+invariant-loop-link l =
+    record l.self { uplinks = ended_all (drop l.link-index l.links) l.now l.self.uplinks } ≡ record l.initial.self { uplinks = ended_all l.links l.now l.initial.self.uplinks }
