@@ -20,7 +20,7 @@ use Rattle.aprs_history.proofs.Rows.{client, crlf, listen, server_on, told_in}
 setting : Setting
 setting = server_on (listen kind.Full 10152 ∷ [])
 
-abbrev at_moment : ℕ → Happening
+abbrev pub at_moment : ℕ → Happening
 at_moment moment = did.Event (event.Tick moment)
 
 abbrev opens : ℕ → Happening
@@ -35,7 +35,7 @@ ends_in [] = []
 ends_in (Ended link reason ∷ trace) = (link, reason) ∷ ends_in trace
 ends_in (entry ∷ trace) = ends_in trace
 
-abbrev ends : Setting → History → List (ℕ × EndReason)
+abbrev pub ends : Setting → History → List (ℕ × EndReason)
 ends s history = ends_in (trace_of s history)
 
 listening : History

@@ -35,6 +35,12 @@ IsSaidBy t (source.Link link) = is_live t link ≡ true
 IsSaidBy t (source.Submit listener) = ⊤
 IsSaidBy t (source.Peer peer) = ⊤
 
+-- and is judged by what it meets there
+abbrev pub IsJudged : Setting → Trace → Source → Cut → Verdict → Type 0
+IsJudged s t (source.Link link) cut verdict = verdict ≡ verdict_of (scene_of s t link) cut
+IsJudged s t (source.Submit listener) cut verdict = ⊤
+IsJudged s t (source.Peer peer) cut verdict = ⊤
+
 -- what the last event of a history may add before a stop: no outcome of a send, no opening but of such a link, lines of links that live,
 -- and ends by the rules
 abbrev pub MayAdd : Setting → History → (ℕ → Type 0) → Trace → Entry → Type 0
@@ -42,7 +48,7 @@ MayAdd s h Opens t RoundBegan = ⊤
 MayAdd s h Opens t (Ticked moment) = ⊤
 MayAdd s h Opens t (Opened door admission link from) = Opens link
 MayAdd s h Opens t (Brought link bytes) = is_live t link ≡ true
-MayAdd s h Opens t (Said from cut verdict) = IsSaidBy t from
+MayAdd s h Opens t (Said from cut verdict) = IsSaidBy t from × IsJudged s t from cut verdict
 MayAdd s h Opens t (Roomed link) = ⊤
 MayAdd s h Opens t (Took link offered taken) = ⊥
 MayAdd s h Opens t (Lost link) = ⊥
@@ -103,10 +109,13 @@ said_on (source.Peer peer) t said cut verdict = tt
 
 -- what each such entry keeps
 module _ (s : Setting) (h : History) (Opens : ℕ → Type 0) (R : Trace → Type 0) (adds : (t : Trace) (entry : Entry) → MayAdd s h Opens t entry → R t → R (entry ∷ t)) where
-  kept_said : (scene : Trace → Scene) (from : Source) (cuts : List Cut) (t : Trace) → IsSaidBy t from → R t → R (say_all scene from cuts t)
-  kept_said scene from [] t said r = r
-  kept_said scene from (cut ∷ cuts) t said r =
-      let entry = Said from cut (verdict_of (scene t) cut) in kept_said scene from cuts (entry ∷ t) (said_on from t said cut (verdict_of (scene t) cut)) (adds t entry said r)
+  kept_said : (scene : Trace → Scene) (from : Source) → ((t : Trace) (cut : Cut) → IsJudged s t from cut (verdict_of (scene t) cut)) → (cuts : List Cut) (t : Trace) → IsSaidBy t from → R t
+      → R (say_all scene from cuts t)
+  kept_said scene from judged [] t said r = r
+  kept_said scene from judged (cut ∷ cuts) t said r =
+      let verdict = verdict_of (scene t) cut in
+      let entry = Said from cut verdict in
+      kept_said scene from judged cuts (entry ∷ t) (said_on from t said cut verdict) (adds t entry (said, judged t cut) r)
 
   kept_each : (reason : ℕ → EndReason) (ks : List ℕ) (t : Trace) → ((k : ℕ) → is_member k ks ≡ true → MayEnd s h t k (reason k)) → R t → R (end_each reason ks t)
   kept_each reason [] t ends r = r
@@ -134,15 +143,15 @@ module _ (s : Setting) (h : History) (Opens : ℕ → Type 0) (R : Trace → Typ
       (kept_if (nat_lt (moment_of t / comment_seconds) (moment_of later / comment_seconds)) (Dated (moment_of later) ∷ later) later (λ is. adds later (Dated (moment_of later)) tt kept) kept)
 
   kept_refusal : (listener : ℕ) (cut : Cut) (why : Refusal) (t : Trace) → R t → R (Said (source.Submit listener) cut (Refused why) ∷ t)
-  kept_refusal listener cut why t r = adds t (Said (source.Submit listener) cut (Refused why)) tt r
+  kept_refusal listener cut why t r = adds t (Said (source.Submit listener) cut (Refused why)) (tt, tt) r
 
   kept_submit : (listener : ℕ) (cut : Cut) (cuts : List Cut) (by : Result (List ℕ) Refusal) (t : Trace) → R t → R (submit s listener cut cuts by t)
   kept_submit listener cut cuts (Err why) t r = kept_refusal listener cut why t r
-  kept_submit listener cut cuts (Ok login) t r = kept_said (datagram_scene s (origin.Udp login)) (source.Submit listener) cuts t tt r
+  kept_submit listener cut cuts (Ok login) t r = kept_said (datagram_scene s (origin.Udp login)) (source.Submit listener) (λ u cut. tt) cuts t tt r
 
   kept_relay : (listener : ℕ) (cut : Cut) (cuts : List Cut) (peer : Option (ℕ × List ℕ)) (t : Trace) → R t → R (relay s listener cut cuts peer t)
   kept_relay listener cut cuts None t r = kept_refusal listener cut refusal.Stranger t r
-  kept_relay listener cut cuts (Some peer) t r = kept_said (datagram_scene s (origin.Peer peer.1)) (source.Peer peer.0) (cut ∷ cuts) t tt r
+  kept_relay listener cut cuts (Some peer) t r = kept_said (datagram_scene s (origin.Peer peer.1)) (source.Peer peer.0) (λ u cut. tt) (cut ∷ cuts) t tt r
 
   kept_lines : (served : Option PortKind) (listener : ℕ) (from : Addr) (cuts : List Cut) (t : Trace) → R t → R (with_lines s served listener from cuts t)
   kept_lines served listener from [] t r = r
@@ -158,7 +167,7 @@ module _ (s : Setting) (h : History) (Opens : ℕ → Type 0) (R : Trace → Typ
   kept_event before (event.Tick moment) t last opens r = kept_tick moment t r
   kept_event before (event.Opened listener link from) t last opens r = adds t (Opened (AtListener listener) (admission s t listener) link from) opens r
   kept_event before (event.Bytes link bytes) t last opens r =
-      kept_if (is_live t link) (bring s link bytes t) t (λ live. kept_said (λ now. scene_of s now link) (source.Link link) (cuts_by (brought_by t link) bytes) (Brought link bytes ∷ t) live (adds t (Brought link bytes) live r)) r
+      kept_if (is_live t link) (bring s link bytes t) t (λ live. kept_said (λ now. scene_of s now link) (source.Link link) (λ u cut. refl) (cuts_by (brought_by t link) bytes) (Brought link bytes ∷ t) live (adds t (Brought link bytes) live r)) r
   kept_event before (event.Ended link) t last opens r = kept_if (is_live t link) (Ended link ByPeer ∷ t) t (λ live. adds t (Ended link ByPeer) (refl, ap (list_any (is_end_by_peer link)) last ∙ ap (λ b. b || list_any (is_end_by_peer link) before) (eq-eqb link link refl)) r) r
   kept_event before (event.Room link) t last opens r = kept_if (is_live t link) (Roomed link ∷ t) t (λ live. adds t (Roomed link) tt r) r
   kept_event before event.Stop t last opens r = r

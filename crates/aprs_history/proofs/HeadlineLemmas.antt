@@ -247,14 +247,32 @@ links_take_prefixes s h run fresh link =
     let text = text_bytes (lines_of s (trace_of s h) link) in
     sym (ap (λ bytes. bytes ++ drop n text) takes.0 ∙ take-append-drop n text)
 
+-- ---- what holds of each line of a text
+
+module _ (P : TextLine → Type 0) where
+  pub line_alone : (line : TextLine) → P line → All P (line ∷ [])
+  line_alone line p = All-cons P line [] p (All-nil P)
+
+  pub if_all : (b : Bool) (lines : List TextLine) → (b ≡ true → All P lines) → All P (if b then lines else [])
+  if_all true lines all = all refl
+  if_all false lines all = All-nil P
+
+  pub lines_all : (taken : ℕ) (lines : List TextLine) (text : Text) → All P lines → All P text.lines → All P (with_text_lines taken lines text).lines
+  lines_all taken [] text all before = before
+  lines_all taken (line ∷ lines) text all before =
+      let parts = recursion_from_All P (line ∷ lines) all in
+      lines_all taken lines (with_text_line taken line text) (All-from_recursion P lines parts.1) (of text.over (waiting_lines text taken == most_waiting) parts.0)
+    where
+      of : (over full : Bool) → P line → All P (if over then text else if full then record text { over = true } else record text { lines = text.lines ++ line ∷ [] }).lines
+      of true full first = before
+      of false true first = before
+      of false false first = All-append P text.lines (line ∷ []) before (line_alone line first)
+
 -- ---- no link's own packets
 
 module _ (s : Setting) (link : ℕ) where
-  line_alone : (line : TextLine) → IsOfAnother link line → All (IsOfAnother link) (line ∷ [])
-  line_alone line other = All-cons (IsOfAnother link) line [] other (All-nil (IsOfAnother link))
-
   reply_alone : (line : List ℕ) → All (IsOfAnother link) (reply_of line ∷ [])
-  reply_alone line = line_alone (reply_of line) tt
+  reply_alone line = line_alone (IsOfAnother link) (reply_of line) tt
 
   replies_all : (reply : Option (List ℕ)) → All (IsOfAnother link) (reply_lines reply)
   replies_all None = All-nil (IsOfAnother link)
@@ -264,16 +282,12 @@ module _ (s : Setting) (link : ℕ) where
   login_filter_all None = All-nil (IsOfAnother link)
   login_filter_all (Some answer) = reply_alone (filter_reply answer)
 
-  if_all : (b : Bool) (lines : List TextLine) → (b ≡ true → All (IsOfAnother link) lines) → All (IsOfAnother link) (if b then lines else [])
-  if_all true lines all = all refl
-  if_all false lines all = All-nil (IsOfAnother link)
-
   first_all : (admission : Admission) → All (IsOfAnother link) (first_lines s admission)
   first_all NoPort = All-nil (IsOfAnother link)
   first_all TurnedAway = All-nil (IsOfAnother link)
   first_all NotAsked = All-nil (IsOfAnother link)
-  first_all (Served (Client port)) = line_alone (first_line s (Client port)) tt
-  first_all (Served (Uplink uplink)) = line_alone (first_line s (Uplink uplink)) tt
+  first_all (Served (Client port)) = line_alone (IsOfAnother link) (first_line s (Client port)) tt
+  first_all (Served (Uplink uplink)) = line_alone (IsOfAnother link) (first_line s (Uplink uplink)) tt
 
   -- only what comes from another passes such a test
   not_own : (from : Source) (live others : Bool) → (not (is_from link from) && live && others) ≡ true → from ≢ source.Link link
@@ -283,40 +297,29 @@ module _ (s : Setting) (link : ℕ) where
   refused_all : (t : Trace) (from : Source) (why : Refusal) → All (IsOfAnother link) (refused_lines t from why link)
   refused_all t from (refusal.Duplicate parts line) =
       let packet = packet_of from (moment_of t) parts line in
-      if_all (is_shown t from link) (shown packet ∷ [])
-      (λ is. line_alone (shown packet) (not_own from (is_live t link) (shows_duplicates (opening_of t link) (session_of t link)) is))
-  refused_all t from (refusal.Login why) = if_all (is_from link from) (reply_lines (refusal_reply (refusal.Login why))) (λ is. replies_all (refusal_reply (refusal.Login why)))
-  refused_all t from refusal.OwnName = if_all (is_from link from) (reply_lines (refusal_reply refusal.OwnName)) (λ is. replies_all (refusal_reply refusal.OwnName))
-  refused_all t from refusal.Long = if_all (is_from link from) [] (λ is. All-nil (IsOfAnother link))
-  refused_all t from refusal.ReadOnly = if_all (is_from link from) [] (λ is. All-nil (IsOfAnother link))
-  refused_all t from refusal.Stranger = if_all (is_from link from) [] (λ is. All-nil (IsOfAnother link))
-  refused_all t from (refusal.Packet why) = if_all (is_from link from) [] (λ is. All-nil (IsOfAnother link))
-  refused_all t from (refusal.Path why) = if_all (is_from link from) [] (λ is. All-nil (IsOfAnother link))
+      if_all (IsOfAnother link) (is_shown t from link) (shown packet ∷ [])
+      (λ is. line_alone (IsOfAnother link) (shown packet) (not_own from (is_live t link) (shows_duplicates (opening_of t link) (session_of t link)) is))
+  refused_all t from (refusal.Login why) = if_all (IsOfAnother link) (is_from link from) (reply_lines (refusal_reply (refusal.Login why))) (λ is. replies_all (refusal_reply (refusal.Login why)))
+  refused_all t from refusal.OwnName = if_all (IsOfAnother link) (is_from link from) (reply_lines (refusal_reply refusal.OwnName)) (λ is. replies_all (refusal_reply refusal.OwnName))
+  refused_all t from refusal.Long = if_all (IsOfAnother link) (is_from link from) [] (λ is. All-nil (IsOfAnother link))
+  refused_all t from refusal.ReadOnly = if_all (IsOfAnother link) (is_from link from) [] (λ is. All-nil (IsOfAnother link))
+  refused_all t from refusal.Stranger = if_all (IsOfAnother link) (is_from link from) [] (λ is. All-nil (IsOfAnother link))
+  refused_all t from (refusal.Packet why) = if_all (IsOfAnother link) (is_from link from) [] (λ is. All-nil (IsOfAnother link))
+  refused_all t from (refusal.Path why) = if_all (IsOfAnother link) (is_from link from) [] (λ is. All-nil (IsOfAnother link))
 
   added_all : (t : Trace) (from : Source) (verdict : Verdict) → All (IsOfAnother link) (added_by s t from verdict link)
   added_all t from PassedOver = All-nil (IsOfAnother link)
   added_all t from (Refused why) = refused_all t from why
   added_all t from (LoggedIn session answer) =
       let reply = reply_of (login_reply s.server session) in
-      if_all (is_from link from) (reply ∷ login_filter_reply answer) (λ is. All-cons (IsOfAnother link) reply (login_filter_reply answer) tt (login_filter_all answer))
-  added_all t from (Filtered answer) = if_all (is_from link from) (reply_of (filter_reply answer) ∷ []) (λ is. reply_alone (filter_reply answer))
+      if_all (IsOfAnother link) (is_from link from) (reply ∷ login_filter_reply answer) (λ is. All-cons (IsOfAnother link) reply (login_filter_reply answer) tt (login_filter_all answer))
+  added_all t from (Filtered answer) = if_all (IsOfAnother link) (is_from link from) (reply_of (filter_reply answer) ∷ []) (λ is. reply_alone (filter_reply answer))
   added_all t from (Accepted parts line) =
       let packet = packet_of from (moment_of t) parts line in
       let named = is_some (session_of t link) in
-      if_all (wants t packet link) (relayed packet ∷ [])
-      (λ is. line_alone (relayed packet)
+      if_all (IsOfAnother link) (wants t packet link) (relayed packet ∷ [])
+      (λ is. line_alone (IsOfAnother link) (relayed packet)
       (not_own from (is_live t link) (opening_wants (opening_of t link) named (is_submitted t from) (filter_passes t packet link || is_asked t packet link)) is))
-
-  lines_all : (taken : ℕ) (lines : List TextLine) (text : Text) → All (IsOfAnother link) lines → All (IsOfAnother link) text.lines → All (IsOfAnother link) (with_text_lines taken lines text).lines
-  lines_all taken [] text all before = before
-  lines_all taken (line ∷ lines) text all before =
-      let parts = recursion_from_All (IsOfAnother link) (line ∷ lines) all in
-      lines_all taken lines (with_text_line taken line text) (All-from_recursion (IsOfAnother link) lines parts.1) (of text.over (waiting_lines text taken == most_waiting) parts.0)
-    where
-      of : (over full : Bool) → IsOfAnother link line → All (IsOfAnother link) (if over then text else if full then record text { over = true } else record text { lines = text.lines ++ line ∷ [] }).lines
-      of true full first = before
-      of false true first = before
-      of false false first = All-append (IsOfAnother link) text.lines (line ∷ []) before (All-cons (IsOfAnother link) line [] first (All-nil (IsOfAnother link)))
 
   text_all : (t : Trace) → All (IsOfAnother link) (text_to s t link).lines
   text_all [] = All-nil (IsOfAnother link)
@@ -325,11 +328,11 @@ module _ (s : Setting) (link : ℕ) where
       of : (b : Bool) → All (IsOfAnother link) (text_to s t link).lines → All (IsOfAnother link) (if b then record { lines = first_lines s admission; over = false } else text_to s t link).lines
       of true before = first_all admission
       of false before = before
-  text_all (Said from cut verdict ∷ t) = lines_all (taken_by t link) (added_by s t from verdict link) (text_to s t link) (added_all t from verdict) (text_all t)
+  text_all (Said from cut verdict ∷ t) = lines_all (IsOfAnother link) (taken_by t link) (added_by s t from verdict link) (text_to s t link) (added_all t from verdict) (text_all t)
   text_all (Dated moment ∷ t) =
       let comment = comment_line s.server moment in
-      lines_all (taken_by t link) (if is_client t link then comment ∷ [] else []) (text_to s t link)
-      (if_all (is_client t link) (comment ∷ []) (λ is. line_alone comment tt)) (text_all t)
+      lines_all (IsOfAnother link) (taken_by t link) (if is_client t link then comment ∷ [] else []) (text_to s t link)
+      (if_all (IsOfAnother link) (is_client t link) (comment ∷ []) (λ is. line_alone (IsOfAnother link) comment tt)) (text_all t)
   text_all (RoundBegan ∷ t) = text_all t
   text_all (Looked ∷ t) = text_all t
   text_all (Unjoined uplink ∷ t) = text_all t
@@ -382,7 +385,7 @@ has_ended (Roomed roomed ∷ t) link member = ended_before t link (Roomed roomed
 has_ended (Took by offered taken ∷ t) link member = ended_before t link (Took by offered taken) refl (has_ended t link member)
 has_ended (Lost lost ∷ t) link member = ended_before t link (Lost lost) refl (has_ended t link member)
 
-run_before : (s : Setting) (later earlier : History) → IsRun s (later ++ earlier) → IsRun s earlier
+pub run_before : (s : Setting) (later earlier : History) → IsRun s (later ++ earlier) → IsRun s earlier
 run_before s [] earlier run = run
 run_before s (x ∷ later) earlier run = run_before s later earlier run.0
 

@@ -1,19 +1,24 @@
--- What every run keeps: the bytes that links take, whose packets their texts have, and why links end and are closed.
+-- What every run keeps: the bytes that links take, whose packets their texts have, why links end and are closed, and what goes to
+-- other servers.
 use Rattle.std.specs.Prelude.{◌≡◌, ◌≢◌, ℕ, ◌==◌, ◌<◌, List, [], ◌∷◌, ◌++◌, take, Bool, true, false, Option, Some, None, IfSome, IsTrue, IsFalse, if◌then◌else◌, ⊤}
 use Rattle.std.specs.List.{All, list_any}
 use Rattle.aprs_base.specs.Outside.{new_link}
 use Rattle.aprs_base.specs.PacketSeen.{PacketSeen}
 use Rattle.aprs_base.specs.declared.packets.Source.TheVariants as source
+use Rattle.aprs_base.specs.declared.texts.Addr.{Addr}
 use Rattle.aprs_base.specs.declared.events.Event.TheVariants as event
 use Rattle.aprs_base.specs.declared.events.Sent.{Sent}
 use Rattle.aprs_base.specs.declared.events.Sent.TheVariants as sent
 use Rattle.aprs_base.specs.declared.events.Happening.{Happening}
 use Rattle.aprs_base.specs.declared.events.Happening.TheVariants as did
+use Rattle.aprs_history.specs.declared.verdicts.LinkKind.TheVariants.{Uplink}
+use Rattle.aprs_history.specs.declared.verdicts.Verdict.TheVariants.{Accepted}
 use Rattle.aprs_history.specs.Setting.{Setting}
-use Rattle.aprs_history.specs.Trace.{Trace, Entry, EndReason, ByPeer, FoundGone, NoLogin, Silent, Overfull, Full, Unasked, ByStop, RoundBegan, Ended, is_closing, is_member, is_unasked, turned_links}
-use Rattle.aprs_history.specs.Links.{is_gone, is_nameless, is_silent}
-use Rattle.link_queue.specs.Lines.{text_bytes}
-use Rattle.aprs_history.specs.Texts.{LineKind, TextLine, Relayed, Shown, lines_of, text_to, untaken}
+use Rattle.aprs_history.specs.Trace.{Trace, Entry, EndReason, ByPeer, FoundGone, NoLogin, Silent, Overfull, Full, Unasked, ByStop, RoundBegan, Said, Ended, is_closing, is_member, is_unasked, moment_of, turned_links}
+use Rattle.aprs_history.specs.Links.{is_gone, is_nameless, is_silent, is_submitted, opening_of}
+use Rattle.aprs_history.specs.Scenes.{packet_of}
+use Rattle.link_queue.specs.Lines.{ended_line, text_bytes}
+use Rattle.aprs_history.specs.Texts.{LineKind, TextLine, Login, Relayed, Shown, lines_of, text_to, untaken, uplink_login}
 use Rattle.aprs_history.specs.History.{History, greatest_link, is_stopped, trace_of}
 use Rattle.aprs_history.specs.Acts.{IsRun}
 
@@ -92,3 +97,44 @@ EndsBy setting history earlier link ByStop = IsTrue (is_stopped history)
 abbrev pub LinksEndByRules : Type 0
 LinksEndByRules = (setting : Setting) (history : History) (later earlier : Trace) (link : ℕ) (reason : EndReason) → trace_of setting history ≡ later ++ Ended link reason ∷ earlier
     → EndsBy setting history earlier link reason
+
+-- ---- what goes to other servers
+
+-- the packet that an entry accepts, where it was submitted here: by a client, or in a datagram of its own
+abbrev pub submission_in : Trace → Entry → Option PacketSeen
+submission_in earlier (Said from cut (Accepted parts line)) = if is_submitted earlier from then Some (packet_of from (moment_of earlier) parts line) else None
+submission_in earlier entry = None
+
+-- a packet was accepted at some point of a trace, and had been submitted here
+pub record WasSubmitted (trace : Trace) (packet : PacketSeen) : Type 0 where
+  pub later : Trace
+  pub earlier : Trace
+  pub entry : Entry
+  pub split : trace ≡ later ++ entry ∷ earlier
+  pub accepted : submission_in earlier entry ≡ Some packet
+
+-- a line is the login at an uplink, or a packet that was submitted here
+abbrev pub IsLineForUplink : Setting → Trace → LineKind → List ℕ → Type 0
+IsLineForUplink setting trace Login line = line ≡ uplink_login setting
+IsLineForUplink setting trace (Relayed packet) line = (line ≡ packet.line) × WasSubmitted trace packet
+IsLineForUplink setting trace other line = ⊥
+
+abbrev pub IsForUplink : Setting → Trace → TextLine → Type 0
+IsForUplink setting trace text = IsLineForUplink setting trace text.kind text.line
+
+-- a link that the uplink has joined has nothing else in its text
+abbrev pub UplinksGetSubmissions : Type 0
+UplinksGetSubmissions = (setting : Setting) (history : History) (link uplink : ℕ) (at : Addr) (moment : ℕ)
+    → opening_of (trace_of setting history) link ≡ Some (record { kind = Uplink uplink; from = at; moment = moment })
+    → All (IsForUplink setting (trace_of setting history)) (text_to setting (trace_of setting history) link).lines
+
+-- a line for a peer is that of a packet that was submitted here and accepted in the last round
+pub record IsForPeer (trace : Trace) (line : List ℕ) : Type 0 where
+  pub packet : PacketSeen
+  pub its : line ≡ packet.line
+  pub submitted : WasSubmitted trace packet
+  pub same_round : IsFalse (list_any is_round_start submitted.later)
+
+abbrev pub PeersGetSubmissions : Type 0
+PeersGetSubmissions = (setting : Setting) (later earlier : History) (peer : ℕ) (bytes : List ℕ) → IsRun setting (later ++ did.Cast peer bytes ∷ earlier)
+    → (line : List ℕ) × (bytes ≡ ended_line line) × IsForPeer (trace_of setting earlier) line

@@ -1,0 +1,417 @@
+-- What goes to other servers was submitted here.
+use Rattle.std.proofs.Common.{◌≡◌, ℕ, ◌+◌, ◌==◌, ◌&&◌, ◌||◌, Bool, true, false, not, List, [], ◌∷◌, ◌++◌, map, length, refl, sym, ap, ◌∙◌, subst, Option, Some, None, is_some, Result, Ok, Err, if◌then◌else◌}
+use Rattle.std.specs.Bool.{⊤}
+use Rattle.std.specs.List.{All}
+use Rattle.std.proofs.lemmas.Bool.{eqb-true, true≢false}
+use Rattle.std.proofs.lemmas.List.Elements.{All-nil, All-weaker}
+use Rattle.aprs_base.specs.Outside.{new_link}
+use Rattle.aprs_base.specs.PacketSeen.{PacketSeen}
+use Rattle.aprs_base.specs.declared.cutting.Cut.{Cut}
+use Rattle.aprs_base.specs.declared.cutting.Cut.TheVariants as cut
+use Rattle.aprs_base.specs.declared.events.Sent.TheVariants as sent
+use Rattle.aprs_base.specs.declared.events.Happening.TheVariants as did
+use Rattle.aprs_base.specs.declared.packets.ListenSpec.{ListenSpec}
+use Rattle.aprs_base.specs.declared.packets.Parts.{Parts}
+use Rattle.aprs_base.specs.declared.packets.Source.{Source}
+use Rattle.aprs_base.specs.declared.packets.Source.TheVariants as source
+use Rattle.aprs_base.specs.declared.texts.Addr.{Addr}
+use Rattle.link_queue.specs.Lines.{ended_line}
+use Rattle.q_construct.specs.Rule.{process_of}
+use Rattle.q_construct.specs.declared.drops.QDrop.{QDrop}
+use Rattle.q_construct.specs.declared.origins.Origin.{Origin}
+use Rattle.q_construct.specs.declared.origins.Origin.TheVariants as origin
+use Rattle.tnc2_line.specs.Packet.{parts_of, text_of}
+use Rattle.tnc2_line.specs.declared.reading.LineFault.{LineFault}
+use Rattle.aprs_history.specs.declared.verdicts.Admission.{Admission}
+use Rattle.aprs_history.specs.declared.verdicts.Admission.TheVariants.{NoPort, NotAsked, TurnedAway, Served}
+use Rattle.aprs_history.specs.declared.verdicts.LinkKind.{LinkKind}
+use Rattle.aprs_history.specs.declared.verdicts.LinkKind.TheVariants.{Client, Uplink}
+use Rattle.aprs_history.specs.declared.verdicts.Refusal.{Refusal}
+use Rattle.aprs_history.specs.declared.verdicts.Refusal.TheVariants as refusal
+use Rattle.aprs_history.specs.declared.verdicts.Session.{Session}
+use Rattle.aprs_history.specs.declared.verdicts.Verdict.{Verdict}
+use Rattle.aprs_history.specs.declared.verdicts.Verdict.TheVariants.{PassedOver, Refused, LoggedIn, Filtered, Accepted}
+use Rattle.aprs_history.specs.Setting.{Peer, Setting}
+use Rattle.aprs_history.specs.Trace.{Trace, Door, Entry, RoundBegan, Dated, Looked, Unjoined, Ticked, Opened, Brought, Said, Roomed, Took, Lost, Ended, ByStop, closed_links, is_from, is_live, moment_of}
+use Rattle.aprs_history.specs.Links.{Opening, is_client, is_client_link, is_client_of, is_submitted, opening_by, opening_of, session_of, taken_by}
+use Rattle.aprs_history.specs.Verdicts.{Carrier, Scene, carried_verdict, is_comment, is_duplicate, packet_verdict, read_and_routed, routed, verdict_of}
+use Rattle.aprs_history.specs.Scenes.{packet_of, scene_of, speaker_by, speaker_of}
+use Rattle.aprs_history.specs.Sights.{filter_passes}
+use Rattle.aprs_history.specs.Messages.{is_asked}
+use Rattle.aprs_history.specs.Dials.{CastSeen, cast_by, casts_of, casts_to, dial_of}
+use Rattle.aprs_history.specs.Texts.{Banner, Comment, LineKind, Login, Relayed, Reply, Shown, Text, TextLine, added_by, comment_line, filter_reply, first_line, first_lines, is_dupe_of, is_shown, link_wants, login_filter_reply, login_reply, opening_wants, refusal_reply, refused_lines, relayed, reply_lines, reply_of, shown, shows_duplicates, text_to, wants}
+use Rattle.aprs_history.specs.History.{History, ends_round, is_stopped, open_events, trace_of}
+use Rattle.aprs_history.specs.Acts.{Act, Listens, Dials, Casts, Offers, Closes, MayCome, acts_after, but_first, cast_act, dials, due, listens_from, offer_to, offered_links}
+use Rattle.aprs_history.specs.Headline.{IsForPeer, IsForUplink, IsLineForUplink, PeersGetSubmissions, UplinksGetSubmissions, WasSubmitted, is_round_start}
+use Rattle.aprs_history.proofs.EntryLemmas.{IsJudged, MayAdd, any_link, kept_after}
+use Rattle.aprs_history.proofs.HeadlineLemmas.{if_all, line_alone, lines_all, run_before}
+
+-- ---- what was submitted here
+
+now_submitted : (t : Trace) (from : Source) (cut : Cut) (parts : Parts) (line : List ℕ) → is_submitted t from ≡ true
+    → WasSubmitted (Said from cut (Accepted parts line) ∷ t) (packet_of from (moment_of t) parts line)
+now_submitted t from cut parts line is = record { later = []; earlier = t; entry = Said from cut (Accepted parts line); split = refl; accepted = rw is refl }
+
+later_submitted : (t : Trace) (entry : Entry) (packet : PacketSeen) → WasSubmitted t packet → WasSubmitted (entry ∷ t) packet
+later_submitted t entry packet was = record {
+  later = entry ∷ was.later;
+  earlier = was.earlier;
+  entry = was.entry;
+  split = ap (λ u. entry ∷ u) was.split;
+  accepted = was.accepted;
+}
+
+-- ---- what an uplink is
+
+abbrev is_uplink_of : LinkKind → Bool
+is_uplink_of (Client port) = false
+is_uplink_of (Uplink uplink) = true
+
+abbrev is_uplink : Option Opening → Bool
+is_uplink None = false
+is_uplink (Some opening) = is_uplink_of opening.kind
+
+-- it is sent what was submitted
+uplink_wants : (opening : Option Opening) (named submitted asked : Bool) → is_uplink opening ≡ true → opening_wants opening named submitted asked ≡ submitted
+uplink_wants None named submitted asked is = absurd (true≢false (sym is))
+uplink_wants (Some opening) named submitted asked is = of opening.kind is
+  where
+    of : (link : LinkKind) → is_uplink_of link ≡ true → link_wants link named submitted asked ≡ submitted
+    of (Client port) is = absurd (true≢false (sym is))
+    of (Uplink uplink) is = refl
+
+-- no duplicates
+uplink_shows : (opening : Option Opening) (session : Option Session) → is_uplink opening ≡ true → shows_duplicates opening session ≡ false
+uplink_shows None session is = refl
+uplink_shows (Some opening) session is = of opening.kind is
+  where
+    of : (link : LinkKind) → is_uplink_of link ≡ true → (is_dupe_of link && is_some session) ≡ false
+    of (Client port) is = absurd (true≢false (sym is))
+    of (Uplink uplink) is = refl
+
+-- and no dates
+uplink_is_no_client : (opening : Option Opening) → is_uplink opening ≡ true → is_client_link opening ≡ false
+uplink_is_no_client None is = refl
+uplink_is_no_client (Some opening) is = of opening.kind is
+  where
+    of : (link : LinkKind) → is_uplink_of link ≡ true → is_client_of link ≡ false
+    of (Client port) is = absurd (true≢false (sym is))
+    of (Uplink uplink) is = refl
+
+-- packets alone are taken from it
+uplink_speaks : (opening : Option Opening) (session : Option Session) → is_uplink opening ≡ true → (by : Origin) × (speaker_of opening session ≡ Carrier by)
+uplink_speaks None session is = absurd (true≢false (sym is))
+uplink_speaks (Some opening) session is = of opening.kind is
+  where
+    of : (link : LinkKind) → is_uplink_of link ≡ true → (by : Origin) × (speaker_by link opening.from session ≡ Carrier by)
+    of (Client port) is = absurd (true≢false (sym is))
+    of (Uplink uplink) is = (origin.Uplink opening.from, refl)
+
+-- ---- verdicts that have no reply
+
+abbrev IsUnanswered : Verdict → Type 0
+IsUnanswered (LoggedIn session answer) = ⊥
+IsUnanswered (Filtered answer) = ⊥
+IsUnanswered (Refused (refusal.Login why)) = ⊥
+IsUnanswered (Refused refusal.OwnName) = ⊥
+IsUnanswered verdict = ⊤
+
+routed_unanswered : (now : ℕ) (accepted : List PacketSeen) (result : Result Parts QDrop) → IsUnanswered (packet_verdict now accepted (routed result))
+routed_unanswered now accepted (Err drop') = tt
+routed_unanswered now accepted (Ok parts) = of (is_duplicate now accepted parts)
+  where
+    of : (b : Bool) → IsUnanswered (if b then Refused (refusal.Duplicate parts (text_of parts)) else Accepted parts (text_of parts))
+    of true = tt
+    of false = tt
+
+read_unanswered : (scene : Scene) (by : Origin) (read : Result Parts LineFault) → IsUnanswered (packet_verdict scene.moment scene.accepted (read_and_routed scene.server by scene.others read))
+read_unanswered scene by (Err fault) = tt
+read_unanswered scene by (Ok parts) = routed_unanswered scene.moment scene.accepted (process_of parts by scene.server scene.others)
+
+carried_unanswered : (scene : Scene) (by : Origin) (said : Cut) → scene.speaker ≡ Carrier by → IsUnanswered (verdict_of scene said)
+carried_unanswered scene by cut.Long is = tt
+carried_unanswered scene by (cut.Line text) is = rw is (of (is_comment text))
+  where
+    of : (b : Bool) → IsUnanswered (if b then PassedOver else carried_verdict scene by text)
+    of true = tt
+    of false = read_unanswered scene by (parts_of text)
+
+-- ---- the text of an uplink
+
+and_last : (a b c : Bool) → (a && b && c) ≡ true → c ≡ true
+and_last true true c is = is
+and_last true false c is = absurd (true≢false (sym is))
+and_last false b c is = absurd (true≢false (sym is))
+
+and_second : (a b : Bool) → (a && b) ≡ true → b ≡ true
+and_second true b is = is
+and_second false b is = absurd (true≢false (sym is))
+
+line_later : (s : Setting) (t : Trace) (entry : Entry) (kind : LineKind) (line : List ℕ) → IsLineForUplink s t kind line → IsLineForUplink s (entry ∷ t) kind line
+line_later s t entry Login line is = is
+line_later s t entry (Relayed packet) line is = (is.0, later_submitted t entry packet is.1)
+line_later s t entry Banner line is = absurd is
+line_later s t entry Reply line is = absurd is
+line_later s t entry Comment line is = absurd is
+line_later s t entry (Shown packet) line is = absurd is
+
+module _ (s : Setting) (link : ℕ) where
+  lines_later : (t : Trace) (entry : Entry) (lines : List TextLine) → All (IsForUplink s t) lines → All (IsForUplink s (entry ∷ t)) lines
+  lines_later t entry lines all = All-weaker (IsForUplink s t) (IsForUplink s (entry ∷ t)) (λ text is. line_later s t entry text.kind text.line is) lines all
+
+  first_all : (t : Trace) (admission : Admission) (from : Addr) (moment : ℕ) → is_uplink (opening_by admission from moment) ≡ true → All (IsForUplink s t) (first_lines s admission)
+  first_all t NoPort from moment is = absurd (true≢false (sym is))
+  first_all t TurnedAway from moment is = absurd (true≢false (sym is))
+  first_all t NotAsked from moment is = absurd (true≢false (sym is))
+  first_all t (Served (Client port)) from moment is = absurd (true≢false (sym is))
+  first_all t (Served (Uplink uplink)) from moment is = line_alone (IsForUplink s t) (first_line s (Uplink uplink)) refl
+
+  -- its own lines have no reply
+  own_unanswered : (t : Trace) (from : Source) (said : Cut) (verdict : Verdict) → is_uplink (opening_of t link) ≡ true → IsJudged s t from said verdict → is_from link from ≡ true → IsUnanswered verdict
+  own_unanswered t (source.Link other) said verdict up judged is =
+      let same : link ≡ other = eqb-true link other is in
+      let speaks = uplink_speaks (opening_of t link) (session_of t link) up in
+      subst IsUnanswered (sym (judged ∙ ap (λ k. verdict_of (scene_of s t k) said) (sym same))) (carried_unanswered (scene_of s t link) speaks.0 said speaks.1)
+  own_unanswered t (source.Submit listener) said verdict up judged is = absurd (true≢false (sym is))
+  own_unanswered t (source.Peer peer) said verdict up judged is = absurd (true≢false (sym is))
+
+  module _ (t : Trace) (from : Source) (said : Cut) (up : is_uplink (opening_of t link) ≡ true) where
+    refused_all : (why : Refusal) → IsJudged s t from said (Refused why) → All (IsForUplink s (Said from said (Refused why) ∷ t)) (refused_lines t from why link)
+    refused_all (refusal.Duplicate parts line) judged =
+        let packet = packet_of from (moment_of t) parts line in
+        let u = Said from said (Refused (refusal.Duplicate parts line)) ∷ t in
+        if_all (IsForUplink s u) (is_shown t from link) (shown packet ∷ [])
+        (λ is.
+        let shows = and_last (not (is_from link from)) (is_live t link) (shows_duplicates (opening_of t link) (session_of t link)) is in
+        absurd (true≢false (sym shows ∙ uplink_shows (opening_of t link) (session_of t link) up)))
+    refused_all (refusal.Login why) judged =
+        let verdict = Refused (refusal.Login why) in
+        if_all (IsForUplink s (Said from said verdict ∷ t)) (is_from link from) (reply_lines (refusal_reply (refusal.Login why))) (λ is. absurd (own_unanswered t from said verdict up judged is))
+    refused_all refusal.OwnName judged =
+        let verdict = Refused refusal.OwnName in
+        if_all (IsForUplink s (Said from said verdict ∷ t)) (is_from link from) (reply_lines (refusal_reply refusal.OwnName)) (λ is. absurd (own_unanswered t from said verdict up judged is))
+    refused_all refusal.Long judged = let u = Said from said (Refused refusal.Long) ∷ t in if_all (IsForUplink s u) (is_from link from) [] (λ is. All-nil (IsForUplink s u))
+    refused_all refusal.ReadOnly judged = let u = Said from said (Refused refusal.ReadOnly) ∷ t in if_all (IsForUplink s u) (is_from link from) [] (λ is. All-nil (IsForUplink s u))
+    refused_all refusal.Stranger judged = let u = Said from said (Refused refusal.Stranger) ∷ t in if_all (IsForUplink s u) (is_from link from) [] (λ is. All-nil (IsForUplink s u))
+    refused_all (refusal.Packet why) judged = let u = Said from said (Refused (refusal.Packet why)) ∷ t in if_all (IsForUplink s u) (is_from link from) [] (λ is. All-nil (IsForUplink s u))
+    refused_all (refusal.Path why) judged = let u = Said from said (Refused (refusal.Path why)) ∷ t in if_all (IsForUplink s u) (is_from link from) [] (λ is. All-nil (IsForUplink s u))
+
+    added_all : (verdict : Verdict) → IsJudged s t from said verdict → All (IsForUplink s (Said from said verdict ∷ t)) (added_by s t from verdict link)
+    added_all PassedOver judged = All-nil (IsForUplink s (Said from said PassedOver ∷ t))
+    added_all (Refused why) judged = refused_all why judged
+    added_all (LoggedIn session answer) judged =
+        let verdict = LoggedIn session answer in
+        if_all (IsForUplink s (Said from said verdict ∷ t)) (is_from link from) (reply_of (login_reply s.server session) ∷ login_filter_reply answer)
+        (λ is. absurd (own_unanswered t from said verdict up judged is))
+    added_all (Filtered answer) judged =
+        let verdict = Filtered answer in
+        if_all (IsForUplink s (Said from said verdict ∷ t)) (is_from link from) (reply_of (filter_reply answer) ∷ []) (λ is. absurd (own_unanswered t from said verdict up judged is))
+    added_all (Accepted parts line) judged =
+        let packet = packet_of from (moment_of t) parts line in
+        let u = Said from said (Accepted parts line) ∷ t in
+        let named = is_some (session_of t link) in
+        let asked = filter_passes t packet link || is_asked t packet link in
+        if_all (IsForUplink s u) (wants t packet link) (relayed packet ∷ [])
+        (λ is.
+        let wanted = and_last (not (is_from link from)) (is_live t link) (opening_wants (opening_of t link) named (is_submitted t from) asked) is in
+        let submitted = sym (uplink_wants (opening_of t link) named (is_submitted t from) asked up) ∙ wanted in
+        line_alone (IsForUplink s u) (relayed packet) (refl, now_submitted t from said parts line submitted))
+
+  -- as each entry keeps it
+  abbrev Kept : Trace → Type 0
+  Kept t = is_uplink (opening_of t link) ≡ true → All (IsForUplink s t) (text_to s t link).lines
+
+  kept_same : (t : Trace) (entry : Entry) → opening_of (entry ∷ t) link ≡ opening_of t link → text_to s (entry ∷ t) link ≡ text_to s t link → Kept t → Kept (entry ∷ t)
+  kept_same t entry opening text kept up =
+      subst (λ (x : Text). All (IsForUplink s (entry ∷ t)) x.lines) (sym text) (lines_later t entry (text_to s t link).lines (kept (sym (ap is_uplink opening) ∙ up)))
+
+  kept_opened : (t : Trace) (door : Door) (admission : Admission) (opened : ℕ) (from : Addr) → Kept t → Kept (Opened door admission opened from ∷ t)
+  kept_opened t door admission opened from kept up = of (link == opened) up
+    where
+      of : (b : Bool) → is_uplink (if b then opening_by admission from (moment_of t) else opening_of t link) ≡ true
+          → All (IsForUplink s (Opened door admission opened from ∷ t)) (if b then record { lines = first_lines s admission; over = false } else text_to s t link).lines
+      of true up = first_all (Opened door admission opened from ∷ t) admission from (moment_of t) up
+      of false up = lines_later t (Opened door admission opened from) (text_to s t link).lines (kept up)
+
+  kept_said : (t : Trace) (from : Source) (said : Cut) (verdict : Verdict) → IsJudged s t from said verdict → Kept t → Kept (Said from said verdict ∷ t)
+  kept_said t from said verdict judged kept up =
+      let u = Said from said verdict ∷ t in
+      lines_all (IsForUplink s u) (taken_by t link) (added_by s t from verdict link) (text_to s t link) (added_all t from said up verdict judged)
+      (lines_later t (Said from said verdict) (text_to s t link).lines (kept up))
+
+  kept_dated : (t : Trace) (moment : ℕ) → Kept t → Kept (Dated moment ∷ t)
+  kept_dated t moment kept up =
+      let u = Dated moment ∷ t in
+      let comment = comment_line s.server moment in
+      lines_all (IsForUplink s u) (taken_by t link) (if is_client t link then comment ∷ [] else []) (text_to s t link)
+      (if_all (IsForUplink s u) (is_client t link) (comment ∷ [])
+      (λ is. absurd (true≢false (sym (and_second (is_live t link) (is_client_link (opening_of t link)) is) ∙ uplink_is_no_client (opening_of t link) up))))
+      (lines_later t (Dated moment) (text_to s t link).lines (kept up))
+
+  kept_by : (h : History) (t : Trace) (entry : Entry) → MayAdd s h (λ k. ⊤) t entry → Kept t → Kept (entry ∷ t)
+  kept_by h t RoundBegan may kept = kept_same t RoundBegan refl refl kept
+  kept_by h t (Ticked moment) may kept = kept_same t (Ticked moment) refl refl kept
+  kept_by h t (Opened door admission opened from) may kept = kept_opened t door admission opened from kept
+  kept_by h t (Brought from bytes) may kept = kept_same t (Brought from bytes) refl refl kept
+  kept_by h t (Said from said verdict) may kept = kept_said t from said verdict may.1 kept
+  kept_by h t (Roomed roomed) may kept = kept_same t (Roomed roomed) refl refl kept
+  kept_by h t (Took by offered taken) may kept = absurd may
+  kept_by h t (Lost lost) may kept = absurd may
+  kept_by h t (Ended ended reason) may kept = kept_same t (Ended ended reason) refl refl kept
+  kept_by h t (Dated moment) may kept = kept_dated t moment kept
+  kept_by h t Looked may kept = kept_same t Looked refl refl kept
+  kept_by h t (Unjoined uplink) may kept = kept_same t (Unjoined uplink) refl refl kept
+
+  kept : (h : History) → Kept (trace_of s h)
+  unfolding trace_of
+  kept [] up = absurd (true≢false (sym up))
+  kept (did.Event e ∷ h) up =
+      kept_after s h e (λ k. ⊤) Kept (kept_by (did.Event e ∷ h)) (λ t k stopped before. kept_same t (Ended k ByStop) refl refl before) (any_link (new_link e)) (kept h) up
+  kept (did.Sent to bytes (sent.Took n) ∷ h) up = kept_same (trace_of s h) (Took to (length bytes) n) refl refl (kept h) up
+  kept (did.Sent to bytes sent.Gone ∷ h) up = kept_same (trace_of s h) (Lost to) refl refl (kept h) up
+  kept (did.Listen n ∷ h) up = kept h up
+  kept (did.Closed closed ∷ h) up = kept h up
+  kept (did.Dialled uplink ∷ h) up = kept h up
+  kept (did.Cast peer bytes ∷ h) up = kept h up
+
+pub uplinks_get_submissions : UplinksGetSubmissions
+uplinks_get_submissions s h link uplink at moment opening = kept s link h (ap is_uplink opening)
+
+-- ---- the lines for the peers
+
+peer_later : (t : Trace) (entry : Entry) (line : List ℕ) → is_round_start entry ≡ false → IsForPeer t line → IsForPeer (entry ∷ t) line
+unfolding later_submitted
+peer_later t entry line same for_peer = record {
+  packet = for_peer.packet;
+  its = for_peer.its;
+  submitted = later_submitted t entry for_peer.packet for_peer.submitted;
+  same_round = rw same for_peer.same_round;
+}
+
+abbrev AreForPeers : Trace → List CastSeen → Type 0
+AreForPeers t [] = ⊤
+AreForPeers t (cast ∷ casts) = IsForPeer t cast.line × AreForPeers t casts
+
+peers_later : (t : Trace) (entry : Entry) (casts : List CastSeen) → is_round_start entry ≡ false → AreForPeers t casts → AreForPeers (entry ∷ t) casts
+peers_later t entry [] same all = tt
+peers_later t entry (cast ∷ casts) same all = (peer_later t entry cast.line same all.0, peers_later t entry casts same all.1)
+
+peers_both : (t : Trace) (casts more : List CastSeen) → AreForPeers t casts → AreForPeers t more → AreForPeers t (casts ++ more)
+peers_both t [] more all others = others
+peers_both t (cast ∷ casts) more all others = (all.0, peers_both t casts more all.1 others)
+
+peers_each : (t : Trace) (n : ℕ) (peers : List Peer) (line : List ℕ) → IsForPeer t line → AreForPeers t (casts_to n peers line)
+peers_each t n [] line is = tt
+peers_each t n (peer ∷ peers) line is = (is, peers_each t (n + 1) peers line is)
+
+peers_said : (t : Trace) (peers : List Peer) (from : Source) (said : Cut) (verdict : Verdict) (submitted : Bool) → is_submitted t from ≡ submitted
+    → AreForPeers (Said from said verdict ∷ t) (cast_by peers submitted verdict)
+unfolding now_submitted
+peers_said t peers from said (Accepted parts line) true is =
+    peers_each (Said from said (Accepted parts line) ∷ t) 0 peers line
+    (record { packet = packet_of from (moment_of t) parts line; its = refl; submitted = now_submitted t from said parts line is; same_round = refl })
+peers_said t peers from said (Accepted parts line) false is = tt
+peers_said t peers from said PassedOver submitted is = tt
+peers_said t peers from said (Refused why) submitted is = tt
+peers_said t peers from said (LoggedIn session answer) submitted is = tt
+peers_said t peers from said (Filtered answer) submitted is = tt
+
+for_peers : (s : Setting) (t : Trace) → AreForPeers t (casts_of s t)
+for_peers s [] = tt
+for_peers s (RoundBegan ∷ t) = tt
+for_peers s (Said from said verdict ∷ t) =
+    let entry = Said from said verdict in
+    peers_both (entry ∷ t) (casts_of s t) (cast_by s.peers (is_submitted t from) verdict) (peers_later t entry (casts_of s t) refl (for_peers s t))
+    (peers_said t s.peers from said verdict (is_submitted t from) refl)
+for_peers s (Ticked moment ∷ t) = peers_later t (Ticked moment) (casts_of s t) refl (for_peers s t)
+for_peers s (Opened door admission opened from ∷ t) = peers_later t (Opened door admission opened from) (casts_of s t) refl (for_peers s t)
+for_peers s (Brought from bytes ∷ t) = peers_later t (Brought from bytes) (casts_of s t) refl (for_peers s t)
+for_peers s (Roomed roomed ∷ t) = peers_later t (Roomed roomed) (casts_of s t) refl (for_peers s t)
+for_peers s (Took by offered taken ∷ t) = peers_later t (Took by offered taken) (casts_of s t) refl (for_peers s t)
+for_peers s (Lost lost ∷ t) = peers_later t (Lost lost) (casts_of s t) refl (for_peers s t)
+for_peers s (Ended ended reason ∷ t) = peers_later t (Ended ended reason) (casts_of s t) refl (for_peers s t)
+for_peers s (Dated moment ∷ t) = peers_later t (Dated moment) (casts_of s t) refl (for_peers s t)
+for_peers s (Looked ∷ t) = peers_later t Looked (casts_of s t) refl (for_peers s t)
+for_peers s (Unjoined uplink ∷ t) = peers_later t (Unjoined uplink) (casts_of s t) refl (for_peers s t)
+
+-- ---- casts
+
+-- each cast that is due is of such a line
+abbrev IsDatagram : Trace → List ℕ → Type 0
+IsDatagram t bytes = (line : List ℕ) × (bytes ≡ ended_line line) × IsForPeer t line
+
+abbrev CastsStand : Trace → List Act → Type 0
+CastsStand t [] = ⊤
+CastsStand t (Casts peer bytes ∷ acts) = IsDatagram t bytes × CastsStand t acts
+CastsStand t (Listens n ∷ acts) = CastsStand t acts
+CastsStand t (Dials uplink ∷ acts) = CastsStand t acts
+CastsStand t (Offers link bytes ∷ acts) = CastsStand t acts
+CastsStand t (Closes link ∷ acts) = CastsStand t acts
+
+casts_next : (t : Trace) (acts : List Act) → CastsStand t acts → CastsStand t (but_first acts)
+casts_next t [] stand = stand
+casts_next t (Casts peer bytes ∷ acts) stand = stand.1
+casts_next t (Listens n ∷ acts) stand = stand
+casts_next t (Dials uplink ∷ acts) stand = stand
+casts_next t (Offers link bytes ∷ acts) stand = stand
+casts_next t (Closes link ∷ acts) stand = stand
+
+casts_later : (t : Trace) (entry : Entry) (acts : List Act) → is_round_start entry ≡ false → CastsStand t acts → CastsStand (entry ∷ t) acts
+casts_later t entry [] same stand = tt
+casts_later t entry (Casts peer bytes ∷ acts) same stand =
+    let datagram = stand.0 in ((datagram.0, datagram.1, peer_later t entry datagram.0 same datagram.2), casts_later t entry acts same stand.1)
+casts_later t entry (Listens n ∷ acts) same stand = casts_later t entry acts same stand
+casts_later t entry (Dials uplink ∷ acts) same stand = casts_later t entry acts same stand
+casts_later t entry (Offers link bytes ∷ acts) same stand = casts_later t entry acts same stand
+casts_later t entry (Closes link ∷ acts) same stand = casts_later t entry acts same stand
+
+casts_listens : (t : Trace) (n : ℕ) (listens : List ListenSpec) → CastsStand t (listens_from n listens)
+casts_listens t n [] = tt
+casts_listens t n (spec ∷ specs) = casts_listens t (n + 1) specs
+
+casts_closes : (t : Trace) (ks : List ℕ) → CastsStand t (map Closes ks)
+casts_closes t [] = tt
+casts_closes t (k ∷ ks) = casts_closes t ks
+
+casts_offers : (s : Setting) (t : Trace) (ks : List ℕ) (acts : List Act) → CastsStand t acts → CastsStand t (map (offer_to s t) ks ++ acts)
+casts_offers s t [] acts stand = stand
+casts_offers s t (k ∷ ks) acts stand = casts_offers s t ks acts stand
+
+casts_casts : (t : Trace) (casts : List CastSeen) (acts : List Act) → AreForPeers t casts → CastsStand t acts → CastsStand t (map cast_act casts ++ acts)
+casts_casts t [] acts all stand = stand
+casts_casts t (cast ∷ casts) acts all stand = ((cast.line, refl, all.0), casts_casts t casts acts all.1 stand)
+
+casts_dials : (t : Trace) (dial : Option ℕ) (acts : List Act) → CastsStand t acts → CastsStand t (dials dial ++ acts)
+casts_dials t None acts stand = stand
+casts_dials t (Some uplink) acts stand = stand
+
+casts_after : (s : Setting) (t : Trace) (ends : Bool) → CastsStand t (if ends then acts_after s t else [])
+casts_after s t true =
+    let offers = map (offer_to s t) (offered_links s t) ++ map Closes (closed_links t) in
+    casts_dials t (dial_of s t) (map cast_act (casts_of s t) ++ offers)
+    (casts_casts t (casts_of s t) offers (for_peers s t) (casts_offers s t (offered_links s t) (map Closes (closed_links t)) (casts_closes t (closed_links t))))
+casts_after s t false = tt
+
+casts_stand : (s : Setting) (h : History) → CastsStand (trace_of s h) (due s h)
+unfolding trace_of due
+casts_stand s [] = casts_listens [] 0 s.listens
+casts_stand s (did.Event e ∷ h) = casts_after s (trace_of s (did.Event e ∷ h)) (ends_round (open_events h) e)
+casts_stand s (did.Sent link bytes (sent.Took n) ∷ h) =
+    casts_later (trace_of s h) (Took link (length bytes) n) (but_first (due s h)) refl (casts_next (trace_of s h) (due s h) (casts_stand s h))
+casts_stand s (did.Sent link bytes sent.Gone ∷ h) = casts_later (trace_of s h) (Lost link) (but_first (due s h)) refl (casts_next (trace_of s h) (due s h) (casts_stand s h))
+casts_stand s (did.Listen n ∷ h) = casts_next (trace_of s h) (due s h) (casts_stand s h)
+casts_stand s (did.Closed link ∷ h) = casts_next (trace_of s h) (due s h) (casts_stand s h)
+casts_stand s (did.Dialled uplink ∷ h) = casts_next (trace_of s h) (due s h) (casts_stand s h)
+casts_stand s (did.Cast peer bytes ∷ h) = casts_next (trace_of s h) (due s h) (casts_stand s h)
+
+cast_due : (t : Trace) (acts : List Act) (stopped : Bool) (peer : ℕ) (bytes : List ℕ) → MayCome acts stopped (did.Cast peer bytes) → CastsStand t acts → IsDatagram t bytes
+cast_due t [] stopped peer bytes may stand = absurd may.1
+cast_due t (Casts to given ∷ acts) stopped peer bytes may stand = subst (IsDatagram t) (sym may.1) stand.0
+cast_due t (Listens n ∷ acts) stopped peer bytes may stand = absurd may
+cast_due t (Dials uplink ∷ acts) stopped peer bytes may stand = absurd may
+cast_due t (Offers link given ∷ acts) stopped peer bytes may stand = absurd may
+cast_due t (Closes link ∷ acts) stopped peer bytes may stand = absurd may
+
+pub peers_get_submissions : PeersGetSubmissions
+peers_get_submissions s later earlier peer bytes run =
+    let came = run_before s later (did.Cast peer bytes ∷ earlier) run in cast_due (trace_of s earlier) (due s earlier) (is_stopped earlier) peer bytes came.1 (casts_stand s earlier)
