@@ -1,5 +1,5 @@
 -- Each act that is due names an uplink or a peer that the setting has.
-use Rattle.std.proofs.Common.{◌≡◌, ℕ, ◌+◌, ◌<◌, ◌≤◌, ◌%◌, ◌&&◌, Bool, true, false, List, [], ◌∷◌, ◌++◌, length, map, refl, sym, ap, ◌∙◌, subst, arith, Option, Some, None, IfSome, if◌then◌else◌}
+use Rattle.std.proofs.Common.{◌≡◌, ℕ, ◌+◌, ◌<◌, ◌≤◌, ◌%◌, ◌&&◌, Bool, true, false, List, [], ◌∷◌, ◌++◌, length, map, refl, sym, subst, arith, Option, Some, None, IfSome, if◌then◌else◌}
 use Rattle.std.proofs.lemmas.Bool.{and_parts, ltb-true}
 use Rattle.std.proofs.lemmas.Nat.{mod_below}
 use Rattle.std.specs.Bool.{⊤}
@@ -9,7 +9,7 @@ use Rattle.aprs_base.specs.declared.packets.ListenSpec.{ListenSpec}
 use Rattle.aprs_base.specs.declared.events.Happening.TheVariants as did
 use Rattle.uplinks_peers.specs.declared.uplinks.UpEvent.{UpEvent}
 use Rattle.uplinks_peers.specs.declared.uplinks.UpEvent.TheVariants as up
-use Rattle.uplinks_peers.specs.Uplinks.{Row, UplinksSeen, acts_at, close_of, dial_of as dial_act, dialling, ended_at, first_row, heard_at, is_dialled, is_due, is_joined_by, is_rested, is_silent, joined_as, link_of, login_act, no_acts, row, uplinks_after}
+use Rattle.uplinks_peers.specs.Uplinks.{Row, UplinksSeen, acts_at, close_of, dial_of as dial_act, dialling, ended_at, heard_at, is_dialled, is_due, is_joined_by, is_rested, is_silent, joined_as, link_of, login_act, no_acts, row, uplinks_after}
 use Rattle.aprs_history.specs.declared.verdicts.Verdict.{Verdict}
 use Rattle.aprs_history.specs.declared.verdicts.Verdict.TheVariants.{PassedOver, Refused, LoggedIn, Filtered, Accepted}
 use Rattle.aprs_history.specs.Setting.{Peer, Setting}
