@@ -10,6 +10,9 @@ use Rattle.aprs_base.specs.declared.events.Happening.{Happening}
 use Rattle.aprs_base.specs.declared.events.Happening.TheVariants as did
 use Rattle.aprs_base.specs.declared.packets.PortKind.TheVariants as kind
 use Rattle.aprs_body.specs.Bodies.{body_of}
+use Rattle.aprs_position.specs.Either.{either_place}
+use Rattle.aprs_position.specs.Plain.{plain_place}
+use Rattle.filter_eval.specs.Passes.{fits, passes_of}
 use Rattle.login_pass.specs.Login.{login_of}
 use Rattle.login_pass.specs.Passcode.{passcode_of}
 use Rattle.login_pass.specs.declared.login_line.LoginFault.TheVariants as login_fault
@@ -382,6 +385,38 @@ no_filter : told_in network (says 3 (codes "#filter b/K1*") ∷ accepted_once) 3
     ≡ banner ∷ codes "# logresp K1ABC verified, server T2TEST" ∷ codes "# filter refused, this port has no filter" ∷ []
 unfolding trace_of network accepted_once first_tick listening client crlf parts_of text_of via_of head_of login_of passcode_of process_of given_drops built_drops built_row rows body_of
 no_filter = refl
+
+-- ---- messages and positions that come in datagrams
+
+-- an igate port, one for submissions and the peer group
+gates : Setting
+gates = record network { listens = listen kind.Igate 14580 ∷ listen kind.Submit 8080 ∷ listen kind.Core 9000 ∷ [] }
+
+-- K1XYZ has no filter, and has heard N0CALL; then a peer has a message for N0CALL
+message : History
+message =
+    did.Event (event.Datagram 2 (peer_at 9000) (codes "OH7LZB>APRS::N0CALL   :hello"))
+    ∷ says 1 (codes "N0CALL>APRS,K1XYZ,I:>x")
+    ∷ says 1 (codes "user K1XYZ pass 14986")
+    ∷ opens 0 1
+    ∷ at_moment 1000
+    ∷ did.Listen 2 ∷ did.Listen 1 ∷ did.Listen 0 ∷ []
+
+positions : List ℕ → List ℕ
+positions login = login ++ crlf ++ codes "OH7LZB>APRS:!4903.50N/07201.75W-" ++ crlf ++ codes "OH7LZB>APRS:!4903.50N/07201.76W-"
+
+greeted : List (List ℕ)
+greeted = banner ∷ codes "# logresp K1XYZ verified, server T2TEST" ∷ codes "OH7LZB>APRS,qAS,T2HUB::N0CALL   :hello" ∷ []
+
+message_to_heard : told_in gates message 1 ≡ greeted
+unfolding trace_of gates network message greeted peer_at client crlf parts_of text_of via_of head_of login_of passcode_of process_of given_drops built_drops built_row rows body_of either_place plain_place fits passes_of
+message_to_heard = refl
+
+-- the sender's next position goes along, and no other
+next_position : told_in gates (did.Event (event.Datagram 1 client (positions (codes "user OH7LZB pass 20900"))) ∷ message) 1
+    ≡ greeted ++ codes "OH7LZB>APRS,TCPIP*,qAU,T2TEST:!4903.50N/07201.75W-" ∷ []
+unfolding trace_of gates network message greeted positions peer_at client crlf parts_of text_of via_of head_of login_of passcode_of process_of given_drops built_drops built_row rows body_of either_place plain_place fits passes_of
+next_position = refl
 
 -- ---- the order of the acts
 

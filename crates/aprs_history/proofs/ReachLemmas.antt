@@ -1,8 +1,10 @@
 -- What goes to other servers was submitted here.
-use Rattle.std.proofs.Common.{◌≡◌, ℕ, ◌+◌, ◌==◌, ◌&&◌, ◌||◌, Bool, true, false, not, List, [], ◌∷◌, ◌++◌, map, length, refl, sym, ap, ◌∙◌, subst, Option, Some, None, is_some, Result, Ok, Err, if◌then◌else◌}
+use Rattle.std.proofs.Common.{◌≡◌, ℕ, ◌+◌, ◌<◌, ◌≤◌, ◌%◌, ◌==◌, nat_lt, ◌&&◌, ◌||◌, Bool, true, false, not, List, [], ◌∷◌, ◌++◌, map, length, refl, sym, ap, ◌∙◌, subst, Option, Some, None, is_none, is_some, arith, Result, Ok, Err, if◌then◌else◌}
 use Rattle.std.specs.Bool.{⊤}
 use Rattle.std.specs.List.{All}
-use Rattle.std.proofs.lemmas.Bool.{eqb-true, true≢false}
+use Rattle.std.proofs.Math.Nat.{mod-lt}
+use Rattle.std.specs.Option.{option_map}
+use Rattle.std.proofs.lemmas.Bool.{eqb-true, ltb-true, true≢false}
 use Rattle.std.proofs.lemmas.List.Elements.{All-nil, All-weaker}
 use Rattle.aprs_base.specs.Outside.{new_link}
 use Rattle.aprs_base.specs.PacketSeen.{PacketSeen}
@@ -22,6 +24,10 @@ use Rattle.q_construct.specs.declared.origins.Origin.{Origin}
 use Rattle.q_construct.specs.declared.origins.Origin.TheVariants as origin
 use Rattle.tnc2_line.specs.Packet.{parts_of, text_of}
 use Rattle.tnc2_line.specs.declared.reading.LineFault.{LineFault}
+use Rattle.uplinks_peers.specs.declared.uplinks.UpEvent.{UpEvent}
+use Rattle.uplinks_peers.specs.declared.uplinks.UpEvent.TheVariants as up
+use Rattle.uplinks_peers.specs.Uplinks.{Row, UplinksSeen, acts_at, close_of, dialling, ended_at, first_row, is_due, is_rested, is_silent, link_of, no_acts, row, uplinks_after}
+use Rattle.uplinks_peers.specs.Uplinks as table
 use Rattle.aprs_history.specs.declared.verdicts.Admission.{Admission}
 use Rattle.aprs_history.specs.declared.verdicts.Admission.TheVariants.{NoPort, NotAsked, TurnedAway, Served}
 use Rattle.aprs_history.specs.declared.verdicts.LinkKind.{LinkKind}
@@ -32,17 +38,17 @@ use Rattle.aprs_history.specs.declared.verdicts.Session.{Session}
 use Rattle.aprs_history.specs.declared.verdicts.Verdict.{Verdict}
 use Rattle.aprs_history.specs.declared.verdicts.Verdict.TheVariants.{PassedOver, Refused, LoggedIn, Filtered, Accepted}
 use Rattle.aprs_history.specs.Setting.{Peer, Setting}
-use Rattle.aprs_history.specs.Trace.{Trace, Door, Entry, RoundBegan, Dated, Looked, Unjoined, Ticked, Opened, Brought, Said, Roomed, Took, Lost, Ended, ByStop, closed_links, is_from, is_live, moment_of}
+use Rattle.aprs_history.specs.Trace.{Trace, AtListener, ByUplink, Door, Entry, RoundBegan, Dated, Looked, Unjoined, Ticked, Opened, Brought, Said, Roomed, Took, Lost, Ended, ByStop, closed_links, is_from, is_live, moment_of}
 use Rattle.aprs_history.specs.Links.{Opening, is_client, is_client_link, is_client_of, is_submitted, opening_by, opening_of, session_of, taken_by}
 use Rattle.aprs_history.specs.Verdicts.{Carrier, Scene, carried_verdict, is_comment, is_duplicate, packet_verdict, read_and_routed, routed, verdict_of}
 use Rattle.aprs_history.specs.Scenes.{packet_of, scene_of, speaker_by, speaker_of}
 use Rattle.aprs_history.specs.Sights.{filter_passes}
 use Rattle.aprs_history.specs.Messages.{is_asked}
-use Rattle.aprs_history.specs.Dials.{CastSeen, cast_by, casts_of, casts_to, dial_of}
+use Rattle.aprs_history.specs.Dials.{CastSeen, cast_by, casts_of, casts_to, dial_of, joined_by, uplinks_of}
 use Rattle.aprs_history.specs.Texts.{Banner, Comment, LineKind, Login, Relayed, Reply, Shown, Text, TextLine, added_by, comment_line, filter_reply, first_line, first_lines, is_dupe_of, is_shown, link_wants, login_filter_reply, login_reply, opening_wants, refusal_reply, refused_lines, relayed, reply_lines, reply_of, shown, shows_duplicates, text_to, wants}
 use Rattle.aprs_history.specs.History.{History, ends_round, is_stopped, open_events, trace_of}
 use Rattle.aprs_history.specs.Acts.{Act, Listens, Dials, Casts, Offers, Closes, MayCome, acts_after, but_first, cast_act, dials, due, listens_from, offer_to, offered_links}
-use Rattle.aprs_history.specs.Headline.{IsForPeer, IsForUplink, IsLineForUplink, PeersGetSubmissions, UplinksGetSubmissions, WasSubmitted, is_round_start}
+use Rattle.aprs_history.specs.Headline.{DialsAreOfUplinks, IsForPeer, IsForUplink, IsLineForUplink, PeersGetSubmissions, UplinksGetSubmissions, WasSubmitted, is_round_start}
 use Rattle.aprs_history.proofs.EntryLemmas.{IsJudged, MayAdd, any_link, kept_after}
 use Rattle.aprs_history.proofs.HeadlineLemmas.{if_all, line_alone, lines_all, run_before}
 
@@ -142,6 +148,10 @@ and_last : (a b c : Bool) → (a && b && c) ≡ true → c ≡ true
 and_last true true c is = is
 and_last true false c is = absurd (true≢false (sym is))
 and_last false b c is = absurd (true≢false (sym is))
+
+and_first : (a b : Bool) → (a && b) ≡ true → a ≡ true
+and_first true b is = refl
+and_first false b is = absurd (true≢false (sym is))
 
 and_second : (a b : Bool) → (a && b) ≡ true → b ≡ true
 and_second true b is = is
@@ -288,27 +298,28 @@ peer_later t entry line same for_peer = record {
   same_round = rw same for_peer.same_round;
 }
 
-abbrev AreForPeers : Trace → List CastSeen → Type 0
-AreForPeers t [] = ⊤
-AreForPeers t (cast ∷ casts) = IsForPeer t cast.line × AreForPeers t casts
+-- of such a line each, for one of so many peers
+abbrev AreForPeers : ℕ → Trace → List CastSeen → Type 0
+AreForPeers n t [] = ⊤
+AreForPeers n t (cast ∷ casts) = (cast.peer < n) × IsForPeer t cast.line × AreForPeers n t casts
 
-peers_later : (t : Trace) (entry : Entry) (casts : List CastSeen) → is_round_start entry ≡ false → AreForPeers t casts → AreForPeers (entry ∷ t) casts
-peers_later t entry [] same all = tt
-peers_later t entry (cast ∷ casts) same all = (peer_later t entry cast.line same all.0, peers_later t entry casts same all.1)
+peers_later : (n : ℕ) (t : Trace) (entry : Entry) (casts : List CastSeen) → is_round_start entry ≡ false → AreForPeers n t casts → AreForPeers n (entry ∷ t) casts
+peers_later n t entry [] same all = tt
+peers_later n t entry (cast ∷ casts) same all = (all.0, peer_later t entry cast.line same all.1, peers_later n t entry casts same all.2)
 
-peers_both : (t : Trace) (casts more : List CastSeen) → AreForPeers t casts → AreForPeers t more → AreForPeers t (casts ++ more)
-peers_both t [] more all others = others
-peers_both t (cast ∷ casts) more all others = (all.0, peers_both t casts more all.1 others)
+peers_both : (n : ℕ) (t : Trace) (casts more : List CastSeen) → AreForPeers n t casts → AreForPeers n t more → AreForPeers n t (casts ++ more)
+peers_both n t [] more all others = others
+peers_both n t (cast ∷ casts) more all others = (all.0, all.1, peers_both n t casts more all.2 others)
 
-peers_each : (t : Trace) (n : ℕ) (peers : List Peer) (line : List ℕ) → IsForPeer t line → AreForPeers t (casts_to n peers line)
-peers_each t n [] line is = tt
-peers_each t n (peer ∷ peers) line is = (is, peers_each t (n + 1) peers line is)
+peers_each : (n : ℕ) (t : Trace) (first : ℕ) (peers : List Peer) (line : List ℕ) → first + length peers ≤ n → IsForPeer t line → AreForPeers n t (casts_to first peers line)
+peers_each n t first [] line le is = tt
+peers_each n t first (peer ∷ peers) line le is = (omega arith, is, peers_each n t (first + 1) peers line (omega arith) is)
 
 peers_said : (t : Trace) (peers : List Peer) (from : Source) (said : Cut) (verdict : Verdict) (submitted : Bool) → is_submitted t from ≡ submitted
-    → AreForPeers (Said from said verdict ∷ t) (cast_by peers submitted verdict)
+    → AreForPeers (length peers) (Said from said verdict ∷ t) (cast_by peers submitted verdict)
 unfolding now_submitted
 peers_said t peers from said (Accepted parts line) true is =
-    peers_each (Said from said (Accepted parts line) ∷ t) 0 peers line
+    peers_each (length peers) (Said from said (Accepted parts line) ∷ t) 0 peers line (omega arith)
     (record { packet = packet_of from (moment_of t) parts line; its = refl; submitted = now_submitted t from said parts line is; same_round = refl })
 peers_said t peers from said (Accepted parts line) false is = tt
 peers_said t peers from said PassedOver submitted is = tt
@@ -316,102 +327,192 @@ peers_said t peers from said (Refused why) submitted is = tt
 peers_said t peers from said (LoggedIn session answer) submitted is = tt
 peers_said t peers from said (Filtered answer) submitted is = tt
 
-for_peers : (s : Setting) (t : Trace) → AreForPeers t (casts_of s t)
+for_peers : (s : Setting) (t : Trace) → AreForPeers (length s.peers) t (casts_of s t)
 for_peers s [] = tt
 for_peers s (RoundBegan ∷ t) = tt
 for_peers s (Said from said verdict ∷ t) =
     let entry = Said from said verdict in
-    peers_both (entry ∷ t) (casts_of s t) (cast_by s.peers (is_submitted t from) verdict) (peers_later t entry (casts_of s t) refl (for_peers s t))
+    peers_both (length s.peers) (entry ∷ t) (casts_of s t) (cast_by s.peers (is_submitted t from) verdict) (peers_later (length s.peers) t entry (casts_of s t) refl (for_peers s t))
     (peers_said t s.peers from said verdict (is_submitted t from) refl)
-for_peers s (Ticked moment ∷ t) = peers_later t (Ticked moment) (casts_of s t) refl (for_peers s t)
-for_peers s (Opened door admission opened from ∷ t) = peers_later t (Opened door admission opened from) (casts_of s t) refl (for_peers s t)
-for_peers s (Brought from bytes ∷ t) = peers_later t (Brought from bytes) (casts_of s t) refl (for_peers s t)
-for_peers s (Roomed roomed ∷ t) = peers_later t (Roomed roomed) (casts_of s t) refl (for_peers s t)
-for_peers s (Took by offered taken ∷ t) = peers_later t (Took by offered taken) (casts_of s t) refl (for_peers s t)
-for_peers s (Lost lost ∷ t) = peers_later t (Lost lost) (casts_of s t) refl (for_peers s t)
-for_peers s (Ended ended reason ∷ t) = peers_later t (Ended ended reason) (casts_of s t) refl (for_peers s t)
-for_peers s (Dated moment ∷ t) = peers_later t (Dated moment) (casts_of s t) refl (for_peers s t)
-for_peers s (Looked ∷ t) = peers_later t Looked (casts_of s t) refl (for_peers s t)
-for_peers s (Unjoined uplink ∷ t) = peers_later t (Unjoined uplink) (casts_of s t) refl (for_peers s t)
+for_peers s (Ticked moment ∷ t) = peers_later (length s.peers) t (Ticked moment) (casts_of s t) refl (for_peers s t)
+for_peers s (Opened door admission opened from ∷ t) = peers_later (length s.peers) t (Opened door admission opened from) (casts_of s t) refl (for_peers s t)
+for_peers s (Brought from bytes ∷ t) = peers_later (length s.peers) t (Brought from bytes) (casts_of s t) refl (for_peers s t)
+for_peers s (Roomed roomed ∷ t) = peers_later (length s.peers) t (Roomed roomed) (casts_of s t) refl (for_peers s t)
+for_peers s (Took by offered taken ∷ t) = peers_later (length s.peers) t (Took by offered taken) (casts_of s t) refl (for_peers s t)
+for_peers s (Lost lost ∷ t) = peers_later (length s.peers) t (Lost lost) (casts_of s t) refl (for_peers s t)
+for_peers s (Ended ended reason ∷ t) = peers_later (length s.peers) t (Ended ended reason) (casts_of s t) refl (for_peers s t)
+for_peers s (Dated moment ∷ t) = peers_later (length s.peers) t (Dated moment) (casts_of s t) refl (for_peers s t)
+for_peers s (Looked ∷ t) = peers_later (length s.peers) t Looked (casts_of s t) refl (for_peers s t)
+for_peers s (Unjoined uplink ∷ t) = peers_later (length s.peers) t (Unjoined uplink) (casts_of s t) refl (for_peers s t)
 
--- ---- casts
+-- ---- dials
 
--- each cast that is due is of such a line
+-- there are so many uplinks, and the next is one of them
+abbrev AreUplinks : ℕ → UplinksSeen → Type 0
+AreUplinks n uplinks = (uplinks.count ≡ n) × (0 < n → uplinks.next < n)
+
+-- where each row keeps it, so does the first that counts
+abbrev KeepUplinks : ℕ → List Row → Type 0
+KeepUplinks n [] = ⊤
+KeepUplinks n (row ∷ rows) = AreUplinks n row.uplinks × KeepUplinks n rows
+
+uplinks_row : (n : ℕ) (seen : UplinksSeen) (rows : List Row) → AreUplinks n seen → KeepUplinks n rows → AreUplinks n (first_row seen rows).uplinks
+uplinks_row n seen [] are keep = are
+uplinks_row n seen (row ∷ rows) are keep = of row.counts (uplinks_row n seen rows are keep.1)
+  where
+    of : (b : Bool) → AreUplinks n (first_row seen rows).uplinks → AreUplinks n (if b then row else first_row seen rows).uplinks
+    of true later = keep.0
+    of false later = later
+
+uplinks_step : (n : ℕ) (happened : UpEvent) (now : ℕ) (seen : UplinksSeen) → AreUplinks n seen → AreUplinks n (uplinks_after happened now seen)
+uplinks_step n up.Tick now seen are =
+    uplinks_row n seen (table.rows up.Tick now seen) are (are, ((are.0, λ above. subst (λ count. (seen.next + 1) % count < n) (sym are.0) (mod-lt (seen.next + 1) above)), tt))
+uplinks_step n (up.Joined uplink link) now seen are = uplinks_row n seen (table.rows (up.Joined uplink link) now seen) are (are, (are, tt))
+uplinks_step n (up.Unjoined uplink) now seen are = uplinks_row n seen (table.rows (up.Unjoined uplink) now seen) are (are, tt)
+uplinks_step n (up.Heard link) now seen are = uplinks_row n seen (table.rows (up.Heard link) now seen) are (are, tt)
+uplinks_step n (up.Ended link) now seen are = uplinks_row n seen (table.rows (up.Ended link) now seen) are (are, tt)
+
+uplinks_joined : (n : ℕ) (door : Door) (link now : ℕ) (seen : UplinksSeen) → AreUplinks n seen → AreUplinks n (joined_by door link now seen)
+uplinks_joined n (AtListener listener) link now seen are = are
+uplinks_joined n (ByUplink uplink) link now seen are = uplinks_step n (up.Joined uplink link) now seen are
+
+pub uplinks_within : (s : Setting) (t : Trace) → AreUplinks (length s.uplinks) (uplinks_of s t)
+uplinks_within s [] = (refl, λ above. above)
+uplinks_within s (Looked ∷ t) = uplinks_step (length s.uplinks) up.Tick (moment_of t) (uplinks_of s t) (uplinks_within s t)
+uplinks_within s (Opened door admission link from ∷ t) = uplinks_joined (length s.uplinks) door link (moment_of t) (uplinks_of s t) (uplinks_within s t)
+uplinks_within s (Unjoined uplink ∷ t) = uplinks_step (length s.uplinks) (up.Unjoined uplink) (moment_of t) (uplinks_of s t) (uplinks_within s t)
+uplinks_within s (Brought link bytes ∷ t) = uplinks_step (length s.uplinks) (up.Heard link) (moment_of t) (uplinks_of s t) (uplinks_within s t)
+uplinks_within s (Ended link reason ∷ t) = uplinks_step (length s.uplinks) (up.Ended link) (moment_of t) (uplinks_of s t) (uplinks_within s t)
+uplinks_within s (RoundBegan ∷ t) = uplinks_within s t
+uplinks_within s (Ticked moment ∷ t) = uplinks_within s t
+uplinks_within s (Said from said verdict ∷ t) = uplinks_within s t
+uplinks_within s (Roomed link ∷ t) = uplinks_within s t
+uplinks_within s (Took link offered taken ∷ t) = uplinks_within s t
+uplinks_within s (Lost link ∷ t) = uplinks_within s t
+uplinks_within s (Dated moment ∷ t) = uplinks_within s t
+
+no_dial : (uplink : ℕ) → None ≡ Some uplink → ⊥
+no_dial uplink e = cc
+
+tick_dials : (n now : ℕ) (seen : UplinksSeen) (uplink : ℕ) → AreUplinks n seen → (acts_at up.Tick now seen).dial ≡ Some uplink → uplink < n
+tick_dials n now seen uplink are is = of (is_silent seen.timeout now seen.joined) (is_due now seen) refl is
+  where
+    of : (silent due : Bool) → is_due now seen ≡ due
+        → (if silent then row silent (ended_at now seen) (close_of (option_map link_of seen.joined)) else if due then row due (dialling seen) (table.dial_of seen.next) else row true seen no_acts).acts.dial ≡ Some uplink → uplink < n
+    of true due e is = absurd (no_dial uplink is)
+    of false false e is = absurd (no_dial uplink is)
+    of false true e is =
+        let some : 0 < seen.count = ltb-true 0 seen.count (and_first (nat_lt 0 seen.count) (is_none seen.dialled && (is_none seen.joined && is_rested now seen.tried)) e) in
+        let same : seen.next ≡ uplink = cc in
+        subst (λ k. k < n) same (are.1 (subst (λ count. 0 < count) are.0 some))
+
+pub dial_within : (s : Setting) (t : Trace) (uplink : ℕ) → dial_of s t ≡ Some uplink → uplink < length s.uplinks
+dial_within s [] uplink is = absurd (no_dial uplink is)
+dial_within s (RoundBegan ∷ t) uplink is = absurd (no_dial uplink is)
+dial_within s (Looked ∷ t) uplink is = tick_dials (length s.uplinks) (moment_of t) (uplinks_of s t) uplink (uplinks_within s t) is
+dial_within s (Opened door admission link from ∷ t) uplink is = dial_within s t uplink is
+dial_within s (Unjoined other ∷ t) uplink is = dial_within s t uplink is
+dial_within s (Brought link bytes ∷ t) uplink is = dial_within s t uplink is
+dial_within s (Ended link reason ∷ t) uplink is = dial_within s t uplink is
+dial_within s (Ticked moment ∷ t) uplink is = dial_within s t uplink is
+dial_within s (Said from said verdict ∷ t) uplink is = dial_within s t uplink is
+dial_within s (Roomed link ∷ t) uplink is = dial_within s t uplink is
+dial_within s (Took link offered taken ∷ t) uplink is = dial_within s t uplink is
+dial_within s (Lost link ∷ t) uplink is = dial_within s t uplink is
+dial_within s (Dated moment ∷ t) uplink is = dial_within s t uplink is
+
+-- ---- dials and casts that are due
+
 abbrev IsDatagram : Trace → List ℕ → Type 0
 IsDatagram t bytes = (line : List ℕ) × (bytes ≡ ended_line line) × IsForPeer t line
 
-abbrev CastsStand : Trace → List Act → Type 0
-CastsStand t [] = ⊤
-CastsStand t (Casts peer bytes ∷ acts) = IsDatagram t bytes × CastsStand t acts
-CastsStand t (Listens n ∷ acts) = CastsStand t acts
-CastsStand t (Dials uplink ∷ acts) = CastsStand t acts
-CastsStand t (Offers link bytes ∷ acts) = CastsStand t acts
-CastsStand t (Closes link ∷ acts) = CastsStand t acts
+-- each dial is of an uplink, and each cast to a peer and of such a line
+abbrev ReachStands : Setting → Trace → List Act → Type 0
+ReachStands s t [] = ⊤
+ReachStands s t (Dials uplink ∷ acts) = (uplink < length s.uplinks) × ReachStands s t acts
+ReachStands s t (Casts peer bytes ∷ acts) = ((peer < length s.peers) × IsDatagram t bytes) × ReachStands s t acts
+ReachStands s t (Listens n ∷ acts) = ReachStands s t acts
+ReachStands s t (Offers link bytes ∷ acts) = ReachStands s t acts
+ReachStands s t (Closes link ∷ acts) = ReachStands s t acts
 
-casts_next : (t : Trace) (acts : List Act) → CastsStand t acts → CastsStand t (but_first acts)
-casts_next t [] stand = stand
-casts_next t (Casts peer bytes ∷ acts) stand = stand.1
-casts_next t (Listens n ∷ acts) stand = stand
-casts_next t (Dials uplink ∷ acts) stand = stand
-casts_next t (Offers link bytes ∷ acts) stand = stand
-casts_next t (Closes link ∷ acts) stand = stand
+module _ (s : Setting) (t : Trace) where
+  reach_next : (acts : List Act) → ReachStands s t acts → ReachStands s t (but_first acts)
+  reach_next [] stand = stand
+  reach_next (Dials uplink ∷ acts) stand = stand.1
+  reach_next (Casts peer bytes ∷ acts) stand = stand.1
+  reach_next (Listens n ∷ acts) stand = stand
+  reach_next (Offers link bytes ∷ acts) stand = stand
+  reach_next (Closes link ∷ acts) stand = stand
 
-casts_later : (t : Trace) (entry : Entry) (acts : List Act) → is_round_start entry ≡ false → CastsStand t acts → CastsStand (entry ∷ t) acts
-casts_later t entry [] same stand = tt
-casts_later t entry (Casts peer bytes ∷ acts) same stand =
-    let datagram = stand.0 in ((datagram.0, datagram.1, peer_later t entry datagram.0 same datagram.2), casts_later t entry acts same stand.1)
-casts_later t entry (Listens n ∷ acts) same stand = casts_later t entry acts same stand
-casts_later t entry (Dials uplink ∷ acts) same stand = casts_later t entry acts same stand
-casts_later t entry (Offers link bytes ∷ acts) same stand = casts_later t entry acts same stand
-casts_later t entry (Closes link ∷ acts) same stand = casts_later t entry acts same stand
+  reach_later : (entry : Entry) (acts : List Act) → is_round_start entry ≡ false → ReachStands s t acts → ReachStands s (entry ∷ t) acts
+  reach_later entry [] same stand = tt
+  reach_later entry (Dials uplink ∷ acts) same stand = (stand.0, reach_later entry acts same stand.1)
+  reach_later entry (Casts peer bytes ∷ acts) same stand =
+      let datagram = stand.0.1 in ((stand.0.0, (datagram.0, datagram.1, peer_later t entry datagram.0 same datagram.2)), reach_later entry acts same stand.1)
+  reach_later entry (Listens n ∷ acts) same stand = reach_later entry acts same stand
+  reach_later entry (Offers link bytes ∷ acts) same stand = reach_later entry acts same stand
+  reach_later entry (Closes link ∷ acts) same stand = reach_later entry acts same stand
 
-casts_listens : (t : Trace) (n : ℕ) (listens : List ListenSpec) → CastsStand t (listens_from n listens)
-casts_listens t n [] = tt
-casts_listens t n (spec ∷ specs) = casts_listens t (n + 1) specs
+  reach_listens : (n : ℕ) (listens : List ListenSpec) → ReachStands s t (listens_from n listens)
+  reach_listens n [] = tt
+  reach_listens n (spec ∷ specs) = reach_listens (n + 1) specs
 
-casts_closes : (t : Trace) (ks : List ℕ) → CastsStand t (map Closes ks)
-casts_closes t [] = tt
-casts_closes t (k ∷ ks) = casts_closes t ks
+  reach_closes : (ks : List ℕ) → ReachStands s t (map Closes ks)
+  reach_closes [] = tt
+  reach_closes (k ∷ ks) = reach_closes ks
 
-casts_offers : (s : Setting) (t : Trace) (ks : List ℕ) (acts : List Act) → CastsStand t acts → CastsStand t (map (offer_to s t) ks ++ acts)
-casts_offers s t [] acts stand = stand
-casts_offers s t (k ∷ ks) acts stand = casts_offers s t ks acts stand
+  reach_offers : (ks : List ℕ) (acts : List Act) → ReachStands s t acts → ReachStands s t (map (offer_to s t) ks ++ acts)
+  reach_offers [] acts stand = stand
+  reach_offers (k ∷ ks) acts stand = reach_offers ks acts stand
 
-casts_casts : (t : Trace) (casts : List CastSeen) (acts : List Act) → AreForPeers t casts → CastsStand t acts → CastsStand t (map cast_act casts ++ acts)
-casts_casts t [] acts all stand = stand
-casts_casts t (cast ∷ casts) acts all stand = ((cast.line, refl, all.0), casts_casts t casts acts all.1 stand)
+  reach_casts : (casts : List CastSeen) (acts : List Act) → AreForPeers (length s.peers) t casts → ReachStands s t acts → ReachStands s t (map cast_act casts ++ acts)
+  reach_casts [] acts all stand = stand
+  reach_casts (cast ∷ casts) acts all stand = ((all.0, (cast.line, refl, all.1)), reach_casts casts acts all.2 stand)
 
-casts_dials : (t : Trace) (dial : Option ℕ) (acts : List Act) → CastsStand t acts → CastsStand t (dials dial ++ acts)
-casts_dials t None acts stand = stand
-casts_dials t (Some uplink) acts stand = stand
+  reach_dials : (dial : Option ℕ) (acts : List Act) → ((uplink : ℕ) → dial ≡ Some uplink → uplink < length s.uplinks) → ReachStands s t acts → ReachStands s t (dials dial ++ acts)
+  reach_dials None acts within stand = stand
+  reach_dials (Some uplink) acts within stand = (within uplink refl, stand)
 
-casts_after : (s : Setting) (t : Trace) (ends : Bool) → CastsStand t (if ends then acts_after s t else [])
-casts_after s t true =
-    let offers = map (offer_to s t) (offered_links s t) ++ map Closes (closed_links t) in
-    casts_dials t (dial_of s t) (map cast_act (casts_of s t) ++ offers)
-    (casts_casts t (casts_of s t) offers (for_peers s t) (casts_offers s t (offered_links s t) (map Closes (closed_links t)) (casts_closes t (closed_links t))))
-casts_after s t false = tt
+  reach_after : (ends : Bool) → ReachStands s t (if ends then acts_after s t else [])
+  reach_after true =
+      let offers = map (offer_to s t) (offered_links s t) ++ map Closes (closed_links t) in
+      reach_dials (dial_of s t) (map cast_act (casts_of s t) ++ offers) (dial_within s t)
+      (reach_casts (casts_of s t) offers (for_peers s t) (reach_offers (offered_links s t) (map Closes (closed_links t)) (reach_closes (closed_links t))))
+  reach_after false = tt
 
-casts_stand : (s : Setting) (h : History) → CastsStand (trace_of s h) (due s h)
+reach_stands : (s : Setting) (h : History) → ReachStands s (trace_of s h) (due s h)
 unfolding trace_of due
-casts_stand s [] = casts_listens [] 0 s.listens
-casts_stand s (did.Event e ∷ h) = casts_after s (trace_of s (did.Event e ∷ h)) (ends_round (open_events h) e)
-casts_stand s (did.Sent link bytes (sent.Took n) ∷ h) =
-    casts_later (trace_of s h) (Took link (length bytes) n) (but_first (due s h)) refl (casts_next (trace_of s h) (due s h) (casts_stand s h))
-casts_stand s (did.Sent link bytes sent.Gone ∷ h) = casts_later (trace_of s h) (Lost link) (but_first (due s h)) refl (casts_next (trace_of s h) (due s h) (casts_stand s h))
-casts_stand s (did.Listen n ∷ h) = casts_next (trace_of s h) (due s h) (casts_stand s h)
-casts_stand s (did.Closed link ∷ h) = casts_next (trace_of s h) (due s h) (casts_stand s h)
-casts_stand s (did.Dialled uplink ∷ h) = casts_next (trace_of s h) (due s h) (casts_stand s h)
-casts_stand s (did.Cast peer bytes ∷ h) = casts_next (trace_of s h) (due s h) (casts_stand s h)
+reach_stands s [] = reach_listens s [] 0 s.listens
+reach_stands s (did.Event e ∷ h) = reach_after s (trace_of s (did.Event e ∷ h)) (ends_round (open_events h) e)
+reach_stands s (did.Sent link bytes (sent.Took n) ∷ h) =
+    let t = trace_of s h in reach_later s t (Took link (length bytes) n) (but_first (due s h)) refl (reach_next s t (due s h) (reach_stands s h))
+reach_stands s (did.Sent link bytes sent.Gone ∷ h) = let t = trace_of s h in reach_later s t (Lost link) (but_first (due s h)) refl (reach_next s t (due s h) (reach_stands s h))
+reach_stands s (did.Listen n ∷ h) = reach_next s (trace_of s h) (due s h) (reach_stands s h)
+reach_stands s (did.Closed link ∷ h) = reach_next s (trace_of s h) (due s h) (reach_stands s h)
+reach_stands s (did.Dialled uplink ∷ h) = reach_next s (trace_of s h) (due s h) (reach_stands s h)
+reach_stands s (did.Cast peer bytes ∷ h) = reach_next s (trace_of s h) (due s h) (reach_stands s h)
 
-cast_due : (t : Trace) (acts : List Act) (stopped : Bool) (peer : ℕ) (bytes : List ℕ) → MayCome acts stopped (did.Cast peer bytes) → CastsStand t acts → IsDatagram t bytes
-cast_due t [] stopped peer bytes may stand = absurd may.1
-cast_due t (Casts to given ∷ acts) stopped peer bytes may stand = subst (IsDatagram t) (sym may.1) stand.0
-cast_due t (Listens n ∷ acts) stopped peer bytes may stand = absurd may
-cast_due t (Dials uplink ∷ acts) stopped peer bytes may stand = absurd may
-cast_due t (Offers link given ∷ acts) stopped peer bytes may stand = absurd may
-cast_due t (Closes link ∷ acts) stopped peer bytes may stand = absurd may
+module _ (s : Setting) (t : Trace) where
+  cast_due : (acts : List Act) (stopped : Bool) (peer : ℕ) (bytes : List ℕ) → MayCome acts stopped (did.Cast peer bytes) → ReachStands s t acts → (peer < length s.peers) × IsDatagram t bytes
+  cast_due [] stopped peer bytes may stand = absurd may.1
+  cast_due (Casts to given ∷ acts) stopped peer bytes may stand = (subst (λ k. k < length s.peers) (sym may.0) stand.0.0, subst (IsDatagram t) (sym may.1) stand.0.1)
+  cast_due (Listens n ∷ acts) stopped peer bytes may stand = absurd may
+  cast_due (Dials uplink ∷ acts) stopped peer bytes may stand = absurd may
+  cast_due (Offers link given ∷ acts) stopped peer bytes may stand = absurd may
+  cast_due (Closes link ∷ acts) stopped peer bytes may stand = absurd may
+
+  dialled_due : (acts : List Act) (stopped : Bool) (uplink : ℕ) → MayCome acts stopped (did.Dialled uplink) → ReachStands s t acts → uplink < length s.uplinks
+  dialled_due [] stopped uplink may stand = absurd may.1
+  dialled_due (Dials other ∷ acts) stopped uplink may stand = subst (λ k. k < length s.uplinks) (sym may) stand.0
+  dialled_due (Listens n ∷ acts) stopped uplink may stand = absurd may
+  dialled_due (Casts to given ∷ acts) stopped uplink may stand = absurd may
+  dialled_due (Offers link given ∷ acts) stopped uplink may stand = absurd may
+  dialled_due (Closes link ∷ acts) stopped uplink may stand = absurd may
 
 pub peers_get_submissions : PeersGetSubmissions
 peers_get_submissions s later earlier peer bytes run =
-    let came = run_before s later (did.Cast peer bytes ∷ earlier) run in cast_due (trace_of s earlier) (due s earlier) (is_stopped earlier) peer bytes came.1 (casts_stand s earlier)
+    let came = run_before s later (did.Cast peer bytes ∷ earlier) run in cast_due s (trace_of s earlier) (due s earlier) (is_stopped earlier) peer bytes came.1 (reach_stands s earlier)
+
+pub dials_are_of_uplinks : DialsAreOfUplinks
+dials_are_of_uplinks s later earlier uplink run =
+    let came = run_before s later (did.Dialled uplink ∷ earlier) run in dialled_due s (trace_of s earlier) (due s earlier) (is_stopped earlier) uplink came.1 (reach_stands s earlier)

@@ -1,6 +1,6 @@
 -- What every run keeps: the bytes that links take, whose packets their texts have, why links end and are closed, and what goes to
 -- other servers.
-use Rattle.std.specs.Prelude.{◌≡◌, ◌≢◌, ℕ, ◌==◌, ◌<◌, List, [], ◌∷◌, ◌++◌, take, Bool, true, false, Option, Some, None, IfSome, IsTrue, IsFalse, if◌then◌else◌, ⊤}
+use Rattle.std.specs.Prelude.{◌≡◌, ◌≢◌, ℕ, ◌==◌, ◌<◌, List, [], ◌∷◌, ◌++◌, length, take, Bool, true, false, Option, Some, None, IfSome, IsTrue, IsFalse, if◌then◌else◌, ⊤}
 use Rattle.std.specs.List.{All, list_any}
 use Rattle.aprs_base.specs.Outside.{new_link}
 use Rattle.aprs_base.specs.PacketSeen.{PacketSeen}
@@ -128,6 +128,10 @@ UplinksGetSubmissions = (setting : Setting) (history : History) (link uplink : �
     → opening_of (trace_of setting history) link ≡ Some (record { kind = Uplink uplink; from = at; moment = moment })
     → All (IsForUplink setting (trace_of setting history)) (text_to setting (trace_of setting history) link).lines
 
+-- what is dialled is one of the uplinks
+abbrev pub DialsAreOfUplinks : Type 0
+DialsAreOfUplinks = (setting : Setting) (later earlier : History) (uplink : ℕ) → IsRun setting (later ++ did.Dialled uplink ∷ earlier) → uplink < length setting.uplinks
+
 -- a line for a peer is that of a packet that was submitted here and accepted in the last round
 pub record IsForPeer (trace : Trace) (line : List ℕ) : Type 0 where
   pub packet : PacketSeen
@@ -137,4 +141,4 @@ pub record IsForPeer (trace : Trace) (line : List ℕ) : Type 0 where
 
 abbrev pub PeersGetSubmissions : Type 0
 PeersGetSubmissions = (setting : Setting) (later earlier : History) (peer : ℕ) (bytes : List ℕ) → IsRun setting (later ++ did.Cast peer bytes ∷ earlier)
-    → (line : List ℕ) × (bytes ≡ ended_line line) × IsForPeer (trace_of setting earlier) line
+    → (peer < length setting.peers) × ((line : List ℕ) × (bytes ≡ ended_line line) × IsForPeer (trace_of setting earlier) line)

@@ -1,5 +1,5 @@
 //! What every run of the server keeps, as laws of the definitions.
-ghost use Rattle.aprs_history.specs.Headline.{ClosesHaveReasons, LinksEndByRules, LinksTakePrefixes, NoneHearThemselves, PeersGetSubmissions, UplinksGetSubmissions};
+ghost use Rattle.aprs_history.specs.Headline.{ClosesHaveReasons, DialsAreOfUplinks, LinksEndByRules, LinksTakePrefixes, NoneHearThemselves, PeersGetSubmissions, UplinksGetSubmissions};
 ghost use Rattle.aprs_history.specs.MessageRule.{HeardIsLastAccepted, PromisesAreOwed};
 
 /// The bytes that each link takes are a prefix of its text, no line of its text is a packet that it sent itself, a link
@@ -21,8 +21,9 @@ pub fn messages_follow_the_rule()
 
 /// Other servers get what was submitted here, by a client or in a datagram of its own, and nothing that came from another
 /// server. The text of an uplink has its login and such packets alone. A datagram to a peer is the line of such a packet that
-/// was accepted in the last round.
+/// was accepted in the last round. None but the uplinks are dialled, and the datagrams go to none but the peers.
 pub fn servers_get_submissions()
     ensures uplinks { UplinksGetSubmissions }
     ensures peers { PeersGetSubmissions }
+    ensures dials { DialsAreOfUplinks }
 {}
