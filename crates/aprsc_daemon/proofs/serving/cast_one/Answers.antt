@@ -27,5 +27,5 @@ returns-in-Some-clause-brings g c =
 pub returns-in-None-clause-run : goal.returns-in-None-clause-run
 returns-in-None-clause-run g c = λ s start core casts offers closes same peers run.
     let cast : CastSeen = record { peer = c.cast.inside.peer; line = arc_value c.cast.inside.line } in
-    cast_there s start (g.W.Wire.shown c.args.wire.now).told core cast casts offers closes (ap (λ xs. slice_get xs c.cast.inside.peer) peers ∙ missed_at c.args.peers.now c.from.result c.cast.inside.peer c.from.ensures c.in-None.ensures.lookup.3)
+    cast_there s start (g.W.Wire.shown c.args.wire.now).told core cast casts offers closes same (ap (λ xs. slice_get xs c.cast.inside.peer) peers ∙ missed_at c.args.peers.now c.from.result c.cast.inside.peer c.from.ensures c.in-None.ensures.lookup.3)
     (subst (λ x. AppendsRun s start (g.W.Wire.shown c.args.wire.now).told (Acting core None (x ∷ casts) offers closes)) (sym c.cast.view_is) run)

@@ -21,6 +21,6 @@ returns-in-Some-get-clause-brings g c =
 
 pub returns-in-None-clause-run : goal.returns-in-None-clause-run
 returns-in-None-clause-run g c = λ s start core casts offers closes same uplinks run.
-    dial_there s start (g.W.Wire.shown c.args.wire.now).told core c.in-Some.uplink casts offers closes
+    dial_there s start (g.W.Wire.shown c.args.wire.now).told core c.in-Some.uplink casts offers closes same
     (ap (λ xs. slice_get xs c.in-Some.uplink) uplinks ∙ missed_at c.args.uplinks.now c.from.result c.in-Some.uplink c.from.ensures c.in-None.ensures.lookup.3)
     (subst (λ dial. AppendsRun s start (g.W.Wire.shown c.args.wire.now).told (Acting core dial casts offers closes)) c.in-Some.is run)
