@@ -1,5 +1,5 @@
 -- A run goes on by a send or a close.
-use Rattle.std.proofs.Common.{◌≡◌, ℕ, zero, suc, ◌<◌, ◌==◌, Bool, true, false, ◌||◌, List, [], ◌∷◌, ◌++◌, length, take, drop, map, refl, sym, ap, ◌∙◌, subst, arith, Option, ⊎_elim, eq-eqb, min, length-take, get_or}
+use Rattle.std.proofs.Common.{◌≡◌, ℕ, zero, suc, ◌<◌, ◌==◌, Bool, true, false, ◌||◌, List, [], ◌∷◌, ◌++◌, length, take, drop, map, refl, sym, ap, ◌∙◌, subst, arith, Option, None, ⊎_elim, eq-eqb, min, length-take, get_or}
 use Rattle.std.specs.Option.{option_map}
 use Rattle.std.proofs.lemmas.Bool.{cases_Bool, eqb-true, false_from_ne_true, true≢false}
 use Rattle.aprs_base.specs.Outside.{Told, with_done, IsOutcome}
@@ -17,7 +17,7 @@ use Rattle.server_core.specs.Meaning.{CoreMeaning, Stands, setting_of}
 use Rattle.server_core.proofs.WalkLemmas.{member_below}
 use Rattle.aprs_conf.specs.Seen.{ConfSeen}
 use Rattle.aprsc_daemon.specs.Phases.{Owing, Offering}
-use Rattle.aprsc_daemon.proofs.RunLemmas.{run_goes_on}
+use Rattle.aprsc_daemon.proofs.RunLemmas.{run_goes_on, tells_done}
 
 send_comes : (acts : List Act) (stopped : Bool) (link : ℕ) (bytes owed : List ℕ) (outcome : Sent) (rest : List Act) → acts ≡ Offers link owed ∷ rest → bytes ≡ owed → IsOutcome bytes outcome
     → MayCome acts stopped (did.Sent link bytes outcome)
@@ -37,7 +37,7 @@ member_differs link k offers none member =
     false_from_ne_true _ (λ is. let same : k ≡ link = eqb-true k link is in true≢false (sym member ∙ ap (λ n. is_member n offers) same ∙ none))
 
 owing_next : (conf : ConfSeen) (link : ℕ) (offers closes : List ℕ) (bytes : List ℕ) (outcome : Sent) (more : History) → is_member link offers ≡ false
-    → Owing conf (link ∷ offers) closes more → Owing conf offers closes (did.Sent link bytes outcome ∷ more)
+    → Owing conf None [] (link ∷ offers) closes more → Owing conf None [] offers closes (did.Sent link bytes outcome ∷ more)
 unfolding due
 owing_next conf link offers closes bytes outcome more other owing = record {
   round = owing.round;
@@ -60,7 +60,8 @@ pub run_sends : (s : Setting) (start now next : Option Told) (core new : CoreMea
     → next ≡ option_map (with_done (did.Sent link bytes outcome)) now
     → AppendsRun s start now (Offering core (link ∷ offers) closes) → AppendsRun s start next (Offering new offers closes)
 run_sends s start now next core new link offers closes bytes outcome same conf other part given stands is run =
-    run_goes_on s start now next (did.Sent link bytes outcome) (Offering core (link ∷ offers) closes) (Offering new offers closes) (λ more. refl) is (λ more phase.
+    run_goes_on s start now next (did.Sent link bytes outcome) (with_done (did.Sent link bytes outcome)) (Offering core (link ∷ offers) closes) (Offering new offers closes)
+    (tells_done s (did.Sent link bytes outcome) refl refl refl) is (λ more phase.
     let owing = phase.owing in
     let c = setting_of core.conf in (
       subst (λ t. MayCome (due t more) (is_stopped more) (did.Sent link bytes outcome)) same
@@ -68,7 +69,7 @@ run_sends s start now next core new link offers closes bytes outcome same conf o
           (given more phase.stands ∙ ap (take 65536) (owing.same link (member_first link offers))) part),
       record {
         stands = stands more phase.stands;
-        owing = subst (λ conf. Owing conf offers closes (did.Sent link bytes outcome ∷ more)) (sym conf) (owing_next core.conf link offers closes bytes outcome more other owing);
+        owing = subst (λ conf. Owing conf None [] offers closes (did.Sent link bytes outcome ∷ more)) (sym conf) (owing_next core.conf link offers closes bytes outcome more other owing);
       },
     )) run
 
@@ -78,14 +79,15 @@ stands_closed : (core : CoreMeaning) (link : ℕ) (h : History) → Stands core 
 unfolding trace_of
 stands_closed core link h stands = record { finished = stands.finished; follows = stands.follows; greatest = stands.greatest; stopped = stands.stopped }
 
-owing_closed : (conf : ConfSeen) (link : ℕ) (closes : List ℕ) (more : History) → Owing conf [] (link ∷ closes) more → Owing conf [] closes (did.Closed link ∷ more)
+owing_closed : (conf : ConfSeen) (link : ℕ) (closes : List ℕ) (more : History) → Owing conf None [] [] (link ∷ closes) more → Owing conf None [] [] closes (did.Closed link ∷ more)
 unfolding due
 owing_closed conf link closes more owing = record { round = owing.round; owed = ap but_first owing.owed; same = λ k member. absurd (true≢false (sym member)); all = owing.all; fresh = owing.fresh }
 
 pub run_closes : (s : Setting) (start now next : Option Told) (core : CoreMeaning) (link : ℕ) (closes : List ℕ) → setting_of core.conf ≡ s
     → next ≡ option_map (with_done (did.Closed link)) now → AppendsRun s start now (Offering core [] (link ∷ closes)) → AppendsRun s start next (Offering core [] closes)
 run_closes s start now next core link closes same is run =
-    run_goes_on s start now next (did.Closed link) (Offering core [] (link ∷ closes)) (Offering core [] closes) (λ more. refl) is (λ more phase. (
+    run_goes_on s start now next (did.Closed link) (with_done (did.Closed link)) (Offering core [] (link ∷ closes)) (Offering core [] closes)
+    (tells_done s (did.Closed link) refl refl refl) is (λ more phase. (
       subst (λ t. MayCome (due t more) (is_stopped more) (did.Closed link)) same (close_comes (due (setting_of core.conf) more) (is_stopped more) link (map Closes closes) phase.owing.owed),
       record { stands = stands_closed core link more phase.stands; owing = owing_closed core.conf link closes more phase.owing },
     )) run

@@ -9,12 +9,16 @@ use Rattle.aprsc_daemon.specs.Phases.{Brings, events_in}
 
 pub brings_nothing : (now : Option Told) → Brings [] now now
 brings_nothing None = refl
-brings_nothing (Some told) = ([], ap (λ done. Some (record told { done = done })) (sym (append-nil told.done)), refl)
+brings_nothing (Some told) = (told, [], refl, sym (append-nil told.done), refl)
 
--- one happening
+-- one happening, whatever else is told with it
+pub brings_told : (x : Happening) (change : Told → Told) (events : List Event) (now next : Option Told) → ((told : Told) → (change told).done ≡ told.done ++ x ∷ []) → events_in (x ∷ []) ≡ events
+    → next ≡ option_map change now → Brings events now next
+brings_told x change events None next tells is comes = comes
+brings_told x change events (Some told) next tells is comes = (change told, x ∷ [], comes, tells told, is)
+
 pub brings_one : (x : Happening) (events : List Event) (now next : Option Told) → events_in (x ∷ []) ≡ events → next ≡ option_map (with_done x) now → Brings events now next
-brings_one x events None next is comes = comes
-brings_one x events (Some told) next is comes = (x ∷ [], comes, is)
+brings_one x events now next = brings_told x (with_done x) events now next (λ told. refl)
 
 events_join : (first later : List Happening) → events_in (first ++ later) ≡ events_in first ++ events_in later
 events_join [] later = refl
@@ -29,10 +33,12 @@ events_join (did.Cast peer bytes ∷ first) later = events_join first later
 pub brings_both : (these those : List Event) (start now next : Option Told) → Brings these start now → Brings those now next → Brings (these ++ those) start next
 brings_both these those None now next first later = subst (λ told. Brings those told next) first later
 brings_both these those (Some old) now next first later =
-    let then = subst (λ told. Brings those told next) first.1 later in (
-      first.0 ++ then.0,
-      then.1 ∙ ap (λ done. Some (record old { done = done })) (append_assoc old.done first.0 then.0),
-      events_join first.0 then.0 ∙ ap (λ events. events ++ events_in then.0) first.2 ∙ ap (λ events. these ++ events) then.2,
+    let then = subst (λ told. Brings those told next) first.2 later in (
+      then.0,
+      first.1 ++ then.1,
+      then.2,
+      then.3 ∙ ap (λ done. done ++ then.1) first.3 ∙ append_assoc old.done first.1 then.1,
+      events_join first.1 then.1 ∙ ap (λ events. events ++ events_in then.1) first.4 ∙ ap (λ events. these ++ events) then.4,
     )
 
 -- these events, and then none

@@ -1,5 +1,5 @@
 -- From what a part of the program did to the cause of its status.
-use Rattle.std.proofs.Common.{◌≡◌, ◌⊎◌, inl, inr, ℕ, ◌≤◌, ◌<◌, true, false, List, [], ◌∷◌, ◌++◌, length, refl, sym, ap, ◌∙◌, subst, append-nil, Option, Some, None, Result, Ok, ⊎_elim, arith}
+use Rattle.std.proofs.Common.{◌≡◌, ◌⊎◌, inl, inr, ℕ, ◌≤◌, ◌<◌, true, List, [], ◌∷◌, ◌++◌, length, refl, sym, ap, ◌∙◌, subst, append-nil, Option, Some, None, Result, Ok, ⊎_elim, arith}
 use Rattle.std.proofs.lemmas.Bool.{false≢true}
 use Rattle.std.specs.Option.{option_map}
 use Rattle.aprs_base.specs.Outside.{Rose, Told}
@@ -18,7 +18,7 @@ use Rattle.aprs_conf.specs.Grammar.{conf_of}
 use Rattle.aprs_conf.specs.declared.errors.ConfError.{ConfError}
 use Rattle.aprsc_daemon.specs.Phases.{Ends, Finished, Idle}
 use Rattle.aprsc_daemon.specs.Saying.{listen_failed_text, unread_text, usage_text}
-use Rattle.aprsc_daemon.specs.Configuring.{IsTrouble, is_built}
+use Rattle.aprsc_daemon.specs.Configuring.{IsTrouble}
 use Rattle.aprsc_daemon.specs.declared.configuring.Trouble.{Trouble}
 use Rattle.aprsc_daemon.specs.declared.configuring.Trouble.TheVariants as trouble
 use Rattle.aprsc_daemon.specs.Causes.{Asks, Cause, Ended, HasNamed, HasNoListener, HasNoMemory, HasRefused, IsDue, IsOff, IsServed, IsUnused, KeepsPromise, Opening, OpensOnly, Outside, Reports, Said, code_of_status, status_of}
@@ -115,13 +115,9 @@ same_conf words files a b x y =
     let same = same_bytes words files x.file y.file x.bytes y.bytes x.named y.named x.holds y.holds in
     ok_same (conf_of y.bytes) a b (ap conf_of (sym same) ∙ x.reads) y.reads
 
-no_trouble : (t : Trouble) (said : Result ConfSeen ConfError) (conf : ConfSeen) → said ≡ Ok conf → is_built conf ≡ true → IsTrouble t said → ⊥
-no_trouble (trouble.Line n f) said conf reads built is = cc
-no_trouble (trouble.Missing w) said conf reads built is = cc
-no_trouble trouble.NotBuilt said conf reads built is =
-    let same : is.0 ≡ conf = ok_same said is.0 conf is.1 reads in
-    let off : is_built conf ≡ false = subst (λ c. is_built c ≡ false) same is.2 in
-    cc
+no_trouble : (t : Trouble) (said : Result ConfSeen ConfError) (conf : ConfSeen) → said ≡ Ok conf → IsTrouble t said → ⊥
+no_trouble (trouble.Line n f) said conf reads is = cc
+no_trouble (trouble.Missing w) said conf reads is = cc
 
 -- no file is both a configuration and off
 not_both : (words : List (List ℕ)) (files : List MemFile) (conf : ConfSeen) (text : List ℕ) → HasNamed words (Some files) conf → HasRefused words (Some files) text → ⊥
@@ -130,7 +126,7 @@ not_both words files conf text read refused =
     let short : length refused.bytes ≤ 65536 = subst (λ bytes. length bytes ≤ 65536) same read.short in
     ⊎_elim
     (λ big. absurd (omega (arith, big.0)))
-    (λ off. no_trouble off.1 (conf_of refused.bytes) conf (ap conf_of (sym same) ∙ read.reads) read.built off.2)
+    (λ off. no_trouble off.1 (conf_of refused.bytes) conf (ap conf_of (sym same) ∙ read.reads) off.2)
     refused.off
 
 not_named : (words : List (List ℕ)) (file : List ℕ) → file_word words ≡ None → file_word words ≡ Some file → ⊥

@@ -18,7 +18,7 @@ use Rattle.server_core.specs.Meaning.{CoreMeaning, setting_of}
 use Rattle.server_core.proofs.RoundLemmas.{more_events}
 use Rattle.server_core.proofs.RoundLemmas.{no_stop}
 use Rattle.aprsc_daemon.specs.Phases.{is_partial, Counted, Gathering, Idle}
-use Rattle.aprsc_daemon.proofs.RunLemmas.{run_goes_on}
+use Rattle.aprsc_daemon.proofs.RunLemmas.{run_goes_on, tells_done}
 
 not_false : (b : Bool) → not b ≡ true → b ≡ false
 not_false true h = absurd (false≢true h)
@@ -48,13 +48,14 @@ stopped_partial n (e ∷ events) h partial going =
     stopped_partial (n + 1) events (did.Event e ∷ h) parts.1 (ap (λ b. Rattle.std.proofs.Common.◌||◌ b (is_stopped h)) (no_stop n e parts.0) ∙ going)
 
 event_comes : (acts : List Act) (stopped : Bool) (e : Event) → acts ≡ [] → stopped ≡ false → MayCome acts stopped (did.Event e)
-event_comes acts stopped e none going = subst (λ xs. MayCome xs stopped (did.Event e)) (sym none) going
+event_comes acts stopped e none going = subst (λ xs. MayCome xs stopped (did.Event e)) (sym none) (going, tt)
 
 -- one event more of the same round
 pub run_gathers : (s : Setting) (start now next : Option Told) (core : CoreMeaning) (events : List Event) (e : Event) → setting_of core.conf ≡ s → is_partial 0 events ≡ true
     → next ≡ option_map (with_done (did.Event e)) now → AppendsRun s start now (Gathering core events) → AppendsRun s start next (Gathering core (events ++ e ∷ []))
 run_gathers s start now next core events e same partial is run =
-    run_goes_on s start now next (did.Event e) (Gathering core events) (Gathering core (events ++ e ∷ [])) (λ more. refl) is (λ more phase.
+    run_goes_on s start now next (did.Event e) (with_done (did.Event e)) (Gathering core events) (Gathering core (events ++ e ∷ []))
+    (tells_done s (did.Event e) refl refl refl) is (λ more phase.
     let none : due s more ≡ [] =
     ap (due s) phase.since
     ∙ due_partial s 0 events phase.before partial phase.resting.stands.finished (subst (λ t. due t phase.before ≡ []) same phase.resting.none) in

@@ -1,13 +1,13 @@
 -- Worked words and texts: what the definitions make of them.
-use Rattle.std.specs.Prelude.{◌≡◌, List, [], ◌∷◌, ◌++◌, Some, None, refl, codes}
+use Rattle.std.specs.Prelude.{◌≡◌, List, [], ◌∷◌, Some, None, refl, codes}
 use Rattle.std.specs.Fmt.{decimal}
-use Rattle.std.proofs.Common.{lit<, ap, ◌∙◌, sym, append-nil, Option}
+use Rattle.std.proofs.Common.{lit<, ap, ◌∙◌, sym, append-nil}
 use Rattle.std.proofs.lemmas.Fmt.{decimal_digit}
 use Rattle.std.proofs.lemmas.List.{append_cancel_left}
+use Rattle.std.proofs.lemmas.Option.{same_Some}
 use Rattle.aprs_base.specs.Outside.{Told}
 use Rattle.aprs_base.specs.declared.events.Event.{Event}
 use Rattle.aprs_base.specs.declared.events.Event.TheVariants as event
-use Rattle.aprs_base.specs.declared.events.Happening.{Happening}
 use Rattle.aprs_base.specs.declared.events.Happening.TheVariants as did
 use Rattle.aprs_base.specs.declared.events.Sent.TheVariants as sent
 use Rattle.aprsc_daemon.specs.Phases.{Brings, events_in}
@@ -49,11 +49,6 @@ events_among_acts = refl
 -- a wire that tells no more than before brought no event
 unchanged_brings_nothing : (told : Told) (events : List Event) → Brings events (Some told) (Some told) → events ≡ []
 unchanged_brings_nothing told events brings =
-    let none : brings.0 ≡ [] = append_cancel_left told.done brings.0 [] (grown brings.0 brings.1 ∙ sym (append-nil told.done)) in sym brings.2 ∙ ap events_in none
-  where
-    grown : (more : List Happening) → Some told ≡ Some (record told { done = told.done ++ more }) → told.done ++ more ≡ told.done
-    grown more is = sym (ap done_of is)
-      where
-        done_of : Option Told → List Happening
-        done_of None = []
-        done_of (Some t) = t.done
+    let same : told ≡ brings.0 = same_Some told brings.0 brings.2 in
+    let none : brings.1 ≡ [] = append_cancel_left told.done brings.1 [] (sym brings.3 ∙ ap (λ t. t.done) (sym same) ∙ sym (append-nil told.done)) in
+    sym brings.4 ∙ ap events_in none

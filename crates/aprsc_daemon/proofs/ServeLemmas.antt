@@ -1,9 +1,10 @@
 -- From one round to the next.
-use Rattle.std.proofs.Common.{Some, None, length-append, drop, le_refl, arith, ⊎_elim, ◌≡◌, ℕ, ◌≤◌, true, false, List, [], ◌∷◌, ◌++◌, length, map, refl, sym, ap, ◌∙◌, subst, Option}
+use Rattle.std.proofs.Common.{Some, None, length-append, drop, le_refl, arith, ⊎_elim, ◌≡◌, ℕ, ◌≤◌, true, false, List, [], ◌∷◌, length, refl, sym, ap, ◌∙◌, subst, Option}
 use Rattle.std.proofs.lemmas.Bool.{cases_Bool}
 use Rattle.std.proofs.lemmas.List.{drop_all}
 use Rattle.aprs_conf.specs.declared.types.Listen.{Listen}
 use Rattle.aprs_conf.specs.Seen.{ConfSeen}
+use Rattle.aprs_conf.specs.Sound.{IsSound}
 use Rattle.aprs_base.specs.Outside.{Told}
 use Rattle.aprs_base.specs.declared.events.Event.{Event}
 use Rattle.aprs_base.specs.declared.texts.Addr.{Addr}
@@ -11,31 +12,35 @@ use Rattle.aprs_history.specs.Setting.{Setting}
 use Rattle.aprs_history.specs.History.{History, trace_of}
 use Rattle.aprs_history.specs.Texts.{untaken}
 use Rattle.aprs_history.specs.Rounds.{AreFresh, with_events, listens_after, only_listens}
-use Rattle.aprs_history.specs.Acts.{Closes, due, listens_from, offer_to}
+use Rattle.aprs_history.specs.Acts.{due, listens_from}
 use Rattle.aprs_history.specs.Runs.{AppendsRun}
 use Rattle.server_core.specs.ActsSeen.{ActsSeen}
 use Rattle.server_core.specs.Meaning.{AreActs, CoreMeaning, Stands, group_listens, listeners, numbered, setting_of}
-use Rattle.aprsc_daemon.specs.Phases.{Finished, Gathering, Listening, Offering, Resting}
+use Rattle.aprsc_daemon.specs.Phases.{Acting, Finished, Gathering, Listening, Offering, Resting}
 use Rattle.aprsc_daemon.proofs.EventLemmas.{gathered_fresh}
 use Rattle.aprsc_daemon.proofs.RunLemmas.{run_weaker}
 
-pub begins_offers : (s : Setting) (start now : Option Told) (core new : CoreMeaning) (events : List Event) (acts : ActsSeen) (offers closes : List ℕ) → offers ≡ acts.offers → closes ≡ acts.closes → new.conf ≡ core.conf
+pub begins_acts : (s : Setting) (start now : Option Told) (core new : CoreMeaning) (events : List Event) (acts : ActsSeen) → new.conf ≡ core.conf
     → AreFresh core.seen.greatest events → ((h : History) → Stands core h → Stands new (with_events events h)) → ((h : History) → Stands core h → AreActs (setting_of new.conf) (with_events events h) acts)
-    → AppendsRun s start now (Gathering core events) → AppendsRun s start now (Offering new offers closes)
-begins_offers s start now core new events acts offers closes offers_are closes_are conf fresh stands acts_are =
-    run_weaker s start now (Gathering core events) (Offering new offers closes) (λ more phase.
+    → AppendsRun s start now (Gathering core events) → AppendsRun s start now (Acting new acts.dial acts.casts acts.offers acts.closes)
+begins_acts s start now core new events acts conf fresh stands acts_are =
+    run_weaker s start now (Gathering core events) (Acting new acts.dial acts.casts acts.offers acts.closes) (λ more phase.
     record {
       stands = subst (Stands new) (sym phase.since) (stands phase.before phase.resting.stands);
       owing = record {
         round = trace_of (setting_of new.conf) (with_events events phase.before);
-        owed = ap (due (setting_of new.conf)) phase.since ∙ (acts_are phase.before phase.resting.stands).due
-            ∙ ap (λ links. map (offer_to (setting_of new.conf) (trace_of (setting_of new.conf) (with_events events phase.before))) links ++ map Closes acts.closes) (sym offers_are)
-            ∙ ap (λ links. map (offer_to (setting_of new.conf) (trace_of (setting_of new.conf) (with_events events phase.before))) offers ++ map Closes links) (sym closes_are);
+        owed = ap (due (setting_of new.conf)) phase.since ∙ (acts_are phase.before phase.resting.stands).due;
         same = λ link member. ap (λ h. untaken (setting_of new.conf) (trace_of (setting_of new.conf) h) link) phase.since;
         all = phase.all ∙ ap (λ c. length (setting_of c).listens) (sym conf);
         fresh = gathered_fresh core events more fresh phase;
       };
     })
+
+-- the same links, as a slice has them
+pub offers_listed : (s : Setting) (start now : Option Told) (core : CoreMeaning) (offers closes links closed : List ℕ) → links ≡ offers → closed ≡ closes
+    → AppendsRun s start now (Offering core offers closes) → AppendsRun s start now (Offering core links closed)
+offers_listed s start now core offers closes links closed offers_are closes_are run =
+    subst (λ ns. AppendsRun s start now (Offering core links ns)) (sym closes_are) (subst (λ ns. AppendsRun s start now (Offering core ns closes)) (sym offers_are) run)
 
 pub rests : (s : Setting) (start now : Option Told) (core : CoreMeaning) → AppendsRun s start now (Offering core [] []) → AppendsRun s start now (Resting core)
 rests s start now core = run_weaker s start now (Offering core [] []) (Resting core) (λ more phase. record { stands = phase.stands; none = phase.owing.owed; all = phase.owing.all; fresh = phase.owing.fresh })
@@ -74,8 +79,12 @@ numbered_short (listen ∷ listens) =
     (cases_Bool listen.idle)
 
 -- with the peer group's there is one more at most
-pub few_listeners : (conf : ConfSeen) → length (numbered conf.listens) ≤ 16 → length (listeners conf) ≤ 17
-few_listeners conf few = let last = group_short conf.group in omega (arith, length-append (numbered conf.listens) (group_listens conf.group))
+pub few_listeners : (conf : ConfSeen) → IsSound conf → length (listeners conf) ≤ 17
+few_listeners conf sound =
+    let few = sound.listens.1 in
+    let short = numbered_short conf.listens in
+    let last = group_short conf.group in
+    omega (arith, length-append (numbered conf.listens) (group_listens conf.group))
   where
     group_short : (group : Option Addr) → length (group_listens group) ≤ 1
     group_short None = omega arith

@@ -15,7 +15,7 @@ use Rattle.aprs_conf.specs.Grammar.{conf_of}
 use Rattle.server_core.specs.Meaning.{setting_of}
 use Rattle.aprsc_daemon.specs.Phases.{Finished, Idle}
 use Rattle.aprsc_daemon.specs.Saying.{Grew, listen_failed_text, trouble_text, too_large_text, unread_text, usage_text}
-use Rattle.aprsc_daemon.specs.Configuring.{IsTrouble, is_built}
+use Rattle.aprsc_daemon.specs.Configuring.{IsTrouble}
 use Rattle.aprsc_daemon.specs.declared.configuring.Trouble.{Trouble}
 use Rattle.aprsc_daemon.specs.Words.{file_word}
 use Rattle.aprsc_daemon.specs.declared.serving.End.{End}
@@ -37,7 +37,7 @@ pub record Outside : Type 0 where
 abbrev pub IsUnused : Outside → Type 0
 IsUnused o = o.wire_after.told ≡ o.wire.told
 
--- the words name a file that holds this configuration, as far as the files tell, and the server can run it
+-- the words name a file that holds this configuration, as far as the files tell
 pub record HasNamed (words : List (List ℕ)) (told : Option (List MemFile)) (conf : ConfSeen) : Type 0 where
   pub file : List ℕ
   pub bytes : List ℕ
@@ -45,7 +45,6 @@ pub record HasNamed (words : List (List ℕ)) (told : Option (List MemFile)) (co
   pub holds : Holds told file bytes
   pub short : length bytes ≤ 65536
   pub reads : conf_of bytes ≡ Ok conf
-  pub built : is_built conf ≡ true
 
 -- what happened on the wire is a run for the named configuration
 pub record IsServed (o : Outside) (P : Setting → History → Type 0) : Type 0 where
@@ -71,7 +70,7 @@ pub record HasBadWords (o : Outside) (text : List ℕ) : Type 0 where
   pub unused : IsUnused o
   pub line : text ≡ usage_text
 
--- these bytes of the file are too many, or no configuration that the server can run; and the text that says which
+-- these bytes of the file are too many, or no configuration; and the text that says which
 abbrev pub IsOff : List ℕ → List ℕ → List ℕ → Type 0
 IsOff file bytes text =
     ((65536 < length bytes) × (text ≡ too_large_text file))
@@ -85,7 +84,7 @@ pub record HasRefused (words : List (List ℕ)) (told : Option (List MemFile)) (
   pub holds : Holds told file bytes
   pub off : IsOff file bytes text
 
--- 2: the words are good, and the named file is too large, off its grammar, or asks for what isn't built
+-- 2: the words are good, and the named file is too large or off its grammar
 pub record HasBadFile (o : Outside) (text : List ℕ) : Type 0 where
   pub read : HasRefused o.words o.files.told text
   pub unused : IsUnused o

@@ -1,10 +1,6 @@
--- Configurations that this server can run, and what is wrong with others.
-use Rattle.std.specs.Prelude.{◌≡◌, ℕ, ◌==◌, ◌&&◌, ◌||◌, Bool, true, false, is_none, List, length, codes, Result, Ok, Err}
-use Rattle.std.specs.List.{list_all}
-use Rattle.aprs_base.specs.declared.packets.PortKind.{PortKind}
-use Rattle.aprs_base.specs.declared.packets.PortKind.TheVariants as kind
+-- What is wrong with a text that is no configuration.
+use Rattle.std.specs.Prelude.{◌≡◌, ℕ, List, codes, Result, Err}
 use Rattle.aprs_conf.specs.Seen.{ConfSeen}
-use Rattle.aprs_conf.specs.declared.types.Listen.{Listen}
 use Rattle.aprs_conf.specs.declared.errors.ConfError.{ConfError}
 use Rattle.aprs_conf.specs.declared.errors.ConfError.TheVariants as cause
 use Rattle.aprs_conf.specs.declared.errors.ConfFault.{ConfFault}
@@ -14,27 +10,10 @@ use Rattle.aprs_conf.specs.declared.errors.ConfWord.TheVariants as word
 use Rattle.aprsc_daemon.specs.declared.configuring.Trouble.{Trouble}
 use Rattle.aprsc_daemon.specs.declared.configuring.Trouble.TheVariants as trouble
 
--- the kinds of port that are built
-abbrev pub is_built_kind : PortKind → Bool
-is_built_kind kind.Full = true
-is_built_kind kind.Only = true
-is_built_kind kind.Igate = true
-is_built_kind kind.Dupe = false
-is_built_kind kind.Submit = false
-is_built_kind kind.Core = false
-
-abbrev pub is_built_listen : Listen → Bool
-is_built_listen listen = listen.idle || is_built_kind listen.spec.kind
-
--- listeners of those kinds, or idle ones; no uplinks, and no peers
-abbrev pub is_built : ConfSeen → Bool
-is_built conf = list_all is_built_listen conf.listens && (length conf.uplinks == 0 && is_none conf.group)
-
 -- what is wrong with a text that reads as this
 abbrev pub IsTrouble : Trouble → Result ConfSeen ConfError → Type 0
 IsTrouble (trouble.Line n f) said = said ≡ Err (cause.Line n f)
 IsTrouble (trouble.Missing w) said = said ≡ Err (cause.Missing w)
-IsTrouble trouble.NotBuilt said = (conf : ConfSeen) × (said ≡ Ok conf) × (is_built conf ≡ false)
 
 -- ---- names
 

@@ -9,7 +9,8 @@ use Rattle.aprs_history.specs.Trace.{Trace, is_member}
 use Rattle.aprs_history.specs.Texts.{untaken}
 use Rattle.aprs_history.specs.History.{History, ends_round, is_stopped, trace_of}
 use Rattle.aprs_history.specs.Rounds.{AreFresh, greatest_after, listens_after, only_listens, with_events}
-use Rattle.aprs_history.specs.Acts.{Closes, due, listens_from, offer_to}
+use Rattle.aprs_history.specs.Acts.{Closes, cast_act, dials, due, listens_from, offer_to}
+use Rattle.aprs_history.specs.Dials.{CastSeen}
 use Rattle.aprs_history.specs.Headline.{HasFreshLinks}
 use Rattle.aprs_history.specs.Runs.{are_listens, listens_in}
 use Rattle.aprsc_daemon.specs.declared.serving.End.{End}
@@ -51,19 +52,24 @@ pub record Gathering (core : CoreMeaning) (events : List Event) (more : History)
   pub going : is_stopped before ≡ false
   pub all : listens_in more ≡ length (setting_of core.conf).listens
 
--- offers to these links are due, and then closes of those
-pub record Owing (conf : ConfSeen) (offers closes : List ℕ) (more : History) : Type 0 where
+-- a dial, these casts, offers to these links, and then closes of those are due
+pub record Owing (conf : ConfSeen) (dial : Option ℕ) (casts : List CastSeen) (offers closes : List ℕ) (more : History) : Type 0 where
   -- the trace at the round's end, for which the offers are due
   pub round : Trace
-  pub owed : due (setting_of conf) more ≡ map (offer_to (setting_of conf) round) offers ++ map Closes closes
+  pub owed : due (setting_of conf) more ≡ dials dial ++ (map cast_act casts ++ (map (offer_to (setting_of conf) round) offers ++ map Closes closes))
   -- what is left to the links has not changed since
   pub same : (link : ℕ) → is_member link offers ≡ true → untaken (setting_of conf) (trace_of (setting_of conf) more) link ≡ untaken (setting_of conf) round link
   pub all : listens_in more ≡ length (setting_of conf).listens
   pub fresh : HasFreshLinks more
 
-pub record Offering (core : CoreMeaning) (offers closes : List ℕ) (more : History) : Type 0 where
+-- so much of a round's acts is still to be done
+pub record Acting (core : CoreMeaning) (dial : Option ℕ) (casts : List CastSeen) (offers closes : List ℕ) (more : History) : Type 0 where
   pub stands : Stands core more
-  pub owing : Owing core.conf offers closes more
+  pub owing : Owing core.conf dial casts offers closes more
+
+-- the dial and the casts are done
+abbrev pub Offering : CoreMeaning → (offers closes : List ℕ) → History → Type 0
+Offering core offers closes more = Acting core None [] offers closes more
 
 -- a part of a round: none of the events ends it
 abbrev pub is_partial : ℕ → List Event → Bool
@@ -84,7 +90,7 @@ events_in (x ∷ more) = events_in more
 -- what the wire tells grew by happenings, and their events are these
 abbrev pub Brings : List Event → Option Told → Option Told → Type 0
 Brings events None new = new ≡ None
-Brings events (Some old) new = (more : List Happening) × (new ≡ Some (record old { done = old.done ++ more })) × (events_in more ≡ events)
+Brings events (Some old) new = (told : Told) × (more : List Happening) × (new ≡ Some told) × (told.done ≡ old.done ++ more) × (events_in more ≡ events)
 
 -- what is so where the serving of a wire ended
 abbrev pub Ends : Setting → End → History → Type 0

@@ -29,7 +29,6 @@ usage_text = codes "usage: aprsc -c FILE [-w N] [-y] | aprsc drill SEED LINES LI
 abbrev pub trouble_text : List ℕ → Trouble → List ℕ
 trouble_text file (trouble.Line line fault) = file ++ (codes ": line " ++ (decimal line ++ (codes ": " ++ (fault_name fault ++ codes "\n"))))
 trouble_text file (trouble.Missing word) = file ++ (codes ": missing " ++ (word_name word ++ codes "\n"))
-trouble_text file trouble.NotBuilt = file ++ codes ": not-built\n"
 
 abbrev pub too_large_text : List ℕ → List ℕ
 too_large_text file = file ++ codes ": too large\n"

@@ -1,24 +1,21 @@
-//! The configuration that a text is, and whether this server can run it.
-ghost use Rattle.std.specs.Prelude.{◌≡◌, ◌&&◌, ◌||◌, Ok, IfOk, IsErrOf, true};
-ghost use Rattle.std.specs.List.{list_all};
+//! The configuration that a text is, and its listeners.
+ghost use Rattle.std.specs.Prelude.{◌≡◌, Ok, IfOk, IsErrOf};
 ghost use Rattle.aprs_conf.specs.Grammar.{conf_of};
 ghost use Rattle.aprs_conf.specs.Sound.{IsSound};
 ghost use Rattle.server_core.specs.Meaning.{listeners, numbered};
-ghost use Rattle.aprsc_daemon.specs.Configuring.{IsTrouble, is_built, is_built_kind, is_built_listen};
+ghost use Rattle.aprsc_daemon.specs.Configuring.{IsTrouble};
 
 use aprs_base::{ListenSpec, Memory, PortKind};
 use aprs_conf::{Conf, ConfError, ConfFault, ConfWord, Listen, read};
 use std::alloc::Global;
 
-/// Why a text is no configuration that this server can run.
+/// Why a text is no configuration.
 #[derive(Clone, Copy, PartialEq, Eq, Debug)]
 pub(crate) enum Trouble {
     /// The first bad line, and its first fault.
     Line(u32, ConfFault),
     /// No line has this word.
     Missing(ConfWord),
-    /// It asks for what isn't built.
-    NotBuilt,
 }
 
 /// Why a text gives no configuration.
@@ -28,42 +25,14 @@ pub(crate) enum Unfit {
     Memory,
 }
 
-/// Whether ports of this kind are built.
-fn is_built_kind(kind: PortKind) -> bool
-    ensures { result ≡ is_built_kind kind }
-{
-    matches!(kind, PortKind::Full | PortKind::Only | PortKind::Igate)
-}
-
-/// Whether a listener is of a kind that is built, or idle.
-fn is_built_listen(listen: &Listen) -> bool
-    ensures { result ≡ is_built_listen listen.now }
-{
-    listen.idle || is_built_kind(listen.spec.kind)
-}
-
-fn are_built(listens: &[Listen]) -> bool
-    ensures { result ≡ list_all is_built_listen listens.now }
-{
-    listens.iter().all(|listen| is_built_listen(listen))
-}
-
-/// Whether all that a configuration asks for is built.
-fn is_built(conf: &Conf) -> bool
-    ensures { result ≡ is_built conf.now }
-{
-    are_built(conf.listens.as_slice()) && conf.uplinks.is_empty() && conf.group.is_none()
-}
-
-/// The configuration that a text is, where this server can run it.
+/// The configuration that a text is.
 pub(crate) fn read_conf(alloc: Global, text: &[u8]) -> Result<Conf, Unfit>
-    ensures value { IfOk result (λ conf. (conf_of text.now ≡ Ok conf) × (is_built conf ≡ true)) }
+    ensures value { IfOk result (λ conf. conf_of text.now ≡ Ok conf) }
     ensures sound { IfOk result IsSound }
     ensures trouble { (t : Trouble) → IsErrOf result (Unfit.Trouble t) → IsTrouble t (conf_of text.now) }
 {
     match read(alloc, text) {
-        Ok(conf) if is_built(&conf) => Ok(conf),
-        Ok(_) => Err(Unfit::Trouble(Trouble::NotBuilt)),
+        Ok(conf) => Ok(conf),
         Err(ConfError::Line(line, fault)) => Err(Unfit::Trouble(Trouble::Line(line, fault))),
         Err(ConfError::Missing(word)) => Err(Unfit::Trouble(Trouble::Missing(word))),
         Err(ConfError::Memory) => Err(Unfit::Memory),

@@ -2,6 +2,10 @@
 #![tactic(auto)]
 
 mod configuring;
+#[cfg(test)]
+mod memory_run;
+#[cfg(test)]
+mod network_tests;
 mod program;
 #[cfg(test)]
 mod program_tests;

@@ -1,17 +1,16 @@
 //! The program: what its words name is read and served.
-ghost use Rattle.std.specs.Prelude.{◌≡◌, ◌⊎◌, ◌≤◌, ◌<◌, ℕ, List, Option, Ok, Some, IfOk, IfErr, IsTrue, OnErr, length, map, string_bytes};
-ghost use Rattle.aprs_base.specs.Bytes.{is_station};
+ghost use Rattle.std.specs.Prelude.{◌≡◌, ◌⊎◌, ◌≤◌, ◌<◌, ℕ, List, Option, Ok, Some, IfOk, IfErr, OnErr, length, map, string_bytes};
 ghost use Rattle.aprs_base.specs.Outside.{Rose, Told, WireShown};
 ghost use Rattle.aprs_base.specs.Stores.{FilesShown, Holds, SinkShown};
 ghost use Rattle.aprs_base.specs.declared.files.MemFile.{MemFile};
 ghost use Rattle.aprs_history.specs.Headline.{HasFreshLinks};
 ghost use Rattle.aprs_history.specs.Runs.{AppendsRun};
 ghost use Rattle.aprs_conf.specs.Seen.{ConfSeen};
+ghost use Rattle.aprs_conf.specs.Sound.{IsSound};
 ghost use Rattle.aprs_conf.specs.Grammar.{conf_of};
-ghost use Rattle.server_core.specs.Meaning.{listeners, numbered, setting_of};
+ghost use Rattle.server_core.specs.Meaning.{listeners, setting_of};
 ghost use Rattle.aprsc_daemon.specs.Causes.{Asks, Cause, Ended, HasCause, HasNamed, KeepsPromise, Opening, OpensOnly, Said, code_of_status, status_of};
 ghost use Rattle.aprsc_daemon.specs.Phases.{Ends, Listening};
-ghost use Rattle.aprsc_daemon.specs.Configuring.{is_built};
 ghost use Rattle.aprsc_daemon.specs.Words.{file_word};
 
 use crate::configuring::{Unfit, listeners, read_conf};
@@ -68,8 +67,7 @@ fn serve_conf<R: Threads + Sync + Wait, W: Wire>(
     wire: &mut W,
     hasher: &RandomState,
 ) -> End
-    requires listens { length (numbered conf.listens) ≤ 16 }
-    requires station { IsTrue (is_station conf.server) }
+    requires { IsSound conf }
     ensures run { (start : Option Told) → AppendsRun (setting_of conf) start (W.shown wire.old).told (Listening (setting_of conf) (length (listeners conf)))
         → AppendsRun (setting_of conf) start (W.shown wire.new).told (Ends (setting_of conf) result) }
     ensures failed { result ≡ End.Failed → Rose (W.shown wire.old).stops (W.shown wire.new).stops }
@@ -89,8 +87,7 @@ fn open_and_serve<R: Threads + Sync + Wait, W: Wire>(
     wire: &mut W,
     hasher: &RandomState,
 ) -> Result<End, ListenError>
-    requires listens { length (numbered conf.listens) ≤ 16 }
-    requires station { IsTrue (is_station conf.server) }
+    requires { IsSound conf }
     ensures run { IfOk result (λ end. AppendsRun (setting_of conf) (W.shown wire.old).told (W.shown wire.new).told (Ends (setting_of conf) end)) }
     ensures failed { IfOk result (λ end. end ≡ End.Failed → Rose (W.shown wire.old).stops (W.shown wire.new).stops) }
     ensures listen { IfErr result (λ e. (n : ℕ) → e ≡ ListenError.Failed n → Rose (W.shown wire.old).stops (W.shown wire.new).stops
@@ -145,8 +142,7 @@ fn run_conf<R: Threads + Sync + Wait, W: Wire, S: Sink>(
     out: &mut S,
     hasher: &RandomState,
 ) -> Status
-    requires listens { length (numbered conf.listens) ≤ 16 }
-    requires station { IsTrue (is_station conf.server) }
+    requires { IsSound conf }
     ensures { (words : List (List ℕ)) (files files_after : FilesShown) → HasNamed words files.told conf
         → Cause result (record {
           words = words;

@@ -1,11 +1,10 @@
 //! Runs of the program over files, a wire and a sink in memory.
-use crate::aprsc;
-use aprs_base::{
-    Addr, Chunk, Event, Happening, MemFile, MemFiles, MemSink, MemWire, Sent, Take, Text,
-    copy_event,
+use crate::memory_run::{
+    BANNER, CONF, FIRST_LOGIN, FIRST_REPLY, Outside, PACKET, SECOND_LOGIN, SECOND_REPLY, SENT_ON,
+    joined, opened, opened_on, run_over, said,
 };
+use aprs_base::{Event, Happening, Sent, Take, Text, copy_event};
 use std::alloc::Global;
-use std::hash::RandomState;
 use std::marker::Sync;
 use std::process::Abort;
 use std::random::RandomSource;
@@ -13,131 +12,9 @@ use std::sync::Wait;
 use std::test::Fail;
 use std::thread::Threads;
 
-const CONF: &[u8] = b"ServerId T2TEST\nPassCode 8385\nListen \"full\" fullfeed tcp 0.0.0.0 10152\n";
-
 const GATEWAY_PORT: &[u8] = b"Listen \"filt\" igate tcp 0.0.0.0 14580\n";
 
 const GATEWAY_REPLY: &[u8] = b"# logresp K1XYZ verified, server T2TEST\r\n";
-
-const FIRST_LOGIN: &[u8] = b"user N0CALL pass 13023 vers t 1\r\n";
-
-const SECOND_LOGIN: &[u8] = b"user K1ABC pass 14993 vers t 1\r\n";
-
-const FIRST_REPLY: &[u8] = b"# logresp N0CALL verified, server T2TEST\r\n";
-
-const SECOND_REPLY: &[u8] = b"# logresp K1ABC verified, server T2TEST\r\n";
-
-const BANNER: &[u8] = b"# aprsc 1.0\r\n";
-
-const PACKET: &[u8] = b"N0CALL>APRS,WIDE1-1:>hi\r\n";
-
-const SENT_ON: &[u8] = b"N0CALL>APRS,TCPIP*,qAC,T2TEST:>hi\r\n";
-
-/// What goes wrong outside, and what sends take.
-#[derive(Drop)]
-struct Outside {
-    takes: Vec<Take>,
-    fail_listen: Option<u64>,
-    fail_next: Option<u64>,
-    fail_sink: Vec<u64>,
-    file: &'static str,
-}
-
-impl Outside {
-    fn well(alloc: Global) -> Outside {
-        Outside {
-            takes: Vec::new(alloc),
-            fail_listen: None,
-            fail_next: None,
-            fail_sink: Vec::new(alloc),
-            file: "c",
-        }
-    }
-}
-
-/// What a run left.
-#[derive(Drop)]
-struct Left {
-    status: u8,
-    text: Vec<u8>,
-    done: Vec<Happening>,
-}
-
-impl Left {
-    /// All that a link took.
-    fn taken(&self, alloc: Global, number: u32) -> Result<Vec<u8>, Fail> {
-        let mut all = Vec::new(alloc);
-        for happening in &self.done {
-            if let Happening::Sent(link, bytes, Sent::Took(count)) = happening {
-                if *link == number {
-                    all.extend_from_slice(bytes.as_bytes().get(..*count).ok_or("a part")?)?;
-                }
-            }
-        }
-        Ok(all)
-    }
-}
-
-fn opened(link: u32) -> Event {
-    opened_on(0, link)
-}
-
-fn opened_on(listener: u16, link: u32) -> Event {
-    Event::Opened {
-        listener,
-        link,
-        from: Addr {
-            ip: [127, 0, 0, 1],
-            port: 4000,
-        },
-    }
-}
-
-fn said(link: u32, bytes: &[u8]) -> Result<Event, Fail> {
-    Ok(Event::Bytes(link, Chunk::new(bytes).ok_or("a chunk")?))
-}
-
-/// Runs `-c c` over a file `c` with these bytes, and these events.
-fn run_over<R: Threads + Sync + Wait + RandomSource>(
-    rt: &R,
-    alloc: Global,
-    conf: &[u8],
-    events: Vec<Event>,
-    outside: Outside,
-) -> Result<Left, Fail> {
-    let mut words = Vec::new(alloc);
-    words.push(String::from_str(alloc, "-c")?)?;
-    words.push(String::from_str(alloc, outside.file)?)?;
-    let file = MemFile {
-        name: Text::copied(alloc, b"c")?,
-        bytes: Text::copied(alloc, conf)?,
-    };
-    let mut listed = Vec::new(alloc);
-    listed.push(file)?;
-    let mut files = MemFiles::new(listed, Vec::new(alloc));
-    let mut wire = MemWire::new(
-        alloc,
-        events,
-        outside.takes,
-        outside.fail_listen,
-        outside.fail_next,
-    )?;
-    let mut sink = MemSink::new(alloc, outside.fail_sink, 1000);
-    let status = aprsc(
-        rt,
-        alloc,
-        words.as_slice(),
-        &mut files,
-        &mut wire,
-        &mut sink,
-        &RandomState::new(rt)?,
-    );
-    Ok(Left {
-        status,
-        text: sink.text,
-        done: wire.done,
-    })
-}
 
 /// Two links, the first on this listener and the second on the full one, say these lines.
 fn session(alloc: Global, listener: u16, lines: &[(u32, &[u8])]) -> Result<Vec<Event>, Fail> {
@@ -172,15 +49,6 @@ fn byte_by_byte(alloc: Global) -> Result<Vec<Event>, Fail> {
         }
     }
     Ok(events)
-}
-
-/// The parts one after another.
-fn joined(alloc: Global, parts: &[&[u8]]) -> Result<Vec<u8>, Fail> {
-    let mut all = Vec::new(alloc);
-    for part in parts {
-        all.extend_from_slice(part)?;
-    }
-    Ok(all)
 }
 
 #[test]
@@ -425,7 +293,7 @@ fn check_conf<R: Threads + Sync + Wait + RandomSource + Abort>(
 
 #[test]
 fn names_what_is_wrong_with_a_configuration(rt: HostRuntime) -> Result<(), Fail> {
-    let cases: [(&[u8], &[u8]); 11] = [
+    let cases: [(&[u8], &[u8]); 8] = [
         (b"", b"c: missing ServerId\n"),
         (
             b"ServerId T2TEST\nServerId T2TEST\n",
@@ -437,18 +305,6 @@ fn names_what_is_wrong_with_a_configuration(rt: HostRuntime) -> Result<(), Fail>
         (b"PassCode x\n", b"c: line 1: bad-number\n"),
         (b"ClientTimeout 0s\n", b"c: line 1: bad-time\n"),
         (b"Uplink u full tcp \"\" 1\n", b"c: line 1: bad-host\n"),
-        (
-            b"ServerId T2TEST\nPassCode 8385\nListen a dupefeed tcp :: 1\n",
-            b"c: not-built\n",
-        ),
-        (
-            b"ServerId T2TEST\nPassCode 8385\nListen a udpsubmit udp :: 1\n",
-            b"c: not-built\n",
-        ),
-        (
-            b"ServerId T2TEST\nPassCode 1\nListen a fullfeed tcp :: 1\nUplink u full tcp h 1\n",
-            b"c: not-built\n",
-        ),
     ];
     for (conf, text) in cases {
         check_conf(&rt, rt.alloc(), conf, 2, text)?;

@@ -73,12 +73,6 @@ fn missing_word(alloc: Global, file: &str, word: ConfWord) -> Result<Vec<u8>, Me
     Ok(format!(in alloc; "{file}: missing {name}\n")?.into_bytes())
 }
 
-fn not_built(alloc: Global, file: &str) -> Result<Vec<u8>, Memory>
-    ensures { IfOk result (λ t. t.items ≡ trouble_text file.now Trouble.NotBuilt) }
-{
-    Ok(format!(in alloc; "{file}: not-built\n")?.into_bytes())
-}
-
 /// The line that says what is wrong with the configuration.
 pub(crate) fn trouble(alloc: Global, file: &str, trouble: Trouble) -> Result<Vec<u8>, Memory>
     ensures { IfOk result (λ t. t.items ≡ trouble_text file.now trouble) }
@@ -86,7 +80,6 @@ pub(crate) fn trouble(alloc: Global, file: &str, trouble: Trouble) -> Result<Vec
     match trouble {
         Trouble::Line(line, fault) => bad_line(alloc, file, line, fault),
         Trouble::Missing(word) => missing_word(alloc, file, word),
-        Trouble::NotBuilt => not_built(alloc, file),
     }
 }
 

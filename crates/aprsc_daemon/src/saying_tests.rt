@@ -36,7 +36,7 @@ fn makes_the_texts(rt: HostRuntime) {
         usage()
             == b"usage: aprsc -c FILE [-w N] [-y] | aprsc drill SEED LINES LINKS [-w N] | aprsc net FILE\n".as_slice()
     );
-    let cases: [(Trouble, &[u8]); 3] = [
+    let cases: [(Trouble, &[u8]); 2] = [
         (
             Trouble::Line(17, ConfFault::TooMany),
             b"c: line 17: too-many\n",
@@ -45,7 +45,6 @@ fn makes_the_texts(rt: HostRuntime) {
             Trouble::Missing(ConfWord::PassCode),
             b"c: missing PassCode\n",
         ),
-        (Trouble::NotBuilt, b"c: not-built\n"),
     ];
     for (why, text) in cases {
         let line = trouble(rt.alloc(), "c", why).expect(&rt, "memory");

@@ -1,7 +1,9 @@
 //! The serving of a wire: listeners first, then round after round.
-ghost use Rattle.std.specs.Prelude.{◌≡◌, ◌≤◌, ◌<◌, ◌+◌, ℕ, List, [], ◌∷◌, ◌++◌, IfOk, OnOk, OnErr, IfErr, IsErrOf, MatchBool, Option, length, true, false, take};
+ghost use Rattle.std.specs.Prelude.{◌≡◌, ◌≤◌, ◌<◌, ◌+◌, ℕ, List, [], ◌∷◌, ◌++◌, IfOk, OnOk, OnErr, IfErr, IsErrOf, MatchBool, Option, None, length, true, false, take};
 ghost use Rattle.aprs_base.specs.Outside.{Told, WireShown, Rose, CountsLink, new_link};
 ghost use Rattle.aprs_history.specs.Setting.{Setting};
+ghost use Rattle.aprs_history.specs.Dials.{CastSeen};
+ghost use Rattle.link_queue.specs.Lines.{ended_line};
 ghost use Rattle.aprs_history.specs.History.{History, ends_round, is_stopped};
 ghost use Rattle.aprs_history.specs.Headline.{HasFreshLinks};
 ghost use Rattle.aprs_history.specs.Rounds.{AreFresh, greatest_after, is_whole};
@@ -9,11 +11,13 @@ ghost use Rattle.aprs_history.specs.Runs.{AppendsRun};
 ghost use Rattle.aprs_history.specs.Trace.{is_member};
 ghost use Rattle.server_core.specs.LinkSteps.{AreServed, Rises, has_number, numbers};
 ghost use Rattle.server_core.specs.Meaning.{CoreMeaning, setting_of};
-ghost use Rattle.aprsc_daemon.specs.Phases.{Brings, Counted, Ends, Gathering, Idle, Listening, Offering, Resting, is_partial};
+ghost use Rattle.aprsc_daemon.specs.Phases.{Acting, Brings, Counted, Ends, Gathering, Idle, Listening, Offering, Resting, is_partial};
 ghost use Rattle.server_core.specs.Steps.{SameRest};
 
-use aprs_base::{Event, ListenSpec, Memory, Sent, Wire, WireError};
-use server_core::{Acts, Core};
+use aprs_base::{Event, Line, ListenSpec, Memory, Sent, UplinkSpec, Wire, WireError};
+use aprs_conf::{Conf, PeerSpec};
+use arrayvec::ArrayVec;
+use server_core::{Acts, CastOut, Core};
 use std::alloc::Global;
 use std::marker::Sync;
 use std::sync::{Wait, WaitMethods};
@@ -185,6 +189,90 @@ fn close_all<W: Wire>(wire: &mut W, closes: &[u32]) -> Result<(), Memory>
     Ok(())
 }
 
+/// Begins the dial that is due.
+fn dial_due<W: Wire>(wire: &mut W, uplinks: &[UplinkSpec], dial: Option<u16>) -> Result<(), Memory>
+    ensures run { (s : Setting) (start : Option Told) (core : CoreMeaning) (casts : List CastSeen) (offers closes : List ℕ)
+        → setting_of core.conf ≡ s → core.conf.uplinks ≡ uplinks.now
+        → AppendsRun s start (W.shown wire.old).told (Acting core dial casts offers closes)
+        → OnOk result (AppendsRun s start (W.shown wire.new).told (Acting core None casts offers closes)) }
+    ensures err { OnErr result ((W.shown wire.new).told ≡ (W.shown wire.old).told) }
+    ensures brings { OnOk result (Brings [] (W.shown wire.old).told (W.shown wire.new).told) }
+    ensures stops { (W.shown wire.new).stops ≡ (W.shown wire.old).stops }
+    ensures links { (W.shown wire.new).links ≡ (W.shown wire.old).links }
+{
+    let Some(uplink) = dial else {
+        return Ok(());
+    };
+    match uplinks.get(usize::from(uplink)) {
+        Some(spec) => wire.dial(uplink, spec),
+        None => Ok(()),
+    }
+}
+
+/// A line with its end, in one datagram.
+fn datagram_of(line: &Line) -> ArrayVec<u8, 512>
+    ensures { result.items ≡ ended_line line.now }
+{
+    let mut bytes = ArrayVec::new();
+    bytes.try_extend_from_slice(line.bytes()).unwrap();
+    bytes.push(b'\r');
+    bytes.push(b'\n');
+    bytes
+}
+
+/// Casts a line to its peer.
+fn cast_one<W: Wire>(wire: &mut W, peers: &[PeerSpec], cast: &CastOut) -> Result<(), Memory>
+    ensures run { (s : Setting) (start : Option Told) (core : CoreMeaning) (casts : List CastSeen) (offers closes : List ℕ)
+        → setting_of core.conf ≡ s → core.conf.peers ≡ peers.now
+        → AppendsRun s start (W.shown wire.old).told (Acting core None (cast.now ∷ casts) offers closes)
+        → OnOk result (AppendsRun s start (W.shown wire.new).told (Acting core None casts offers closes)) }
+    ensures err { OnErr result ((W.shown wire.new).told ≡ (W.shown wire.old).told) }
+    ensures brings { OnOk result (Brings [] (W.shown wire.old).told (W.shown wire.new).told) }
+    ensures stops { (W.shown wire.new).stops ≡ (W.shown wire.old).stops }
+    ensures links { (W.shown wire.new).links ≡ (W.shown wire.old).links }
+{
+    match peers.get(usize::from(cast.peer)) {
+        Some(peer) => wire.cast(cast.peer, peer.at, datagram_of(&cast.line).as_slice()),
+        None => Ok(()),
+    }
+}
+
+/// Makes each cast, in order.
+fn cast_all<W: Wire>(wire: &mut W, peers: &[PeerSpec], casts: &[CastOut]) -> Result<(), Memory>
+    ensures run { (s : Setting) (start : Option Told) (core : CoreMeaning) (offers closes : List ℕ)
+        → setting_of core.conf ≡ s → core.conf.peers ≡ peers.now
+        → AppendsRun s start (W.shown wire.old).told (Acting core None casts.now offers closes)
+        → OnOk result (AppendsRun s start (W.shown wire.new).told (Offering core offers closes)) }
+    ensures err { (s : Setting) (start : Option Told) (core : CoreMeaning) (offers closes : List ℕ)
+        → setting_of core.conf ≡ s → core.conf.peers ≡ peers.now
+        → AppendsRun s start (W.shown wire.old).told (Acting core None casts.now offers closes)
+        → OnErr result (AppendsRun s start (W.shown wire.new).told HasFreshLinks) }
+    ensures brings { OnOk result (Brings [] (W.shown wire.old).told (W.shown wire.new).told) }
+    ensures stops { (W.shown wire.new).stops ≡ (W.shown wire.old).stops }
+    ensures links { (W.shown wire.new).links ≡ (W.shown wire.old).links }
+{
+    for cast in casts {
+        cast_one(wire, peers, cast)?;
+    }
+    Ok(())
+}
+
+/// Does what is due for other servers: the dial, and then the casts.
+fn reach_out<W: Wire>(wire: &mut W, conf: &Conf, acts: &Acts) -> Result<(), Memory>
+    ensures run { (s : Setting) (start : Option Told) (core : CoreMeaning) → setting_of core.conf ≡ s → core.conf ≡ conf.now
+        → AppendsRun s start (W.shown wire.old).told (Acting core acts.now.dial acts.now.casts acts.now.offers acts.now.closes)
+        → OnOk result (AppendsRun s start (W.shown wire.new).told (Offering core acts.now.offers acts.now.closes)) }
+    ensures err { (s : Setting) (start : Option Told) (core : CoreMeaning) → setting_of core.conf ≡ s → core.conf ≡ conf.now
+        → AppendsRun s start (W.shown wire.old).told (Acting core acts.now.dial acts.now.casts acts.now.offers acts.now.closes)
+        → OnErr result (AppendsRun s start (W.shown wire.new).told HasFreshLinks) }
+    ensures brings { OnOk result (Brings [] (W.shown wire.old).told (W.shown wire.new).told) }
+    ensures stops { (W.shown wire.new).stops ≡ (W.shown wire.old).stops }
+    ensures links { (W.shown wire.new).links ≡ (W.shown wire.old).links }
+{
+    dial_due(wire, conf.uplinks.as_slice(), acts.dial)?;
+    cast_all(wire, conf.peers.as_slice(), acts.casts.as_slice())
+}
+
 /// Does what is due after a round, and says whether the server stopped with it.
 fn act<R: Threads + Sync, W: Wire>(
     rt: &R,
@@ -212,6 +300,7 @@ fn act<R: Threads + Sync, W: Wire>(
     ensures links { (W.shown wire.new).links ≡ (W.shown wire.old).links }
 {
     let acts = core.round(rt, alloc, events)?;
+    reach_out(wire, core.conf(), &acts)?;
     send_all(core, wire, acts.offers.as_slice(), buffer)?;
     close_all(wire, acts.closes.as_slice())?;
     Ok(acts.done)

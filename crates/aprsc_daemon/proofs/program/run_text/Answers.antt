@@ -1,11 +1,7 @@
-use Rattle.std.proofs.Common.{refl, ap, inl, inr, Err, arith}
+use Rattle.std.proofs.Common.{refl, ap, inl, inr, Err}
 use Rattle.aprsc_daemon.specs.Saying.{trouble_text}
 use Rattle.aprsc_daemon.proofs.CauseLemmas.{off_cause, memory_cause}
-use Rattle.aprsc_daemon.proofs.ServeLemmas.{numbered_short}
 use Rattle.aprsc_daemon.proofs.program.run_text.Goals as goal
-
-pub run_conf-requires-clause-listens : goal.run_conf-requires-clause-listens
-run_conf-requires-clause-listens g c = let few = c.in-Ok.ensures.sound.listens.1 in let short = numbered_short c.in-Ok.conf.listens in omega arith
 
 pub returns-in-Err-Trouble : goal.returns-in-Err-Trouble
 returns-in-Err-Trouble g c = λ words files files_after named holds.

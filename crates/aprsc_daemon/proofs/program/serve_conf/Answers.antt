@@ -1,9 +1,12 @@
-use Rattle.std.proofs.Common.{length, ap}
+use Rattle.std.proofs.Common.{length, ap, arith}
 use Rattle.server_core.specs.Meaning.{listeners, setting_of}
 use Rattle.aprsc_daemon.specs.Phases.{Listening, Resting}
 use Rattle.aprsc_daemon.proofs.RunLemmas.{run_weaker}
-use Rattle.aprsc_daemon.proofs.ServeLemmas.{listening_rests}
+use Rattle.aprsc_daemon.proofs.ServeLemmas.{listening_rests, numbered_short}
 use Rattle.aprsc_daemon.proofs.program.serve_conf.Goals as goal
+
+pub new-requires-clause-listens : goal.new-requires-clause-listens
+new-requires-clause-listens g c = let few = c.requires.listens.1 in let short = numbered_short c.args.conf.listens in omega arith
 
 pub returns-in-Ok-clause-run : goal.returns-in-Ok-clause-run
 returns-in-Ok-clause-run g c = λ start run.

@@ -1,0 +1,130 @@
+-- A run goes on by a dial or a cast.
+use Rattle.std.proofs.Common.{◌≡◌, ℕ, zero, suc, ◌<◌, ◌≤◌, get_or, Bool, List, [], ◌∷◌, ◌++◌, length, map, refl, sym, ap, ◌∙◌, subst, arith, Option, Some, None, append-nil, Result, Ok, Err, OnOk}
+use Rattle.std.specs.Option.{option_map}
+use Rattle.std.specs.Prelude.{slice_get}
+use Rattle.std.proofs.lemmas.List.{length-map}
+use Rattle.std.proofs.lemmas.Option.{none-some, slice_get-map, slice_get_past, slice_get_read}
+use Rattle.aprs_base.specs.Outside.{Told, with_cast, with_dial}
+use Rattle.aprs_base.specs.UplinkSeen.{UplinkSeen}
+use Rattle.aprs_base.specs.declared.texts.Addr.{Addr}
+use Rattle.aprs_base.specs.declared.events.Happening.TheVariants as did
+use Rattle.aprs_conf.specs.Seen.{ConfSeen}
+use Rattle.aprs_conf.specs.declared.types.PeerSpec.{PeerSpec}
+use Rattle.link_queue.specs.Lines.{ended_line}
+use Rattle.aprs_history.specs.Setting.{Setting}
+use Rattle.aprs_history.specs.History.{History, is_stopped, trace_of}
+use Rattle.aprs_history.specs.Acts.{Act, Casts, Closes, Dials, MayCome, but_first, cast_act, due, offer_to}
+use Rattle.aprs_history.specs.Dials.{CastSeen}
+use Rattle.aprs_history.specs.Runs.{AppendsRun, address_of, dialled_by, list_of}
+use Rattle.aprs_history.proofs.ReachLemmas.{dials_are_of_uplinks, peers_get_submissions}
+use Rattle.server_core.specs.Meaning.{CoreMeaning, Stands, peer_of, setting_of}
+use Rattle.aprsc_daemon.specs.Phases.{Acting, Owing}
+use Rattle.aprsc_daemon.proofs.RunLemmas.{Tells, run_goes_on}
+
+-- what follows in each good answer
+pub ok_then : {T E P Q : Type 0} (result : Result T E) → OnOk result P → (P → Q) → OnOk result Q
+ok_then (Ok x) p then = then p
+ok_then (Err e) p then = tt
+
+-- what a search by number gave
+pub found_at : {X : Type 0} (xs : List X) (i n : ℕ) (x : X) → i ≡ n → i < length xs → x ≡ get_or xs i x → slice_get xs n ≡ Some x
+found_at xs i n x is lt at = subst (λ m. slice_get xs m ≡ Some x) is (slice_get_read xs (length xs) i x refl lt at)
+
+pub missed_at : {X : Type 0} (xs : List X) (i n : ℕ) → i ≡ n → length xs ≤ i → slice_get xs n ≡ None
+missed_at xs i n is le = subst (λ m. slice_get xs m ≡ None) is (slice_get_past xs i le)
+
+none_within : {X : Type 0} (xs : List X) (n : ℕ) → slice_get xs n ≡ None → n < length xs → ⊥
+none_within [] n none lt = omega arith
+none_within (x ∷ xs) zero none lt = none-some x (sym none)
+none_within (x ∷ xs) (suc n) none lt = none_within xs n none (omega arith)
+
+-- ---- the dial
+
+tells_dial : (s : Setting) (n : ℕ) (spec : UplinkSeen) → slice_get s.uplinks n ≡ Some spec → Tells s (did.Dialled n) (with_dial n spec)
+tells_dial s n spec at told =
+    ap (λ listens. record told { done = told.done ++ did.Dialled n ∷ []; listened = listens; dialled = told.dialled ++ spec ∷ [] }) (sym (append-nil told.listened))
+    ∙ ap (λ found. record told { done = told.done ++ did.Dialled n ∷ []; listened = told.listened ++ []; dialled = told.dialled ++ list_of found }) (sym at)
+    ∙ ap (λ casts. record told { done = told.done ++ did.Dialled n ∷ []; listened = told.listened ++ []; dialled = told.dialled ++ dialled_by s (did.Dialled n); cast_to = casts }) (sym (append-nil told.cast_to))
+
+dial_comes : (acts : List Act) (stopped : Bool) (uplink : ℕ) (rest : List Act) → acts ≡ Dials uplink ∷ rest → MayCome acts stopped (did.Dialled uplink)
+dial_comes acts stopped uplink rest is = subst (λ xs. MayCome xs stopped (did.Dialled uplink)) (sym is) refl
+
+stands_dialled : (core : CoreMeaning) (uplink : ℕ) (h : History) → Stands core h → Stands core (did.Dialled uplink ∷ h)
+unfolding trace_of
+stands_dialled core uplink h stands = record { finished = stands.finished; follows = stands.follows; greatest = stands.greatest; stopped = stands.stopped }
+
+owing_dialled : (conf : ConfSeen) (uplink : ℕ) (casts : List CastSeen) (offers closes : List ℕ) (more : History) → Owing conf (Some uplink) casts offers closes more → Owing conf None casts offers closes (did.Dialled uplink ∷ more)
+unfolding due trace_of
+owing_dialled conf uplink casts offers closes more owing = record { round = owing.round; owed = ap but_first owing.owed; same = owing.same; all = owing.all; fresh = owing.fresh }
+
+due_dial : (s : Setting) (core : CoreMeaning) (uplink : ℕ) (casts : List CastSeen) (offers closes : List ℕ) (more : History) → setting_of core.conf ≡ s → Acting core (Some uplink) casts offers closes more
+    → MayCome (due s more) (is_stopped more) (did.Dialled uplink)
+due_dial s core uplink casts offers closes more same phase =
+    subst (λ t. MayCome (due t more) (is_stopped more) (did.Dialled uplink)) same
+    (dial_comes (due (setting_of core.conf) more) (is_stopped more) uplink (map cast_act casts ++ (map (offer_to (setting_of core.conf) phase.owing.round) offers ++ map Closes closes)) phase.owing.owed)
+
+pub run_dials : (s : Setting) (start now next : Option Told) (core : CoreMeaning) (uplink : ℕ) (spec : UplinkSeen) (casts : List CastSeen) (offers closes : List ℕ) → setting_of core.conf ≡ s
+    → slice_get core.conf.uplinks uplink ≡ Some spec → next ≡ option_map (with_dial uplink spec) now
+    → AppendsRun s start now (Acting core (Some uplink) casts offers closes) → AppendsRun s start next (Acting core None casts offers closes)
+run_dials s start now next core uplink spec casts offers closes same at is run =
+    run_goes_on s start now next (did.Dialled uplink) (with_dial uplink spec) (Acting core (Some uplink) casts offers closes) (Acting core None casts offers closes)
+    (tells_dial s uplink spec (ap (λ t. slice_get t.uplinks uplink) (sym same) ∙ at)) is (λ more phase. (
+      due_dial s core uplink casts offers closes more same phase,
+      record { stands = stands_dialled core uplink more phase.stands; owing = owing_dialled core.conf uplink casts offers closes more phase.owing },
+    )) run
+
+-- a dial that is due is of an uplink that is there
+pub dial_there : (s : Setting) (start now : Option Told) (core : CoreMeaning) (uplink : ℕ) (casts : List CastSeen) (offers closes : List ℕ) → setting_of core.conf ≡ s → slice_get core.conf.uplinks uplink ≡ None
+    → AppendsRun s start now (Acting core (Some uplink) casts offers closes) → AppendsRun s start now (Acting core None casts offers closes)
+dial_there s None now core uplink casts offers closes same none run = run
+dial_there s (Some old) now core uplink casts offers closes same none run =
+    let lt = dials_are_of_uplinks s [] run.0 uplink (run.2, due_dial s core uplink casts offers closes run.0 same run.3) in
+    absurd (none_within core.conf.uplinks uplink none (subst (λ t. uplink < length t.uplinks) (sym same) lt))
+
+-- ---- a cast
+
+tells_cast : (s : Setting) (n : ℕ) (to : Addr) (bytes : List ℕ) → option_map address_of (slice_get s.peers n) ≡ Some to → Tells s (did.Cast n bytes) (with_cast n to bytes)
+tells_cast s n to bytes at told =
+    ap (λ listens. record told { done = told.done ++ did.Cast n bytes ∷ []; listened = listens; cast_to = told.cast_to ++ to ∷ [] }) (sym (append-nil told.listened))
+    ∙ ap (λ dials. record told { done = told.done ++ did.Cast n bytes ∷ []; listened = told.listened ++ []; dialled = dials; cast_to = told.cast_to ++ to ∷ [] }) (sym (append-nil told.dialled))
+    ∙ ap (λ found. record told { done = told.done ++ did.Cast n bytes ∷ []; listened = told.listened ++ []; dialled = told.dialled ++ []; cast_to = told.cast_to ++ list_of found }) (sym at)
+
+cast_comes : (acts : List Act) (stopped : Bool) (n : ℕ) (bytes owed : List ℕ) (rest : List Act) → acts ≡ Casts n owed ∷ rest → bytes ≡ owed → MayCome acts stopped (did.Cast n bytes)
+cast_comes acts stopped n bytes owed rest is same = subst (λ xs. MayCome xs stopped (did.Cast n bytes)) (sym is) (refl, same)
+
+stands_cast : (core : CoreMeaning) (n : ℕ) (bytes : List ℕ) (h : History) → Stands core h → Stands core (did.Cast n bytes ∷ h)
+unfolding trace_of
+stands_cast core n bytes h stands = record { finished = stands.finished; follows = stands.follows; greatest = stands.greatest; stopped = stands.stopped }
+
+owing_cast : (conf : ConfSeen) (cast : CastSeen) (bytes : List ℕ) (casts : List CastSeen) (offers closes : List ℕ) (more : History) → Owing conf None (cast ∷ casts) offers closes more
+    → Owing conf None casts offers closes (did.Cast cast.peer bytes ∷ more)
+unfolding due trace_of
+owing_cast conf cast bytes casts offers closes more owing = record { round = owing.round; owed = ap but_first owing.owed; same = owing.same; all = owing.all; fresh = owing.fresh }
+
+due_cast : (s : Setting) (core : CoreMeaning) (cast : CastSeen) (bytes : List ℕ) (casts : List CastSeen) (offers closes : List ℕ) (more : History) → setting_of core.conf ≡ s → bytes ≡ ended_line cast.line
+    → Acting core None (cast ∷ casts) offers closes more → MayCome (due s more) (is_stopped more) (did.Cast cast.peer bytes)
+due_cast s core cast bytes casts offers closes more same line phase =
+    subst (λ t. MayCome (due t more) (is_stopped more) (did.Cast cast.peer bytes)) same
+    (cast_comes (due (setting_of core.conf) more) (is_stopped more) cast.peer bytes (ended_line cast.line) (map cast_act casts ++ (map (offer_to (setting_of core.conf) phase.owing.round) offers ++ map Closes closes)) phase.owing.owed line)
+
+pub run_casts : (s : Setting) (start now next : Option Told) (core : CoreMeaning) (cast : CastSeen) (peer : PeerSpec) (bytes : List ℕ) (casts : List CastSeen) (offers closes : List ℕ) → setting_of core.conf ≡ s
+    → slice_get core.conf.peers cast.peer ≡ Some peer → bytes ≡ ended_line cast.line → next ≡ option_map (with_cast cast.peer peer.at bytes) now
+    → AppendsRun s start now (Acting core None (cast ∷ casts) offers closes) → AppendsRun s start next (Acting core None casts offers closes)
+run_casts s start now next core cast peer bytes casts offers closes same at line is run =
+    let to : option_map address_of (slice_get s.peers cast.peer) ≡ Some peer.at =
+    ap (λ t. option_map address_of (slice_get t.peers cast.peer)) (sym same)
+    ∙ ap (option_map address_of) (slice_get-map peer_of core.conf.peers cast.peer ∙ ap (option_map peer_of) at) in
+    run_goes_on s start now next (did.Cast cast.peer bytes) (with_cast cast.peer peer.at bytes) (Acting core None (cast ∷ casts) offers closes) (Acting core None casts offers closes)
+    (tells_cast s cast.peer peer.at bytes to) is (λ more phase. (
+      due_cast s core cast bytes casts offers closes more same line phase,
+      record { stands = stands_cast core cast.peer bytes more phase.stands; owing = owing_cast core.conf cast bytes casts offers closes more phase.owing },
+    )) run
+
+-- a cast that is due is for a peer that is there
+pub cast_there : (s : Setting) (start now : Option Told) (core : CoreMeaning) (cast : CastSeen) (casts : List CastSeen) (offers closes : List ℕ) → setting_of core.conf ≡ s → slice_get core.conf.peers cast.peer ≡ None
+    → AppendsRun s start now (Acting core None (cast ∷ casts) offers closes) → AppendsRun s start now (Acting core None casts offers closes)
+cast_there s None now core cast casts offers closes same none run = run
+cast_there s (Some old) now core cast casts offers closes same none run =
+    let bytes = ended_line cast.line in
+    let lt = (peers_get_submissions s [] run.0 cast.peer bytes (run.2, due_cast s core cast bytes casts offers closes run.0 same refl run.3)).0 in
+    absurd (none_within core.conf.peers cast.peer none (subst (λ n. cast.peer < n) (length-map core.conf.peers peer_of) (subst (λ t. cast.peer < length t.peers) (sym same) lt)))

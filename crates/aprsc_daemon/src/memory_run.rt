@@ -1,0 +1,151 @@
+//! A run of the program over files, a wire and a sink in memory, and what it left.
+use crate::aprsc;
+use aprs_base::{
+    Addr, Chunk, Event, Happening, ListenSpec, MemFile, MemFiles, MemSink, MemWire, Sent, Take,
+    Text, UplinkSpec,
+};
+use std::alloc::Global;
+use std::hash::RandomState;
+use std::marker::Sync;
+use std::random::RandomSource;
+use std::sync::Wait;
+use std::test::Fail;
+use std::thread::Threads;
+
+pub(crate) const CONF: &[u8] =
+    b"ServerId T2TEST\nPassCode 8385\nListen \"full\" fullfeed tcp 0.0.0.0 10152\n";
+
+pub(crate) const FIRST_LOGIN: &[u8] = b"user N0CALL pass 13023 vers t 1\r\n";
+
+pub(crate) const SECOND_LOGIN: &[u8] = b"user K1ABC pass 14993 vers t 1\r\n";
+
+pub(crate) const FIRST_REPLY: &[u8] = b"# logresp N0CALL verified, server T2TEST\r\n";
+
+pub(crate) const SECOND_REPLY: &[u8] = b"# logresp K1ABC verified, server T2TEST\r\n";
+
+pub(crate) const BANNER: &[u8] = b"# aprsc 1.0\r\n";
+
+pub(crate) const PACKET: &[u8] = b"N0CALL>APRS,WIDE1-1:>hi\r\n";
+
+pub(crate) const SENT_ON: &[u8] = b"N0CALL>APRS,TCPIP*,qAC,T2TEST:>hi\r\n";
+
+/// What goes wrong outside, and what sends take.
+#[derive(Drop)]
+pub(crate) struct Outside {
+    pub takes: Vec<Take>,
+    pub fail_listen: Option<u64>,
+    pub fail_next: Option<u64>,
+    pub fail_sink: Vec<u64>,
+    pub file: &'static str,
+}
+
+impl Outside {
+    pub fn well(alloc: Global) -> Outside {
+        Outside {
+            takes: Vec::new(alloc),
+            fail_listen: None,
+            fail_next: None,
+            fail_sink: Vec::new(alloc),
+            file: "c",
+        }
+    }
+}
+
+/// What a run left.
+#[derive(Drop)]
+pub(crate) struct Left {
+    pub status: u8,
+    pub text: Vec<u8>,
+    pub done: Vec<Happening>,
+    pub listened: Vec<ListenSpec>,
+    pub dialled: Vec<UplinkSpec>,
+    pub cast_to: Vec<Addr>,
+}
+
+impl Left {
+    /// All that a link took.
+    pub fn taken(&self, alloc: Global, number: u32) -> Result<Vec<u8>, Fail> {
+        let mut all = Vec::new(alloc);
+        for happening in &self.done {
+            if let Happening::Sent(link, bytes, Sent::Took(count)) = happening {
+                if *link == number {
+                    all.extend_from_slice(bytes.as_bytes().get(..*count).ok_or("a part")?)?;
+                }
+            }
+        }
+        Ok(all)
+    }
+}
+
+pub(crate) fn opened(link: u32) -> Event {
+    opened_on(0, link)
+}
+
+pub(crate) fn opened_on(listener: u16, link: u32) -> Event {
+    Event::Opened {
+        listener,
+        link,
+        from: Addr {
+            ip: [127, 0, 0, 1],
+            port: 4000,
+        },
+    }
+}
+
+pub(crate) fn said(link: u32, bytes: &[u8]) -> Result<Event, Fail> {
+    Ok(Event::Bytes(link, Chunk::new(bytes).ok_or("a chunk")?))
+}
+
+/// Runs `-c c` over a file `c` with these bytes, and these events.
+pub(crate) fn run_over<R: Threads + Sync + Wait + RandomSource>(
+    rt: &R,
+    alloc: Global,
+    conf: &[u8],
+    events: Vec<Event>,
+    outside: Outside,
+) -> Result<Left, Fail> {
+    let mut words = Vec::new(alloc);
+    words.push(String::from_str(alloc, "-c")?)?;
+    words.push(String::from_str(alloc, outside.file)?)?;
+    let file = MemFile {
+        name: Text::copied(alloc, b"c")?,
+        bytes: Text::copied(alloc, conf)?,
+    };
+    let mut listed = Vec::new(alloc);
+    listed.push(file)?;
+    let mut files = MemFiles::new(listed, Vec::new(alloc));
+    let mut wire = MemWire::new(
+        alloc,
+        events,
+        outside.takes,
+        outside.fail_listen,
+        outside.fail_next,
+    )?;
+    let mut sink = MemSink::new(alloc, outside.fail_sink, 1000);
+    let status = aprsc(
+        rt,
+        alloc,
+        words.as_slice(),
+        &mut files,
+        &mut wire,
+        &mut sink,
+        &RandomState::new(rt)?,
+    );
+    Ok(Left {
+        status,
+        text: sink.text,
+        done: wire.done,
+        listened: wire.listened,
+        dialled: wire.dialled,
+        cast_to: wire.cast_to,
+    })
+}
+
+/// The parts one after another.
+pub(crate) fn joined(alloc: Global, parts: &[&[u8]]) -> Result<Vec<u8>, Fail> {
+    let mut all = Vec::new(alloc);
+    for part in parts {
+        all.extend_from_slice(part)?;
+    }
+    Ok(all)
+}
