@@ -5,7 +5,7 @@ use Rattle.std.proofs.Math.Seq.{drop-append-add}
 use Rattle.std.proofs.lemmas.Bool.{cases_lt, le-leb, lt-leb}
 use Rattle.std.proofs.lemmas.Bool.Decides.{nat_tests}
 use Rattle.aprs_base.specs.Bytes.{IsLine}
-use Rattle.std.proofs.lemmas.List.{drop-append-le}
+use Rattle.std.proofs.lemmas.List.{drop-append-le, drop-drop}
 use Rattle.std.proofs.lemmas.Grind.{flat_map-append}
 use Rattle.link_queue.specs.Lines.{AreShort, IsWithinFirst, ended_line, queued, text_bytes}
 
@@ -36,6 +36,12 @@ pub put_twice : (room : ℕ) (before xs ys : List ℕ) → (before ++ take room 
 put_twice room before xs ys =
     let e : room - min room (length xs) ≡ room - length xs = omega arith in
     rw e (append_assoc before (take room xs) (take (room - length xs) ys) ∙ ap (λ zs. before ++ zs) (sym (take-append room xs ys)))
+
+-- what is the same from one place on is the same from any further one on
+pub same_further : (n m : ℕ) (xs ys : List ℕ) → n ≤ m → drop n xs ≡ drop n ys → drop m xs ≡ drop m ys
+same_further n m xs ys le same =
+    let e : n + (m - n) ≡ m = omega arith in
+    ap (λ k. drop k xs) (sym e) ∙ sym (drop-drop (m - n) n xs) ∙ ap (drop (m - n)) same ∙ drop-drop (m - n) n ys ∙ ap (λ k. drop k ys) e
 
 -- a line with its end has two bytes more
 pub ended_length : (line : List ℕ) → length (ended_line line) ≡ length line + 2
