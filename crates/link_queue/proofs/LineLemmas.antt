@@ -19,7 +19,7 @@ drop_nil : (n : ℕ) → drop {A = ℕ} n [] ≡ []
 drop_nil zero = refl
 drop_nil (suc n) = refl
 
-take_nil : (n : ℕ) → take {A = ℕ} n [] ≡ []
+pub take_nil : (n : ℕ) → take {A = ℕ} n [] ≡ []
 take_nil zero = refl
 take_nil (suc n) = refl
 

@@ -3,7 +3,6 @@ pub mod FollowLemmas
 pub mod HeardLemmas
 pub mod LinkLemmas
 pub mod MemberLemmas
-pub mod PartLemmas
 pub mod RoundLemmas
 pub mod SendLemmas
 pub mod SightLemmas

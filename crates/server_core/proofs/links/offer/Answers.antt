@@ -1,6 +1,6 @@
 use Rattle.std.proofs.Common.{[], length, min, take, ◌≡◌, ap, sym, ◌∙◌, arith}
 use Rattle.server_core.specs.LinkSteps.{pending_at, pending_of}
-use Rattle.server_core.proofs.PartLemmas.{take_nil}
+use Rattle.link_queue.proofs.LineLemmas.{take_nil}
 use Rattle.server_core.proofs.LinkLemmas.{picked_found, picked_none}
 use Rattle.server_core.proofs.links.offer.Goals as goal
 
