@@ -21,9 +21,10 @@ use std::sync::Arc;
 
 /// Where the link of that number stands.
 pub(crate) fn place_of(links: &[Link], number: u32) -> Option<usize>
+    requires { Rises 0 (numbers links.now) (2 ^ 32) }
     ensures { result ≡ position (has_that number) links.now }
 {
-    links.iter().position(|link| link.number == number)
+    links.binary_search_by_key(&number, |link| link.number).ok()
 }
 
 /// The link has room again.
@@ -62,6 +63,7 @@ pub(crate) fn take(links: &mut Vec<Link>, number: u32, offered: usize, count: us
 
 /// Writes the next bytes of the link, as many as there are and as fit.
 pub(crate) fn offer(links: &[Link], number: u32, out: &mut [u8]) -> usize
+    requires { Rises 0 (numbers links.now) (2 ^ 32) }
     ensures count { result ≡ min (length out.old) (length (pending_at number links.now)) }
     ensures bytes { take result out.new ≡ take (length out.old) (pending_at number links.now) }
 {
@@ -219,6 +221,7 @@ pub(crate) fn all(alloc: Global, links: &[Link]) -> Result<Vec<u32>, Memory>
 
 /// Where the lines of that link come from, once it has logged in.
 pub(crate) fn origin_at(links: &[Link], number: u32) -> Option<Origin>
+    requires { Rises 0 (numbers links.now) (2 ^ 32) }
     ensures value { result ≡ option_map (client_origin (only_at number links.now)) (session_at number links.now) }
     ensures station { IfSome result (λ origin. IsTrue (has_station origin)) }
 {
@@ -230,6 +233,7 @@ pub(crate) fn origin_at(links: &[Link], number: u32) -> Option<Origin>
 
 /// Whether the port of that link has filters.
 pub(crate) fn has_filters_at(links: &[Link], number: u32) -> bool
+    requires { Rises 0 (numbers links.now) (2 ^ 32) }
     ensures { result ≡ filters_at number links.now }
 {
     match place_of(links, number) {
@@ -240,6 +244,7 @@ pub(crate) fn has_filters_at(links: &[Link], number: u32) -> bool
 
 /// Whether that link has logged in.
 pub(crate) fn has_session_at(links: &[Link], number: u32) -> bool
+    requires { Rises 0 (numbers links.now) (2 ^ 32) }
     ensures { result ≡ is_some (session_at number links.now) }
 {
     match place_of(links, number) {
