@@ -1,11 +1,11 @@
 -- The first bytes of lines one after another, and what is left of them.
 use Rattle.std.proofs.Common.{◌≡◌, ℕ, zero, suc, ◌+◌, ◌-◌, ◌*◌, ◌≤◌, ◌<◌, ◌⊎◌, inl, inr, List, [], ◌∷◌, ◌++◌, length, take, drop, get_or, min, map, refl, sym, ap, subst, ◌∙◌, add-one, arith, Some, None, append_assoc, length-append, length-drop, append-nil}
 use Rattle.std.specs.List.{slice_get}
-use Rattle.std.proofs.Math.Seq.{drop-append-add}
+use Rattle.std.proofs.Math.Seq.{drop-append-add, drop-nil}
 use Rattle.std.proofs.lemmas.Bool.{cases_lt, le-leb, lt-leb}
 use Rattle.std.proofs.lemmas.Bool.Decides.{nat_tests}
 use Rattle.aprs_base.specs.Bytes.{IsLine}
-use Rattle.std.proofs.lemmas.List.{drop-append-le}
+use Rattle.std.proofs.lemmas.List.{drop-append-le, drop-drop}
 use Rattle.std.proofs.lemmas.Grind.{flat_map-append}
 use Rattle.link_queue.specs.Lines.{AreShort, IsWithinFirst, ended_line, queued, text_bytes}
 
@@ -15,27 +15,17 @@ take-append (suc n) [] ys = let e : suc n - 0 ≡ suc n = omega arith in rw e re
 take-append zero (x ∷ xs) ys = let e : 0 - length (x ∷ xs) ≡ 0 = omega arith in rw e refl
 take-append (suc n) (x ∷ xs) ys = let e : suc n - length (x ∷ xs) ≡ n - length xs = omega arith in rw e (ap (λ zs. x ∷ zs) (take-append n xs ys))
 
-drop_nil : (n : ℕ) → drop {A = ℕ} n [] ≡ []
-drop_nil zero = refl
-drop_nil (suc n) = refl
-
-take_nil : (n : ℕ) → take {A = ℕ} n [] ≡ []
-take_nil zero = refl
-take_nil (suc n) = refl
-
--- past a line only its LF is left
-pub drop-to_lf : (line : List ℕ) (skip : ℕ) → length line < skip → skip < length line + 2 → drop skip (ended_line line) ≡ 10 ∷ []
-drop-to_lf [] zero low high = absurd (omega arith)
-drop-to_lf [] (suc zero) low high = refl
-drop-to_lf [] (suc (suc skip)) low high = absurd (omega arith)
-drop-to_lf (b ∷ line) zero low high = absurd (omega arith)
-drop-to_lf (b ∷ line) (suc skip) low high = drop-to_lf line skip (omega arith) (omega arith)
-
 -- two parts written one after the other
 pub put_twice : (room : ℕ) (before xs ys : List ℕ) → (before ++ take room xs) ++ take (room - min room (length xs)) ys ≡ before ++ take room (xs ++ ys)
 put_twice room before xs ys =
     let e : room - min room (length xs) ≡ room - length xs = omega arith in
     rw e (append_assoc before (take room xs) (take (room - length xs) ys) ∙ ap (λ zs. before ++ zs) (sym (take-append room xs ys)))
+
+-- what is the same from one place on is the same from any further one on
+pub same_further : (n m : ℕ) (xs ys : List ℕ) → n ≤ m → drop n xs ≡ drop n ys → drop m xs ≡ drop m ys
+same_further n m xs ys le same =
+    let e : n + (m - n) ≡ m = omega arith in
+    ap (λ k. drop k xs) (sym e) ∙ sym (drop-drop (m - n) n xs) ∙ ap (drop (m - n)) same ∙ drop-drop (m - n) n ys ∙ ap (λ k. drop k ys) e
 
 -- a line with its end has two bytes more
 pub ended_length : (line : List ℕ) → length (ended_line line) ≡ length line + 2
@@ -109,16 +99,6 @@ pub length_more : (lines more : List (List ℕ)) (line : List ℕ) (skip : ℕ) 
 length_more lines more line skip is lt =
     ap length (rest_of lines more line skip is lt) ∙ length-append (drop skip (ended_line line)) (text_bytes more) ∙ ap (λ n. n + length (text_bytes more)) (rest_length line skip)
 
--- where no line is left, nothing is left to write
-pub none_left : (lines : List (List ℕ)) (skip : ℕ) → lines ≡ [] → drop skip (text_bytes lines) ≡ []
-none_left lines skip none = ap (λ xs. drop skip (text_bytes xs)) none ∙ drop_nil skip
-
-pub nothing_taken : (room : ℕ) (before bytes : List ℕ) → bytes ≡ [] → before ++ take room bytes ≡ before
-nothing_taken room before bytes none = ap (λ xs. before ++ take room xs) none ∙ ap (λ xs. before ++ xs) (take_nil room) ∙ append-nil before
-
-pub no_room : (room : ℕ) (before bytes : List ℕ) → room ≡ 0 → before ++ take room bytes ≡ before
-no_room room before bytes none = ap (λ n. before ++ take n bytes) none ∙ append-nil before
-
 -- taking whole lines, and a part of one
 pub queued_step : (lines more : List (List ℕ)) (line : List ℕ) (left : ℕ) → lines ≡ line ∷ more → length line + 2 ≤ left → queued lines left ≡ queued more (left - (length line + 2))
 queued_step lines more line left is le = rw (is, le-leb (length line + 2) left le) refl
@@ -183,7 +163,7 @@ queued_few (line ∷ lines) taken short =
 -- lines in two parts, of which the first is begun
 pub two_parts : (front back : List (List ℕ)) (offset skip : ℕ) → ((length front ≡ 0) × (skip ≡ offset)) ⊎ ((1 ≤ length front) × (skip ≡ 0)) →
     IsWithinFirst (front ++ back) offset → drop offset (text_bytes front) ++ drop skip (text_bytes back) ≡ drop offset (text_bytes (front ++ back))
-two_parts [] back offset skip (inl e) begun = rw (drop_nil offset, e.1) refl
+two_parts [] back offset skip (inl e) begun = rw (drop-nil {A = ℕ} offset, e.1) refl
 two_parts [] back offset skip (inr e) begun = absurd (omega arith)
 two_parts (x ∷ front) back offset skip (inl e) begun = absurd (omega arith)
 two_parts (x ∷ front) back offset skip (inr e) begun =

@@ -66,9 +66,11 @@ impl Queue {
     }
 
     /// Writes the next pending bytes, each line with its CR and LF, as many as there are and as fit, and says how many.
+    /// The buffer stays as it was behind them.
     pub fn front_bytes(&self, out: &mut [u8]) -> usize
         ensures count { result ≡ min (length out.old) (length (pending_bytes self.now)) }
         ensures bytes { take result out.new ≡ take (length out.old) (pending_bytes self.now) }
+        ensures rest { drop result out.new ≡ drop result out.old }
     {
         let (front, back) = self.ring.as_slices();
         let at = put_lines(out, 0, front, self.offset);

@@ -12,6 +12,7 @@ fn put(out: &mut [u8], at: usize, bytes: &[u8]) -> usize
     ensures end { result ≡ at + min (length out.old - at) (length bytes.now) }
     ensures within { result ≤ length out.new }
     ensures bytes { take result out.new ≡ take at out.old ++ take (length out.old - at) bytes.now }
+    ensures rest { drop result out.new ≡ drop result out.old }
 {
     let count = bytes.len().min(out.len() - at);
     out[at..at + count].copy_from_slice(&bytes[..count]);
@@ -23,6 +24,7 @@ fn put_whole(out: &mut [u8], at: usize, bytes: &[u8]) -> usize
     requires { at + length bytes.now ≤ length out.old }
     ensures end { result ≡ at + length bytes.now }
     ensures bytes { take result out.new ≡ take at out.old ++ bytes.now }
+    ensures rest { drop result out.new ≡ drop result out.old }
 {
     let end = at + bytes.len();
     out[at..end].copy_from_slice(bytes);
@@ -34,6 +36,7 @@ fn put_end(out: &mut [u8], at: usize) -> usize
     requires { at + 2 ≤ length out.old }
     ensures end { result ≡ at + 2 }
     ensures bytes { take result out.new ≡ take at out.old ++ 13 ∷ 10 ∷ [] }
+    ensures rest { drop result out.new ≡ drop result out.old }
 {
     out[at] = b'\r';
     out[at + 1] = b'\n';
@@ -46,6 +49,7 @@ fn put_line(out: &mut [u8], at: usize, line: &[u8]) -> usize
     ensures end { result ≡ at + min (length out.old - at) (length line.now + 2) }
     ensures within { result ≤ length out.new }
     ensures bytes { take result out.new ≡ take at out.old ++ take (length out.old - at) (ended_line line.now) }
+    ensures rest { drop result out.new ≡ drop result out.old }
 {
     let room = out.len() - at;
     if room < 2 || room - 2 < line.len() {
@@ -71,6 +75,7 @@ fn put_rest(out: &mut [u8], at: usize, line: &[u8], skip: usize) -> usize
     ensures end { result ≡ at + min (length out.old - at) (length line.now + 2 - skip) }
     ensures within { result ≤ length out.new }
     ensures bytes { take result out.new ≡ take at out.old ++ take (length out.old - at) (drop skip (ended_line line.now)) }
+    ensures rest { drop result out.new ≡ drop result out.old }
 {
     if skip > line.len() {
         return put(out, at, b"\n");
@@ -85,6 +90,7 @@ pub(crate) fn put_lines(out: &mut [u8], at: usize, lines: &[Arc<Line>], skip: us
     ensures end { result ≡ at + min (length out.old - at) (length (drop skip (text_bytes (map arc_value lines.now)))) }
     ensures within { result ≤ length out.new }
     ensures bytes { take result out.new ≡ take at out.old ++ take (length out.old - at) (drop skip (text_bytes (map arc_value lines.now))) }
+    ensures rest { drop result out.new ≡ drop result out.old }
 {
     let mut at = at;
     let mut skip = skip;

@@ -3,7 +3,7 @@ pub mod FollowLemmas
 pub mod HeardLemmas
 pub mod LinkLemmas
 pub mod MemberLemmas
-pub mod PartLemmas
+pub mod PlaceLemmas
 pub mod RoundLemmas
 pub mod SendLemmas
 pub mod SightLemmas

@@ -16,7 +16,7 @@ not_that number link ne = false_from_ne_true _ (λ is. ne (eqb-true link.link nu
 pub is_that : (number : ℕ) (link : LinkSeen) → link.link ≡ number → has_that number link ≡ true
 is_that number link is = eq-eqb link.link number is
 
-above : (low high : ℕ) (links : List LinkSeen) (place : ℕ) (d : LinkSeen) → Rises low (numbers links) high → place < length links → low < (get_or links place d).link
+pub above : (low high : ℕ) (links : List LinkSeen) (place : ℕ) (d : LinkSeen) → Rises low (numbers links) high → place < length links → low < (get_or links place d).link
 above low high [] place d rises lt = absurd (omega arith)
 above low high (x ∷ links) zero d rises lt = rises.0
 above low high (x ∷ links) (suc place) d rises lt = let later = above x.link high links place d rises.1 (omega arith) in let first = rises.0 in omega arith

@@ -1,5 +1,5 @@
 -- The bytes that a queue still has to give.
-use Rattle.std.specs.Prelude.{ℕ, ◌+◌, ◌<◌, ◌≡◌, List, [], ◌∷◌, ◌++◌, length, drop}
+use Rattle.std.specs.Prelude.{ℕ, ◌+◌, List, [], ◌∷◌, ◌++◌, drop}
 use Rattle.link_queue.specs.Lines.{Queued, text_bytes, queued}
 
 -- what is left of the first line, and the lines after it
@@ -12,11 +12,3 @@ with_line queue line = record { lines = queue.lines ++ line ∷ []; offset = que
 -- some of the bytes less
 abbrev pub without_bytes : Queued → ℕ → Queued
 without_bytes queue n = queued queue.lines (queue.offset + n)
-
--- the first line is begun at most
-abbrev pub IsBegun : Queued → Type 0
-IsBegun queue = begun queue.lines queue.offset
-  where
-    begun : List (List ℕ) → ℕ → Type 0
-    begun [] offset = offset ≡ 0
-    begun (line ∷ lines) offset = offset < length line + 2

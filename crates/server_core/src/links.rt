@@ -20,9 +20,10 @@ use std::sync::Arc;
 
 /// Where the link of that number stands.
 pub(crate) fn place_of(links: &[Link], number: u32) -> Option<usize>
+    requires { Rises 0 (numbers links.now) (2 ^ 32) }
     ensures { result ≡ position (has_that number) links.now }
 {
-    links.iter().position(|link| link.number == number)
+    links.binary_search_by_key(&number, |link| link.number).ok()
 }
 
 /// The link has room again.
@@ -61,6 +62,7 @@ pub(crate) fn take(links: &mut Vec<Link>, number: u32, offered: usize, count: us
 
 /// Writes the next bytes of the link, as many as there are and as fit.
 pub(crate) fn offer(links: &[Link], number: u32, out: &mut [u8]) -> usize
+    requires { Rises 0 (numbers links.now) (2 ^ 32) }
     ensures count { result ≡ min (length out.old) (length (pending_at number links.now)) }
     ensures bytes { take result out.new ≡ take (length out.old) (pending_at number links.now) }
 {
@@ -228,6 +230,7 @@ pub(crate) fn all(alloc: Global, links: &[Link]) -> Result<Vec<u32>, Memory>
 
 /// Whether there is a link of that number.
 pub(crate) fn has_link(links: &[Link], number: u32) -> bool
+    requires { Rises 0 (numbers links.now) (2 ^ 32) }
     ensures { result ≡ has_number number links.now }
 {
     place_of(links, number).is_some()
@@ -235,6 +238,7 @@ pub(crate) fn has_link(links: &[Link], number: u32) -> bool
 
 /// Who speaks on that link.
 pub(crate) fn voice_at(links: &[Link], number: u32) -> Voice
+    requires { Rises 0 (numbers links.now) (2 ^ 32) }
     ensures value { result ≡ voice_of (speaker_at number links.now) }
     ensures station { HasStation result }
 {
@@ -246,6 +250,7 @@ pub(crate) fn voice_at(links: &[Link], number: u32) -> Voice
 
 /// Whether that link is a client.
 pub(crate) fn is_client_at(links: &[Link], number: u32) -> bool
+    requires { Rises 0 (numbers links.now) (2 ^ 32) }
     ensures { result ≡ client_at number links.now }
 {
     match place_of(links, number) {
@@ -256,6 +261,7 @@ pub(crate) fn is_client_at(links: &[Link], number: u32) -> bool
 
 /// Whether what comes from there was submitted here.
 pub(crate) fn is_submitted(links: &[Link], from: &Source) -> bool
+    requires { Rises 0 (numbers links.now) (2 ^ 32) }
     ensures { result ≡ submitted_from from.now links.now }
 {
     match from {
@@ -280,6 +286,7 @@ pub(crate) fn count_clients(links: &[Link]) -> usize
 
 /// Whether the port of that link has filters.
 pub(crate) fn has_filters_at(links: &[Link], number: u32) -> bool
+    requires { Rises 0 (numbers links.now) (2 ^ 32) }
     ensures { result ≡ filters_at number links.now }
 {
     match place_of(links, number) {

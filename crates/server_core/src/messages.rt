@@ -1,10 +1,10 @@
 //! Messages: whom they are for, which links heard their receivers, and which are owed their senders' positions.
-ghost use Rattle.std.specs.Prelude.{◌≡◌, ◌&&◌, ◌++◌, OnOk, IfOk, List, ℕ, filter};
+ghost use Rattle.std.specs.Prelude.{◌≡◌, ◌&&◌, ◌++◌, ◌^◌, OnOk, IfOk, List, ℕ, filter};
 ghost use Rattle.aprs_base.specs.declared.texts.Word9.{Word9};
 ghost use Rattle.filter_eval.specs.Passes.{is_some_and, is_text};
 ghost use Rattle.aprs_history.specs.Messages.{is_message, is_position};
 ghost use Rattle.heard_routing.specs.Heard.{courtesies, is_among, without_promises};
-ghost use Rattle.server_core.specs.LinkSteps.{call_in, forgotten_all, hearers_of, is_lost, may_promise, noted_from, numbers, promised_all, promised_one, receiver_of};
+ghost use Rattle.server_core.specs.LinkSteps.{Rises, call_in, forgotten_all, hearers_of, is_lost, may_promise, noted_from, numbers, promised_all, promised_one, receiver_of};
 
 use crate::link::{Link, is_from};
 use crate::links::{has_filters_at, is_client_at};
@@ -102,6 +102,7 @@ pub(crate) fn owed_to(
 
 /// Whether a link may be promised the next position of a sender from elsewhere.
 fn may_promise(links: &[Link], from: &Source, link: u32) -> bool
+    requires { Rises 0 (numbers links.now) (2 ^ 32) }
     ensures { result ≡ may_promise links.now from.now link }
 {
     !is_from(link, from) && has_filters_at(links, link)
@@ -117,6 +118,7 @@ fn promise_one(
     now: u64,
     link: u32,
 ) -> Result<(), Memory>
+    requires { Rises 0 (numbers links.now) (2 ^ 32) }
     ensures { OnOk result (heard.new ≡ promised_one links.now from.now sender.now now link heard.old) }
 {
     if may_promise(links, from, link) {
@@ -135,6 +137,7 @@ pub(crate) fn promise_all(
     now: u64,
     hearers: &[u32],
 ) -> Result<(), Memory>
+    requires { Rises 0 (numbers links.now) (2 ^ 32) }
     ensures { OnOk result (heard.new ≡ promised_all links.now from.now sender.now now hearers.now heard.old) }
 {
     for link in hearers {
@@ -152,6 +155,7 @@ pub(crate) fn note_from(
     call: &Call,
     now: u64,
 ) -> Result<(), Memory>
+    requires { Rises 0 (numbers links.now) (2 ^ 32) }
     ensures { OnOk result (heard.new ≡ noted_from links.now from.now call.now now heard.old) }
 {
     match from {

@@ -1,8 +1,8 @@
 //! What the core keeps for other servers: its uplinks, and what the last round has for them.
-ghost use Rattle.std.specs.Prelude.{◌≡◌, ◌++◌, ◌≤◌, [], IfOk, None, OnOk, filter, length, map, if◌then◌else◌};
+ghost use Rattle.std.specs.Prelude.{◌≡◌, ◌++◌, ◌≤◌, ◌^◌, [], IfOk, None, OnOk, filter, length, map, if◌then◌else◌};
 ghost use Rattle.std.specs.Arc.{arc_value};
 ghost use Rattle.aprs_history.specs.Dials.{casts_to};
-ghost use Rattle.server_core.specs.LinkSteps.{ended_all, has_number, is_lost, numbers};
+ghost use Rattle.server_core.specs.LinkSteps.{Rises, ended_all, has_number, is_lost, numbers};
 ghost use Rattle.server_core.specs.Meaning.{peer_of};
 ghost use Rattle.uplinks_peers.specs.Uplinks.{acts_at, untried, uplinks_after};
 ghost use Rattle.uplinks_peers.specs.declared.uplinks.UpEvent.TheVariants as up;
@@ -82,6 +82,7 @@ impl Reach {
 
     /// A link brought bytes, where it is there.
     pub fn hear_at(&mut self, links: &[Link], link: u32, now: u64)
+        requires { Rises 0 (numbers links.now) (2 ^ 32) }
         ensures { self.new ≡ (if has_number link links.now then record self.old { uplinks = uplinks_after (up.Heard link) now self.old.uplinks } else self.old) }
     {
         if has_link(links, link) {
@@ -91,6 +92,7 @@ impl Reach {
 
     /// A link ended, where it was there.
     pub fn end_at(&mut self, links: &[Link], link: u32, now: u64)
+        requires { Rises 0 (numbers links.now) (2 ^ 32) }
         ensures { self.new ≡ (if has_number link links.now then record self.old { uplinks = uplinks_after (up.Ended link) now self.old.uplinks } else self.old) }
     {
         if has_link(links, link) {

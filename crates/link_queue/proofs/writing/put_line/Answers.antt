@@ -1,7 +1,7 @@
 use Rattle.std.proofs.Common.{◌≡◌, ◌-◌, ◌++◌, ◌∷◌, [], length, take, min, sym, ap, ◌∙◌, arith, append_assoc}
 use Rattle.std.proofs.lemmas.List.{take_all}
 use Rattle.link_queue.specs.Lines.{ended_line}
-use Rattle.link_queue.proofs.LineLemmas.{ended_length, put_twice}
+use Rattle.link_queue.proofs.LineLemmas.{ended_length, put_twice, same_further}
 use Rattle.link_queue.proofs.writing.put_line.Goals as goal
 
 pub returns-then-room-lt2-clause-bytes : goal.returns-then-room-lt2-clause-bytes
@@ -22,3 +22,8 @@ returns-clause-bytes c =
     let size = ended_length line in
     c.put_end.ensures.bytes ∙ ap (λ bytes. bytes ++ 13 ∷ 10 ∷ []) c.put_whole-at.ensures.bytes ∙ append_assoc before line (13 ∷ 10 ∷ [])
     ∙ ap (λ bytes. before ++ bytes) (sym (take_all (length c.args.out.now - c.args.at) (ended_line line) (omega arith)))
+
+pub returns-clause-rest : goal.returns-clause-rest
+returns-clause-rest c =
+    let end = c.put_end.ensures.end in
+    c.put_end.ensures.rest ∙ same_further c.put_whole-at.result c.put_end.result _ _ (omega arith) c.put_whole-at.ensures.rest

@@ -1,7 +1,7 @@
 use Rattle.std.proofs.Common.{◌≡◌, ◌+◌, ◌-◌, ◌<◌, ◌++◌, ◌∷◌, length, map, take, drop, min, sym, ap, ◌∙◌, arith}
 use Rattle.std.specs.Arc.{arc_value}
 use Rattle.link_queue.specs.Lines.{ended_line, text_bytes}
-use Rattle.link_queue.proofs.LineLemmas.{begun_anew, first_begun, length_more, next_mapped, written_more}
+use Rattle.link_queue.proofs.LineLemmas.{begun_anew, first_begun, length_more, next_mapped, same_further, written_more}
 use Rattle.link_queue.proofs.writing.put_lines.Goals as goal
 
 pub put_rest-at-requires-clause-part : goal.put_rest-at-requires-clause-part
@@ -30,7 +30,8 @@ loop-line-preserved c =
     let same : length c.put_rest-at.new.out ≡ length c.loop-line.out = c.put_rest-at.auto.out in
     let left : length c.put_rest-at.new.out - c.put_rest-at.result ≡ room - min room (length line + 2 - skip) = omega (arith, end, same) in
     let sum : length (drop skip (text_bytes rest)) ≡ (length line + 2 - skip) + length (text_bytes more) = length_more rest more line skip next part in
-    let ends = c.loop-line.invariant.3 in (
+    let ends = c.loop-line.invariant.3 in
+    let behind = same_further c.loop-line.at c.put_rest-at.result _ _ (omega (arith, end)) c.loop-line.invariant.4 in (
       c.put_rest-at.ensures.within,
       begun_anew more,
       ap (λ bytes. bytes ++ take (length c.put_rest-at.new.out - c.put_rest-at.result) (text_bytes more)) c.put_rest-at.ensures.bytes
@@ -38,4 +39,5 @@ loop-line-preserved c =
           ∙ written_more rest more line before skip room next part
           ∙ c.loop-line.invariant.2,
       omega (arith, end, left, sum, ends),
+      c.put_rest-at.ensures.rest ∙ behind,
     )

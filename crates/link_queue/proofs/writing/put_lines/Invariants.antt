@@ -13,3 +13,4 @@ invariant-loop-line l =
     × IsWithinFirst (drop l.line-index (map arc_value l.lines)) l.skip
     × (take l.at l.out ++ take (length l.out - l.at) left ≡ take l.fn.at l.fn.out ++ take room whole)
     × (l.at + min (length l.out - l.at) (length left) ≡ l.fn.at + min room (length whole))
+    × (drop l.at l.out ≡ drop l.at l.fn.out)

@@ -8,6 +8,9 @@ use Rattle.server_core.specs.LinkSteps.{has_that, held_kept, with_bytes}
 use Rattle.server_core.proofs.LinkLemmas.{changed_by, picked_found, picked_none}
 use Rattle.server_core.proofs.links.bring.Goals as goal
 
+pub place_of-requires : goal.place_of-requires
+place_of-requires c = rw c.as_slice.ensures.value c.requires
+
 some_same : (a b : Held) → Some a ≡ Some b → a ≡ b
 some_same a b is = cc
 

@@ -4,6 +4,9 @@ use Rattle.server_core.specs.LinkSteps.{has_that, when_gone}
 use Rattle.server_core.proofs.LinkLemmas.{changed_by, changed_nowhere}
 use Rattle.server_core.proofs.links.lose.Goals as goal
 
+pub place_of-requires : goal.place_of-requires
+place_of-requires c = rw c.as_slice.ensures.value c.requires
+
 pub returns-in-Some : goal.returns-in-Some
 returns-in-Some c =
     let found = c.in-Some.ensures ∙ ap (position (has_that c.args.number)) c.as_slice.ensures.value in

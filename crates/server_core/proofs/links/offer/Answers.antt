@@ -1,6 +1,6 @@
 use Rattle.std.proofs.Common.{[], length, min, take, ◌≡◌, ap, sym, ◌∙◌, arith}
 use Rattle.server_core.specs.LinkSteps.{pending_at, pending_of}
-use Rattle.server_core.proofs.PartLemmas.{take_nil}
+use Rattle.std.proofs.Math.Seq.{take-nil}
 use Rattle.server_core.proofs.LinkLemmas.{picked_found, picked_none}
 use Rattle.server_core.proofs.links.offer.Goals as goal
 
@@ -23,4 +23,4 @@ returns-in-None-clause-count c =
 
 pub returns-in-None-clause-bytes : goal.returns-in-None-clause-bytes
 returns-in-None-clause-bytes c =
-    sym (ap (take (length c.args.out.now)) (picked_none pending_of [] c.args.number c.args.links.now c.in-None.ensures) ∙ take_nil (length c.args.out.now))
+    sym (ap (take (length c.args.out.now)) (picked_none pending_of [] c.args.number c.args.links.now c.in-None.ensures) ∙ take-nil (length c.args.out.now))

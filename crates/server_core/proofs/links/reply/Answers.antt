@@ -6,6 +6,9 @@ use Rattle.server_core.specs.LinkSteps.{has_that, number_of, with_text}
 use Rattle.server_core.proofs.LinkLemmas.{changed_by, changed_nowhere}
 use Rattle.server_core.proofs.links.reply.Goals as goal
 
+pub place_of-requires : goal.place_of-requires
+place_of-requires c = rw c.as_slice.ensures.value c.requires
+
 pub returns-in-Some-clause-numbers : goal.returns-in-Some-clause-numbers
 returns-in-Some-clause-numbers c = map-set_same number_of c.args.links.now.items c.in-Some.place c.push.new.self c.index_mut.result.now (c.push.ensures.number ∙ ap number_of c.index_mut.ensures.value)
 

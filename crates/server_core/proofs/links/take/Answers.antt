@@ -4,6 +4,9 @@ use Rattle.server_core.specs.LinkSteps.{has_that, with_taken, pending_of}
 use Rattle.server_core.proofs.LinkLemmas.{changed_by, changed_nowhere, picked_found}
 use Rattle.server_core.proofs.links.take.Goals as goal
 
+pub place_of-requires : goal.place_of-requires
+place_of-requires c = rw c.as_slice.ensures.value c.requires.rises
+
 pub take-requires : goal.take-requires
 take-requires c =
     let found = c.in-Some.ensures ∙ ap (position (has_that c.args.number)) c.as_slice.ensures.value in

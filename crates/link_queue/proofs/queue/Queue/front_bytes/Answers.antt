@@ -5,7 +5,7 @@ use Rattle.std.proofs.lemmas.Bool.Decides.{nat_tests}
 use Rattle.std.proofs.lemmas.List.{length-append, length-map, map-append}
 use Rattle.link_queue.specs.Lines.{IsWithinFirst, text_bytes}
 use Rattle.link_queue.specs.Queues.{pending_bytes}
-use Rattle.link_queue.proofs.LineLemmas.{put_twice, two_parts}
+use Rattle.link_queue.proofs.LineLemmas.{put_twice, same_further, two_parts}
 use Rattle.link_queue.proofs.queue.Queue.front_bytes.Goals as goal
 use Rattle.link_queue.proofs.queue.Queue.front_bytes.Goals.{then-is_empty, else-is_empty}
 
@@ -55,3 +55,8 @@ returns-clause-bytes c =
     ∙ ap (λ n. take room front ++ take n back) left
     ∙ put_twice room [] front back
     ∙ ap (take room) (parts c)
+
+pub returns-clause-rest : goal.returns-clause-rest
+returns-clause-rest c =
+    let more = c.put_lines.ensures.end in
+    c.put_lines.ensures.rest ∙ same_further c.put_lines-at.result c.put_lines.result _ _ (omega (arith, more)) c.put_lines-at.ensures.rest

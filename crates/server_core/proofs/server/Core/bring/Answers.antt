@@ -37,3 +37,6 @@ returns-clause-dead c = λ t walks dead.
     walks_unbrought _ t w c.args.number c.bring.new.links.items c.hear_at.new.self c.bring.result dead
     (heard_at c.args.number c.as_slice.result.now c.self.inside.links.items c.self.inside.moment c.self.inside.reach c.hear_at.new.self c.as_slice.ensures.value c.hear_at.ensures)
     (c.bring.ensures.nowhere (held_never _ t w c.args.number dead))
+
+pub hear_at-requires : goal.hear_at-requires
+hear_at-requires c = rw c.as_slice.ensures.value (rises_to 0 c.self.inside.greatest (2 ^ 32) _ c.self.invariant.rising (let small = c.self.invariant.small in omega arith))

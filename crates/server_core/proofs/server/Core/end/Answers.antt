@@ -1,3 +1,5 @@
+use Rattle.server_core.proofs.LinkLemmas.{rises_to}
+use Rattle.std.proofs.Common.{◌^◌, arith}
 use Rattle.std.proofs.Common.{subst, sym}
 use Rattle.std.proofs.Common.{◌≡◌, ◌∙◌, ℕ, List, ap, if◌then◌else◌}
 use Rattle.aprs_history.specs.Stands.{LinkSeen, ReachSeen}
@@ -32,3 +34,6 @@ pub returns-clause-dead : goal.returns-clause-dead
 returns-clause-dead c = λ t walks dead.
     walks_no_end _ t (subst (λ core. Walks core t) (sym c.self.view_is) walks) c.args.number c.drop_link.new.links.items c.forget.new.self c.end_at.new.self dead c.drop_link.ensures c.forget.ensures.removed
     (reach_ended c.args.number c.as_slice.result.now c.self.inside.links.items c.self.inside.moment c.self.inside.reach c.end_at.new.self c.as_slice.ensures.value c.end_at.ensures)
+
+pub end_at-requires : goal.end_at-requires
+end_at-requires c = rw c.as_slice.ensures.value (rises_to 0 c.self.inside.greatest (2 ^ 32) _ c.self.invariant.rising (let small = c.self.invariant.small in omega arith))

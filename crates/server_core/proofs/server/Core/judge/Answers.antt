@@ -1,3 +1,5 @@
+use Rattle.server_core.proofs.LinkLemmas.{rises_to}
+use Rattle.std.proofs.Common.{◌^◌, arith}
 use Rattle.std.proofs.Common.{◌≡◌, ◌∙◌, ap, sym, IfOk, Result, Ok, Err}
 use Rattle.aprs_history.specs.declared.verdicts.Verdict.{Verdict}
 use Rattle.line_verdict.specs.Voices.{voice_of, voice_verdict}
@@ -22,3 +24,6 @@ returns-in-Line c =
     c.voice_at-voice.ensures.value ∙ ap (λ links. voice_of (speaker_at c.args.number links)) (c.as_slice.ensures.value ∙ ap (λ (core : CoreMeaning). core.seen.links) c.self.view_is) in
     ok_as c.judge_spoken.result c.judge_spoken.ensures
     (ap (λ (voice : Voice). voice_verdict (scene_at core c.args.number) voice line) who ∙ sym (voice_says (scene_at core c.args.number) speaker line) ∙ ap (verdict_of (scene_at core c.args.number)) (sym c.in-Line.is))
+
+pub voice_at-voice-requires : goal.voice_at-voice-requires
+voice_at-voice-requires c = rw c.as_slice.ensures.value (rises_to 0 c.self.inside.greatest (2 ^ 32) _ c.self.invariant.rising (let small = c.self.invariant.small in omega arith))
