@@ -1,4 +1,5 @@
 pub mod EndLemmas
 pub mod PieceLemmas
 pub mod WriteLemmas
+pub mod LinkLemmas
 pub mod FindLemmas

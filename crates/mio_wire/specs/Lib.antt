@@ -1,2 +1,5 @@
 pub mod Pacing
+pub mod Coming
+pub mod Linked
 pub mod Arrivals
+pub mod Waiting

@@ -1,6 +1,7 @@
 //! The bytes that were read and not yet handed up. One room serves all links, since each read is handed up before the next.
 ghost use Rattle.std.specs.Prelude.{◌≡◌, ◌↔◌, ◌≤◌, ◌==◌, [], IfOk, IfSome, IsSome, OnOk, OnErr, length, take, drop, if◌then◌else◌};
 ghost use Rattle.std.specs.Io.KnownBytes.{Consumes, IsAtEnd};
+ghost use Rattle.mio_wire.specs.Arrivals.{forgotten};
 
 use aprs_base::Chunk;
 use std::alloc::{AllocError, Global};
@@ -83,7 +84,7 @@ impl Inbox {
 
     /// Lets go what is left of a link's bytes.
     pub(crate) fn forget(&mut self, link: u32)
-        ensures { self.new ≡ record self.old { left = if self.old.link == link then [] else self.old.left } }
+        ensures { self.new ≡ forgotten link self.old }
     {
         if self.link == link {
             self.from = self.to;

@@ -1,6 +1,7 @@
 //! The network of the system: listeners and links over TCP behind the trait `Wire`.
 #![tactic(auto)]
 
+mod course;
 mod inbox;
 mod links;
 mod pace;

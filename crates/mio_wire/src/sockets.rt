@@ -1,14 +1,14 @@
 //! The poll with the sockets that it watches.
-ghost use Rattle.std.specs.Prelude.{◌≡◌, ◌≢◌, ℕ, ◌≤◌, ◌<◌, None, IfOk, IfSome, length};
-ghost use Rattle.mio_wire.specs.Arrivals.{TakesNext};
-ghost use Rattle.aprs_base.specs.Outside.{IsOutcome, new_link};
-ghost use Rattle.aprs_base.specs.declared.events.Event.TheVariants.{Ended, Stop};
+ghost use Rattle.std.specs.Prelude.{◌≡◌, ◌<◌, OnOk, OnErr, IfOk, length};
+ghost use Rattle.aprs_base.specs.Outside.{IsOutcome};
+ghost use Rattle.mio_wire.specs.Arrivals.{IsArrival, Steps, after_sent, forgotten};
+ghost use Rattle.mio_wire.specs.Linked.{dropped, numbers, without};
 
-use crate::inbox::{Inbox, MOST_READ};
-use crate::links::{Link, place_of, write_on};
+use crate::inbox::Inbox;
+use crate::links::{Links, Reading};
 use crate::turns::{FIRST_EAR, Ready, Turns};
 use aprs_base::{Addr, Chunk, Event, Sent, WireError};
-use mio::net::TcpListener;
+use mio::net::{TcpListener, TcpStream};
 use mio::{Events, Interest, Poll, Token};
 use std::alloc::{AllocError, Global};
 use std::io::{self, ErrorKind};
@@ -34,11 +34,9 @@ struct Ear {
 
 #[derive(Drop)]
 pub(crate) struct Sockets {
-    alloc: Global,
     poll: Poll,
     events: Events,
     ears: Vec<Ear>,
-    links: Vec<Link>,
     turns: Turns,
     inbox: Inbox,
     /// Deaf ears are to be tried again.
@@ -72,11 +70,9 @@ impl Sockets {
             return Err(WireError::Failed);
         };
         Ok(Sockets {
-            alloc,
             poll,
             events,
             ears: Vec::new(alloc),
-            links: Vec::new(alloc),
             turns: Turns::new(alloc),
             inbox,
             retry: false,
@@ -159,34 +155,40 @@ impl Sockets {
         self.turns.current().is_some()
     }
 
-    /// Serves the source whose turn it is. `next` is the number of the next link, where there is one.
-    pub(crate) fn serve(&mut self, next: Option<u32>) -> Result<Option<Event>, AllocError>
-        ensures { IfOk result (λ o. IfSome o (λ e. TakesNext next e × (e ≢ Stop))) }
+    /// Serves the source whose turn it is.
+    pub(crate) fn serve(&mut self, links: &mut Links) -> Result<Option<Event>, AllocError>
+        ensures steps { IfOk result (Steps (numbers links.old.list.items) (numbers links.new.list.items) links.old.made links.new.made) }
+        ensures arrival { IfOk result IsArrival }
+        ensures err { OnErr result ((numbers links.new.list.items ≡ numbers links.old.list.items) × (links.new.made ≡ links.old.made)) }
     {
         let Some(ready) = self.turns.current() else {
             return Ok(None);
         };
         match u32::try_from(ready.token) {
-            Ok(number) => self.serve_link(number, ready),
-            Err(_) => self.serve_ear(ready.token.saturating_sub(FIRST_EAR), next),
+            Ok(number) => self.serve_link(links, number, ready),
+            Err(_) => self.serve_ear(links, ready.token.saturating_sub(FIRST_EAR)),
         }
     }
 
     /// Opens a link, or goes on where none waits.
-    fn serve_ear(&mut self, place: usize, next: Option<u32>) -> Result<Option<Event>, AllocError>
-        ensures { IfOk result (λ o. IfSome o (λ e. TakesNext next e × (e ≢ Stop))) }
+    fn serve_ear(&mut self, links: &mut Links, place: usize) -> Result<Option<Event>, AllocError>
+        ensures steps { IfOk result (Steps (numbers links.old.list.items) (numbers links.new.list.items) links.old.made links.new.made) }
+        ensures arrival { IfOk result IsArrival }
+        ensures err { OnErr result ((numbers links.new.list.items ≡ numbers links.old.list.items) × (links.new.made ≡ links.old.made)) }
     {
-        let opened = self.open_link(place, next)?;
+        let opened = self.open_link(links, place)?;
         if opened.is_none() {
             self.turns.advance();
         }
         Ok(opened)
     }
 
-    fn open_link(&mut self, place: usize, next: Option<u32>) -> Result<Option<Event>, AllocError>
-        ensures { IfOk result (λ o. IfSome o (λ e. TakesNext next e × (e ≢ Stop))) }
+    fn open_link(&mut self, links: &mut Links, place: usize) -> Result<Option<Event>, AllocError>
+        ensures steps { IfOk result (Steps (numbers links.old.list.items) (numbers links.new.list.items) links.old.made links.new.made) }
+        ensures arrival { IfOk result IsArrival }
+        ensures err { OnErr result ((numbers links.new.list.items ≡ numbers links.old.list.items) × (links.new.made ≡ links.old.made)) }
     {
-        let Some(number) = next else {
+        let Some(number) = links.made.checked_add(1) else {
             return Ok(None);
         };
         let Some(ear) = self.ears.get_mut(place) else {
@@ -198,10 +200,10 @@ impl Sockets {
             return Ok(None);
         }
         match accept(&self.poll, &ear.listener, number) {
-            Ok((link, from)) => {
+            Ok((stream, from)) => {
                 ear.opened += 1;
                 let listener = ear.number;
-                self.links.push(link)?;
+                links.add(stream)?;
                 Ok(Some(Event::Opened {
                     listener,
                     link: number,
@@ -216,106 +218,100 @@ impl Sockets {
     }
 
     /// Says that a link has room again, or reads what it brings.
-    fn serve_link(&mut self, number: u32, ready: Ready) -> Result<Option<Event>, AllocError>
-        ensures { IfOk result (λ o. IfSome o (λ e. (new_link e ≡ None) × (e ≢ Stop))) }
+    fn serve_link(
+        &mut self,
+        links: &mut Links,
+        number: u32,
+        ready: Ready,
+    ) -> Result<Option<Event>, AllocError>
+        ensures steps { IfOk result (Steps (numbers links.old.list.items) (numbers links.new.list.items) links.old.made links.new.made) }
+        ensures arrival { IfOk result IsArrival }
+        ensures err { OnErr result ((numbers links.new.list.items ≡ numbers links.old.list.items) × (links.new.made ≡ links.old.made)) }
     {
-        let Some(place) = place_of(self.links.as_slice(), number) else {
+        let Some(place) = links.place_of(number) else {
             self.turns.advance();
             return Ok(None);
         };
-        let link = &mut self.links[place];
-        link.closed = link.closed || ready.closed;
-        if ready.writable && link.blocked {
-            link.blocked = false;
+        if links.note(place, ready) {
             return Ok(Some(Event::Room(number)));
         }
-        let waits = link.later && !ready.again;
         self.turns.advance();
-        if waits || !ready.readable {
+        if !ready.readable || (links.is_later(place) && !ready.again) {
             return Ok(None);
         }
-        self.read(place, number)
+        self.read(links, place, number)
     }
 
     /// Reads once from a link, which has another turn where more may be there.
-    fn read(&mut self, place: usize, number: u32) -> Result<Option<Event>, AllocError>
-        requires { place < length self.old.links.items }
-        ensures { IfOk result (λ o. IfSome o (λ e. (new_link e ≡ None) × (e ≢ Stop))) }
+    fn read(
+        &mut self,
+        links: &mut Links,
+        place: usize,
+        number: u32,
+    ) -> Result<Option<Event>, AllocError>
+        requires { place < length links.old.list.items }
+        ensures steps { IfOk result (Steps (numbers links.old.list.items) (numbers links.new.list.items) links.old.made links.new.made) }
+        ensures arrival { IfOk result IsArrival }
+        ensures err { OnErr result ((numbers links.new.list.items ≡ numbers links.old.list.items) × (links.new.made ≡ links.old.made)) }
     {
-        let link = &mut self.links[place];
-        let more = match self.inbox.fill(number, &mut link.stream) {
-            Ok(0) => return Ok(Some(self.end(place, number))),
-            Ok(count) => count == MOST_READ || link.closed,
-            Err(error) if error.kind() == ErrorKind::WouldBlock => false,
-            Err(error) if error.kind() == ErrorKind::Interrupted => true,
-            Err(_) => return Ok(Some(self.end(place, number))),
-        };
-        link.later = more;
-        if more {
-            self.turns.put_off(Ready::to_read(number as usize))?;
+        match links.read(place, &mut self.inbox) {
+            Reading::End => {
+                self.let_go(links, number);
+                Ok(Some(Event::Ended(number)))
+            }
+            Reading::More => {
+                self.turns.put_off(Ready::to_read(number as usize))?;
+                Ok(None)
+            }
+            Reading::All => Ok(None),
         }
-        Ok(None)
-    }
-
-    fn end(&mut self, place: usize, number: u32) -> Event
-        requires { place < length self.old.links.items }
-        ensures { result ≡ Ended number }
-    {
-        self.let_go(place, number);
-        Event::Ended(number)
     }
 
     /// Lets go a link with what it brought.
-    fn let_go(&mut self, place: usize, number: u32)
-        requires { place < length self.old.links.items }
+    pub(crate) fn let_go(&mut self, links: &mut Links, number: u32)
+        ensures links { (links.new.list.items ≡ without number links.old.list.items) × (links.new.made ≡ links.old.made) }
+        ensures numbers { numbers links.new.list.items ≡ dropped number (numbers links.old.list.items) }
+        ensures others { without number links.new.list.items ≡ without number links.old.list.items }
+        ensures inbox { self.new.inbox ≡ forgotten number self.old.inbox }
     {
-        self.links.remove(place);
+        links.let_go(number);
         self.inbox.forget(number);
         self.retry = true;
     }
 
     /// Offers bytes to a link.
-    pub(crate) fn send(&mut self, number: u32, bytes: &[u8]) -> Result<Sent, AllocError>
-        ensures { IfOk result (IsOutcome bytes.now) }
+    pub(crate) fn send(
+        &mut self,
+        links: &mut Links,
+        number: u32,
+        bytes: &[u8],
+    ) -> Result<Sent, AllocError>
+        ensures part { IfOk result (IsOutcome bytes.now) }
+        ensures made { links.new.made ≡ links.old.made }
+        ensures numbers { OnOk result (numbers links.new.list.items ≡ after_sent result number (numbers links.old.list.items)) }
+        ensures others { without number links.new.list.items ≡ without number links.old.list.items }
     {
-        let Some(place) = place_of(self.links.as_slice(), number) else {
+        let Some(place) = links.place_of(number) else {
             return Ok(Sent::Gone);
         };
-        let link = &mut self.links[place];
-        let Some(written) = write_on(&mut link.stream, bytes) else {
-            self.let_go(place, number);
+        let Some(written) = links.write(place, bytes) else {
+            self.let_go(links, number);
             return Ok(Sent::Gone);
         };
-        if written.taken < bytes.len() {
-            link.blocked = true;
-            if !written.full {
-                self.turns.put_off(Ready::to_write(number as usize))?;
-            }
+        if written.taken < bytes.len() && !written.full {
+            self.turns.put_off(Ready::to_write(number as usize))?;
         }
         Ok(Sent::Took(written.taken))
     }
-
-    pub(crate) fn close(&mut self, number: u32) {
-        if let Some(place) = place_of(self.links.as_slice(), number) {
-            self.let_go(place, number);
-        }
-    }
 }
 
-/// The link that waits at a listener, watched by the poll, and where it comes from.
-fn accept(poll: &Poll, listener: &TcpListener, number: u32) -> io::Result<(Link, Addr)> {
+/// The stream of the link that waits at a listener, watched by the poll, and where it comes from.
+fn accept(poll: &Poll, listener: &TcpListener, number: u32) -> io::Result<(TcpStream, Addr)> {
     let (mut stream, from) = listener.accept()?;
     // A link works without it.
     let _ = stream.set_nodelay(true);
     let interest = Interest::READABLE | Interest::WRITABLE;
     poll.registry()
         .register(&mut stream, Token(number as usize), interest)?;
-    let link = Link {
-        number,
-        stream,
-        later: false,
-        closed: false,
-        blocked: false,
-    };
-    Ok((link, addr_of(from)))
+    Ok((stream, addr_of(from)))
 }

@@ -89,7 +89,7 @@ fn meet<R: Net<Stream = TcpStream>, W: Wire>(
 
 /// Says a line, and hears its answer.
 fn greet<R: Net>(rt: &R) -> io::Result<bool> {
-    let mut stream = TcpStream::connect(rt, "127.0.0.1:47101")?;
+    let mut stream = TcpStream::connect(rt, "127.0.0.1:24001")?;
     stream.write_all(b"hello\r\n")?;
     let mut answer = [0; 4];
     stream.read_exact(&mut answer)?;
@@ -108,7 +108,7 @@ fn answers<W: Wire>(wire: &mut W) -> bool {
 #[test]
 fn serves_a_link_and_stops(rt: HostRuntime) -> Result<(), Fail> {
     let mut wire = MioWire::new(&rt, rt.alloc(), Some(1));
-    let _ = listens(&mut wire, 3, PortKind::Full, 47101);
+    let _ = listens(&mut wire, 3, PortKind::Full, 24001);
     let handle = rt.clone()?;
     let client = thread::spawn(&rt, move || greet(&handle))?;
     let served = answers(&mut wire);
@@ -145,16 +145,16 @@ fn is_closed<W: Wire>(wire: &mut W, client: &mut TcpStream) -> io::Result<bool> 
 
 /// One link after the other ends, and the others go on.
 fn end_apart<R: Net<Stream = TcpStream>, W: Wire>(rt: &R, wire: &mut W) -> io::Result<bool> {
-    let mut first = meet(rt, wire, 1, "127.0.0.1:47102")?;
-    let second = meet(rt, wire, 2, "127.0.0.1:47102")?;
-    let mut third = meet(rt, wire, 3, "127.0.0.1:47102")?;
+    let mut first = meet(rt, wire, 1, "127.0.0.1:24002")?;
+    let second = meet(rt, wire, 2, "127.0.0.1:24002")?;
+    let mut third = meet(rt, wire, 3, "127.0.0.1:24002")?;
     Ok(hears_on(wire, &mut first)? && resets(wire, second)? && is_closed(wire, &mut third)?)
 }
 
 #[test]
 fn keeps_links_apart(rt: HostRuntime) {
     let mut wire = MioWire::new(&rt, rt.alloc(), None);
-    let _ = listens(&mut wire, 0, PortKind::Igate, 47102);
+    let _ = listens(&mut wire, 0, PortKind::Igate, 24002);
     assert!(rt; matches!(end_apart(&rt, &mut wire), Ok(true)));
 }
 
@@ -176,7 +176,7 @@ fn reads_late<R: Net<Stream = TcpStream>, W: Wire>(
     wire: &mut W,
     bytes: &mut [u8],
 ) -> io::Result<bool> {
-    let mut client = meet(rt, wire, 1, "127.0.0.1:47103")?;
+    let mut client = meet(rt, wire, 1, "127.0.0.1:24003")?;
     let _ = next(wire);
     for _ in 0..whole_offers(wire, bytes) {
         client.read_exact(bytes)?;
@@ -188,7 +188,7 @@ fn reads_late<R: Net<Stream = TcpStream>, W: Wire>(
 fn says_when_there_is_room(rt: HostRuntime) -> Result<(), Fail> {
     let mut bytes = Vec::from_elem(rt.alloc(), b'z', 65_536)?;
     let mut wire = MioWire::new(&rt, rt.alloc(), None);
-    let _ = listens(&mut wire, 0, PortKind::Only, 47103);
+    let _ = listens(&mut wire, 0, PortKind::Only, 24003);
     assert!(rt; matches!(reads_late(&rt, &mut wire, bytes.as_mut_slice()), Ok(true)));
     Ok(())
 }
@@ -212,8 +212,8 @@ fn flood<R: Net<Stream = TcpStream>, W: Wire>(
     wire: &mut W,
     lines: &[u8],
 ) -> io::Result<(usize, bool)> {
-    let mut first = meet(rt, wire, 1, "127.0.0.1:47104")?;
-    let mut second = meet(rt, wire, 2, "127.0.0.1:47104")?;
+    let mut first = meet(rt, wire, 1, "127.0.0.1:24004")?;
+    let mut second = meet(rt, wire, 2, "127.0.0.1:24004")?;
     let _ = next(wire);
     first.set_nonblocking(true)?;
     first.write(lines)?;
@@ -225,7 +225,7 @@ fn flood<R: Net<Stream = TcpStream>, W: Wire>(
 fn a_flood_keeps_nobody_waiting(rt: HostRuntime) -> Result<(), Fail> {
     let lines = Vec::from_elem(rt.alloc(), b'\n', 200_000)?;
     let mut wire = MioWire::new(&rt, rt.alloc(), None);
-    let _ = listens(&mut wire, 0, PortKind::Full, 47104);
+    let _ = listens(&mut wire, 0, PortKind::Full, 24004);
     // One read of at most 65,536 bytes in pieces of 1,460, and a tick after each, since each has more than 400 line ends.
     assert!(rt; matches!(flood(&rt, &mut wire, lines.as_slice()), Ok((1..=45, true))));
     Ok(())
@@ -233,9 +233,9 @@ fn a_flood_keeps_nobody_waiting(rt: HostRuntime) -> Result<(), Fail> {
 
 /// What no second listener can do, and what is not built.
 fn refuses<W: Wire>(wire: &mut W) -> bool {
-    listens(wire, 0, PortKind::Dupe, 47105) == Ok(())
-        && listens(wire, 1, PortKind::Full, 47105) == Err(WireError::Failed)
-        && listens(wire, 2, PortKind::Submit, 47106) == Err(WireError::Failed)
+    listens(wire, 0, PortKind::Dupe, 24005) == Ok(())
+        && listens(wire, 1, PortKind::Full, 24005) == Err(WireError::Failed)
+        && listens(wire, 2, PortKind::Submit, 24006) == Err(WireError::Failed)
 }
 
 /// A dial's answer.

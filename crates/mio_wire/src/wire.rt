@@ -1,12 +1,16 @@
 //! The wire over the sockets of the system.
-ghost use Rattle.std.specs.Prelude.{◌≡◌, ℕ, ◌+◌, ◌≤◌, ◌≢◌, ◌++◌, [], ◌∷◌, Some, None, Ok, false, IsTrue, OnOk, OnErr, IfOk, IfSome, IsErrOf};
-ghost use Rattle.aprs_base.specs.Outside.{AfterAct, AfterNext, CountsLink, Rose, new_link, with_dial};
-ghost use Rattle.aprs_base.specs.declared.events.Event.TheVariants.{Stop, Tick};
+ghost use Rattle.std.specs.Prelude.{◌≡◌, ℕ, ◌+◌, ◌-◌, ◌^◌, ◌≤◌, ◌++◌, [], ◌∷◌, None, true, false, min, option_map, OnOk, OnErr, IfOk, IfSome, IsErrOf};
+ghost use Rattle.aprs_base.specs.Outside.{AfterAct, AfterListen, AfterNext, AfterSend, IsOutcome, Rose, with_cast, with_closed, with_dial};
+ghost use Rattle.aprs_base.specs.declared.events.Event.TheVariants.{Tick};
 ghost use Rattle.aprs_base.specs.declared.events.WireError.TheVariants as WireError;
-ghost use Rattle.mio_wire.specs.Pacing.{ComesNext, StepGives, has_stopped, is_full, is_tick};
-ghost use Rattle.mio_wire.specs.Arrivals.{CountsStep, TakesNext, counts, next_number};
+ghost use Rattle.mio_wire.specs.Pacing.{is_due, rested};
+ghost use Rattle.mio_wire.specs.Coming.{ComesNext, StepGives, after_event, after_offer};
+ghost use Rattle.mio_wire.specs.Linked.{numbers, numbers_after, without};
+ghost use Rattle.mio_wire.specs.Arrivals.{IsArrival, Steps, after_sent, counts, gones_after};
+ghost use Rattle.mio_wire.specs.Waiting.{forgotten_of, waiting};
 
-use crate::pace::Pace;
+use crate::course::Course;
+use crate::links::Links;
 use crate::sockets::Sockets;
 use aprs_base::{Addr, Event, ListenSpec, Memory, PortKind, Sent, UplinkSpec, Wire, WireError};
 use std::alloc::Global;
@@ -23,49 +27,32 @@ use std::time::{Clock, Duration, SystemTime};
 pub struct MioWire<'a, R: Net + Clock> {
     rt: &'a R,
     alloc: Global,
-    stop_after: Option<u32>,
     sockets: Option<Sockets>,
+    links: Links,
     /// Uplinks that were dialled and are not answered.
     dialled: Vec<u16>,
-    pace: Pace,
-    /// The moment of the last tick.
-    second: Option<u64>,
-    ended: u32,
+    course: Course,
     stops: u64,
     gones: u64,
-    made: u32,
-}
-
-/// The number of the link that an event brings.
-fn new_link_of(event: &Event) -> Option<u32>
-    ensures { result ≡ new_link event.now }
-{
-    match event {
-        Event::Opened { link, .. } | Event::Joined { link, .. } => Some(*link),
-        _ => None,
-    }
 }
 
 impl<'a, R: Net + Clock> MioWire<'a, R> {
     /// A wire that gives a stop once it has given so many ends of links, where a number is given. It takes no memory and
     /// opens nothing until it is called.
     pub fn new(rt: &'a R, alloc: Global, stop_after: Option<u32>) -> MioWire<'a, R>
-        ensures counts { (result.stops ≡ 0) × (result.gones ≡ 0) × (result.made ≡ 0) × (result.ended ≡ 0) }
-        ensures opens { (result.sockets ≡ None) × (result.dialled.items ≡ []) × (result.second ≡ None) }
-        ensures stop { result.stop_after ≡ stop_after }
+        ensures counts { (result.stops ≡ 0) × (result.gones ≡ 0) × (result.links.made ≡ 0) }
+        ensures opens { (result.sockets ≡ None) × (result.links.list.items ≡ []) × (result.dialled.items ≡ []) }
+        ensures course { result.course ≡ record { stop_after = stop_after; second = None; ended = 0; pace = rested } }
     {
         MioWire {
             rt,
             alloc,
-            stop_after,
             sockets: None,
+            links: Links::new(alloc),
             dialled: Vec::new(alloc),
-            pace: Pace::rested(),
-            second: None,
-            ended: 0,
+            course: Course::new(stop_after),
             stops: 0,
             gones: 0,
-            made: 0,
         }
     }
 
@@ -73,8 +60,7 @@ impl<'a, R: Net + Clock> MioWire<'a, R> {
     fn refuse(&mut self, error: WireError) -> WireError
         ensures same { result ≡ error }
         ensures stops { (self.old.stops ≤ self.new.stops) × (error ≡ WireError.Failed → Rose self.old.stops self.new.stops) }
-        ensures others { (self.new.gones ≡ self.old.gones) × (self.new.made ≡ self.old.made) }
-        ensures kept { (self.new.second ≡ self.old.second) × (self.new.stop_after ≡ self.old.stop_after) × (self.new.ended ≡ self.old.ended) × (self.new.pace ≡ self.old.pace) }
+        ensures kept { self.new ≡ record self.old { stops = self.new.stops } }
     {
         if error == WireError::Failed {
             self.stops = self.stops.saturating_add(1);
@@ -85,8 +71,7 @@ impl<'a, R: Net + Clock> MioWire<'a, R> {
     /// The sockets, which are opened at the first call that needs them.
     fn open(&mut self) -> Result<(), WireError>
         ensures stops { (self.old.stops ≤ self.new.stops) × (IsErrOf result WireError.Failed → Rose self.old.stops self.new.stops) }
-        ensures others { (self.new.gones ≡ self.old.gones) × (self.new.made ≡ self.old.made) }
-        ensures kept { (self.new.second ≡ self.old.second) × (self.new.stop_after ≡ self.old.stop_after) × (self.new.ended ≡ self.old.ended) × (self.new.pace ≡ self.old.pace) }
+        ensures kept { self.new ≡ record self.old { sockets = self.new.sockets; stops = self.new.stops } }
     {
         if self.sockets.is_none() {
             match Sockets::open(self.rt, self.alloc) {
@@ -102,40 +87,20 @@ impl<'a, R: Net + Clock> MioWire<'a, R> {
         SystemTime::now(self.rt)
             .ok()
             .and_then(|now| now.duration_since(SystemTime::UNIX_EPOCH).ok())
-            .unwrap_or(Duration::from_secs(self.second.unwrap_or(0)))
+            .unwrap_or(Duration::from_secs(self.course.second.unwrap_or(0)))
     }
 
-    fn tick_now(&mut self) -> Event
-        ensures event { (new_link result ≡ None) × IsTrue (is_tick result) }
-        ensures counts { (self.new.stops ≡ self.old.stops) × (self.new.gones ≡ self.old.gones) × (self.new.made ≡ self.old.made) }
-    {
-        let moment = self.clock().as_secs();
-        self.tick(moment)
-    }
-
+    /// A tick. In a new second, listeners that failed to open a link try again.
     fn tick(&mut self, moment: u64) -> Event
         ensures event { result ≡ Tick moment }
-        ensures anew { (self.new.second ≡ Some moment) × (self.new.pace ≡ record { handed = false; lines = 0; bytes = 0; whole = false }) }
-        ensures counts { (self.new.stops ≡ self.old.stops) × (self.new.gones ≡ self.old.gones) × (self.new.made ≡ self.old.made) }
+        ensures kept { self.new ≡ record self.old { sockets = self.new.sockets } }
     {
-        if self.second != Some(moment) {
+        if self.course.second != Some(moment) {
             if let Some(sockets) = &mut self.sockets {
                 sockets.retry();
             }
         }
-        self.second = Some(moment);
-        self.pace = Pace::rested();
         Event::Tick(moment)
-    }
-
-    /// Whether as many links ended as were asked for.
-    fn is_stopped(&self) -> bool
-        ensures { result ≡ has_stopped self.now.stop_after self.now.ended }
-    {
-        match self.stop_after {
-            Some(count) => self.ended >= count,
-            None => false,
-        }
     }
 
     /// Whether something has come that is not handed up, or not looked at.
@@ -149,79 +114,74 @@ impl<'a, R: Net + Clock> MioWire<'a, R> {
 
     /// The next thing to hand up of what has come: bytes that were read, a dial's answer, or what a socket has.
     fn arrived(&mut self) -> Result<Option<Event>, WireError>
-        ensures made { IfOk result (CountsStep self.old.made self.new.made) }
-        ensures err { OnErr result (self.new.made ≡ self.old.made) }
+        ensures steps { IfOk result (Steps (numbers self.old.links.list.items) (numbers self.new.links.list.items) self.old.links.made self.new.links.made) }
+        ensures arrival { IfOk result IsArrival }
+        ensures err { OnErr result ((numbers self.new.links.list.items ≡ numbers self.old.links.list.items) × (self.new.links.made ≡ self.old.links.made)) }
         ensures memory { IsErrOf result WireError.Failed → ⊥ }
-        ensures others { (self.new.stops ≡ self.old.stops) × (self.new.gones ≡ self.old.gones) }
-        ensures no_stop { IfOk result (λ o. IfSome o (λ e. e ≢ Stop)) }
-        ensures kept { result ≡ Ok None → (self.new.second ≡ self.old.second) × (self.new.stop_after ≡ self.old.stop_after) × (self.new.ended ≡ self.old.ended) × (self.new.pace ≡ self.old.pace) }
+        ensures kept { (self.new.stops ≡ self.old.stops) × (self.new.gones ≡ self.old.gones) × (self.new.course ≡ self.old.course) }
     {
         let Some(sockets) = &mut self.sockets else {
             return Ok(None);
         };
         if let Some((link, bytes)) = sockets.take_chunk() {
-            self.pace.note_bytes(bytes.bytes());
             return Ok(Some(Event::Bytes(link, bytes)));
         }
-        let event = match self.dialled.pop() {
-            Some(uplink) => Some(Event::Unjoined(uplink)),
-            None => sockets.serve(self.made.checked_add(1))?,
-        };
-        if let Some(event) = &event {
-            self.note(event);
+        if let Some(uplink) = self.dialled.pop() {
+            return Ok(Some(Event::Unjoined(uplink)));
         }
-        Ok(event)
-    }
-
-    /// Counts an event that is handed up.
-    fn note(&mut self, event: &Event)
-        requires { TakesNext (next_number self.old.made) event.now }
-        ensures made { CountsLink (new_link event.now) self.old.made self.new.made }
-        ensures others { (self.new.stops ≡ self.old.stops) × (self.new.gones ≡ self.old.gones) }
-    {
-        self.pace.note_event();
-        if let Some(link) = new_link_of(event) {
-            self.made = link;
-        }
-        if let Event::Ended(_) = event {
-            self.ended = self.ended.saturating_add(1);
-        }
+        Ok(sockets.serve(&mut self.links)?)
     }
 
     /// The next event, or none where it took a step towards it.
     fn step(&mut self) -> Result<Option<Event>, WireError>
-        ensures made { IfOk result (CountsStep self.old.made self.new.made) }
-        ensures err { OnErr result (self.new.made ≡ self.old.made) }
+        ensures steps { IfOk result (Steps (numbers self.old.links.list.items) (numbers self.new.links.list.items) self.old.links.made self.new.links.made) }
+        ensures gives { IfOk result (StepGives self.old.course) }
+        ensures err { OnErr result ((numbers self.new.links.list.items ≡ numbers self.old.links.list.items) × (self.new.links.made ≡ self.old.links.made)) }
         ensures stops { (self.old.stops ≤ self.new.stops) × (IsErrOf result WireError.Failed → Rose self.old.stops self.new.stops) }
-        ensures gones { self.new.gones ≡ self.old.gones }
-        ensures gives { IfOk result (StepGives self.old.second (has_stopped self.old.stop_after self.old.ended) (is_full self.old.pace)) }
-        ensures kept { result ≡ Ok None → (self.new.second ≡ self.old.second) × (self.new.stop_after ≡ self.old.stop_after) × (self.new.ended ≡ self.old.ended) × (self.new.pace ≡ self.old.pace) }
+        ensures kept { (self.new.gones ≡ self.old.gones) × (self.new.course ≡ self.old.course) }
     {
-        let Some(second) = self.second else {
-            return Ok(Some(self.tick_now()));
+        let Some(second) = self.course.second else {
+            let now = self.clock();
+            return Ok(Some(self.tick(now.as_secs())));
         };
-        if self.is_stopped() {
+        if self.course.is_stopped() {
             return Ok(Some(Event::Stop));
         }
-        if self.pace.is_full() {
-            return Ok(Some(self.tick_now()));
+        if self.course.pace.is_full() {
+            let now = self.clock();
+            return Ok(Some(self.tick(now.as_secs())));
         }
         if self.has_arrived() {
             return self.arrived();
         }
         let now = self.clock();
-        if self.pace.is_due() || now.as_secs() != second {
+        if self.course.pace.is_due() || now.as_secs() != second {
             return Ok(Some(self.tick(now.as_secs())));
         }
         self.wait(now)?;
         Ok(None)
     }
 
+    /// Offers bytes to a link, which is let go where it is gone.
+    fn offer(&mut self, link: u32, bytes: &[u8]) -> Result<Sent, Memory>
+        ensures part { IfOk result (IsOutcome bytes.now) }
+        ensures links { OnOk result (numbers self.new.links.list.items ≡ after_sent result link (numbers self.old.links.list.items)) }
+        ensures others { without link self.new.links.list.items ≡ without link self.old.links.list.items }
+        ensures made { self.new.links.made ≡ self.old.links.made }
+        ensures kept { self.new ≡ record self.old { sockets = self.new.sockets; links = self.new.links } }
+    {
+        let Some(sockets) = &mut self.sockets else {
+            self.links.let_go(link);
+            return Ok(Sent::Gone);
+        };
+        Ok(sockets.send(&mut self.links, link, bytes)?)
+    }
+
     /// Waits for the sockets, but not beyond the second that `now` is in.
     fn wait(&mut self, now: Duration) -> Result<(), WireError>
+        requires { is_due self.old.course.pace ≡ false }
         ensures stops { (self.old.stops ≤ self.new.stops) × (IsErrOf result WireError.Failed → Rose self.old.stops self.new.stops) }
-        ensures others { (self.new.gones ≡ self.old.gones) × (self.new.made ≡ self.old.made) }
-        ensures kept { (self.new.second ≡ self.old.second) × (self.new.stop_after ≡ self.old.stop_after) × (self.new.ended ≡ self.old.ended) × (self.new.pace ≡ self.old.pace) }
+        ensures kept { self.new ≡ record self.old { sockets = self.new.sockets; stops = self.new.stops } }
     {
         let left = 1000u64.saturating_sub(u64::from(now.subsec_millis()));
         let Some(sockets) = &mut self.sockets else {
@@ -243,10 +203,13 @@ fn takes_links(kind: PortKind) -> bool {
 }
 
 impl<'a, R: Net + Clock + Wait> Wire for MioWire<'a, R> {
-    ghost shown = { λ w. counts w.stops w.gones w.made };
+    ghost shown = { λ w. counts w.stops w.gones w.links.made };
 
     /// Listens over TCP. Listeners for datagrams are not built: they are `Failed`.
-    fn listen(&mut self, n: u16, spec: &ListenSpec) -> Result<(), WireError> {
+    fn listen(&mut self, n: u16, spec: &ListenSpec) -> Result<(), WireError>
+        ensures listen { AfterListen (counts self.old.stops self.old.gones self.old.links.made) (counts self.new.stops self.new.gones self.new.links.made) n spec.now result }
+        ensures kept { self.new ≡ record self.old { sockets = self.new.sockets; stops = self.new.stops } }
+    {
         self.open()?;
         let listened = match &mut self.sockets {
             Some(sockets) if takes_links(spec.kind) => sockets.listen(self.rt, n, spec.at),
@@ -259,48 +222,66 @@ impl<'a, R: Net + Clock + Wait> Wire for MioWire<'a, R> {
     }
 
     fn next(&mut self) -> Result<Event, WireError>
-        ensures next { AfterNext (counts self.old.stops self.old.gones self.old.made) (counts self.new.stops self.new.gones self.new.made) result }
-        ensures comes { IfOk result (ComesNext self.old.second (has_stopped self.old.stop_after self.old.ended) (is_full self.old.pace)) }
+        ensures next { AfterNext (counts self.old.stops self.old.gones self.old.links.made) (counts self.new.stops self.new.gones self.new.links.made) result }
+        ensures comes { IfOk result (ComesNext self.old.course) }
+        ensures course { IfOk result (λ e. self.new.course ≡ after_event e self.old.course) }
+        ensures links { IfOk result (λ e. numbers self.new.links.list.items ≡ numbers_after e (numbers self.old.links.list.items)) }
+        ensures err { OnErr result ((self.new.course ≡ self.old.course) × (numbers self.new.links.list.items ≡ numbers self.old.links.list.items)) }
     {
         self.open()?;
         for _ in self.rt.forever() {
             if let Some(event) = self.step()? {
+                self.course.note(&event);
                 return Ok(event);
             }
         }
         unreachable!()
     }
 
-    fn send(&mut self, link: u32, bytes: &[u8]) -> Result<Sent, Memory> {
-        let sent = match &mut self.sockets {
-            Some(sockets) => sockets.send(link, bytes)?,
-            None => Sent::Gone,
-        };
+    fn send(&mut self, link: u32, bytes: &[u8]) -> Result<Sent, Memory>
+        ensures send { AfterSend (counts self.old.stops self.old.gones self.old.links.made) (counts self.new.stops self.new.gones self.new.links.made) link bytes.now result }
+        ensures course { self.new.course ≡ after_offer result self.old.course }
+        ensures gones { self.new.gones ≡ gones_after result self.old.gones }
+        ensures links { OnOk result (numbers self.new.links.list.items ≡ after_sent result link (numbers self.old.links.list.items)) }
+        ensures others { without link self.new.links.list.items ≡ without link self.old.links.list.items }
+        ensures dials { self.new.dialled ≡ self.old.dialled }
+    {
+        let sent = self.offer(link, bytes)?;
         match sent {
-            Sent::Took(count) => self.pace.note_taken(count),
+            Sent::Took(count) => self.course.pace.note_taken(count),
             Sent::Gone => self.gones = self.gones.saturating_add(1),
         }
         Ok(sent)
     }
 
-    fn close(&mut self, link: u32) -> Result<(), Memory> {
-        if let Some(sockets) = &mut self.sockets {
-            sockets.close(link);
+    fn close(&mut self, link: u32) -> Result<(), Memory>
+        ensures close { AfterAct (counts self.old.stops self.old.gones self.old.links.made) (counts self.new.stops self.new.gones self.new.links.made) (with_closed link) result }
+        ensures links { (self.new.links.list.items ≡ without link self.old.links.list.items) × (self.new.links.made ≡ self.old.links.made) }
+        ensures unread { waiting self.new.sockets ≡ forgotten_of link (waiting self.old.sockets) }
+        ensures kept { self.new ≡ record self.old { sockets = self.new.sockets; links = self.new.links } }
+    {
+        match &mut self.sockets {
+            Some(sockets) => sockets.let_go(&mut self.links, link),
+            None => self.links.let_go(link),
         }
         Ok(())
     }
 
     /// Dials are not built: the answer is `Unjoined`.
     fn dial(&mut self, uplink: u16, spec: &UplinkSpec) -> Result<(), Memory>
-        ensures dial { AfterAct (counts self.old.stops self.old.gones self.old.made) (counts self.new.stops self.new.gones self.new.made) (with_dial uplink spec.now) result }
+        ensures dial { AfterAct (counts self.old.stops self.old.gones self.old.links.made) (counts self.new.stops self.new.gones self.new.links.made) (with_dial uplink spec.now) result }
         ensures answer { OnOk result (self.new.dialled.items ≡ self.old.dialled.items ++ uplink ∷ []) }
+        ensures kept { self.new ≡ record self.old { dialled = self.new.dialled } }
     {
         self.dialled.push(uplink)?;
         Ok(())
     }
 
     /// Datagrams are not built: each is lost.
-    fn cast(&mut self, _peer: u16, _to: Addr, _bytes: &[u8]) -> Result<(), Memory> {
+    fn cast(&mut self, _peer: u16, _to: Addr, _bytes: &[u8]) -> Result<(), Memory>
+        ensures cast { AfterAct (counts self.old.stops self.old.gones self.old.links.made) (counts self.new.stops self.new.gones self.new.links.made) (with_cast _peer _to _bytes.now) result }
+        ensures kept { self.new ≡ self.old }
+    {
         Ok(())
     }
 }

@@ -1,0 +1,10 @@
+use Rattle.std.proofs.Common.{sym, ◌∙◌}
+use Rattle.mio_wire.specs.Linked.{numbers}
+use Rattle.mio_wire.proofs.LinkLemmas.{dropped_none}
+use Rattle.mio_wire.proofs.sockets.Sockets.send.Goals as goal
+
+pub returns-in_default-clause-numbers : goal.returns-in_default-clause-numbers
+returns-in_default-clause-numbers c = sym (dropped_none c.args.number (numbers c.args.links.now.list.items) c.in_default.ensures.none)
+
+pub returns-in_default-write-clause-others : goal.returns-in_default-write-clause-others
+returns-in_default-write-clause-others c = c.let_go.ensures.others ∙ c.write.ensures.others c.args.number c.in-Some.ensures.number
