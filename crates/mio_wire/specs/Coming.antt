@@ -1,10 +1,12 @@
 -- How far a wire has come, and what comes next of it.
-use Rattle.std.specs.Prelude.{◌≡◌, ◌≢◌, ℕ, ◌+◌, ◌-◌, ◌^◌, Bool, true, false, min, nat_le, Option, Some, None, Result, Ok, Err, IsTrue}
+use Rattle.std.specs.Prelude.{◌≡◌, ◌≢◌, ℕ, ◌+◌, ◌-◌, ◌^◌, Bool, true, false, min, nat_le, List, Option, Some, None, Result, Ok, Err, IsTrue}
 use Rattle.aprs_base.specs.declared.events.Event.{Event}
 use Rattle.aprs_base.specs.declared.events.Event.TheVariants as event
 use Rattle.aprs_base.specs.declared.events.Sent.{Sent}
 use Rattle.aprs_base.specs.declared.events.Sent.TheVariants as sent
 use Rattle.mio_wire.specs.declared.course.Course.{Course}
+use Rattle.mio_wire.specs.declared.dials.Dial.{Dial}
+use Rattle.mio_wire.specs.Dialled.{first_dead}
 use Rattle.mio_wire.specs.Pacing.{is_due, is_full, rested, with_bytes, with_event, with_taken}
 
 -- as many links ended as were asked for
@@ -40,24 +42,40 @@ is_arrival (event.Tick moment) = false
 is_arrival event.Stop = false
 is_arrival _ = true
 
--- by the moment of the last tick, whether enough links ended, and what was handed up
-abbrev pub Comes : (last : Option ℕ) (stopped full due : Bool) → Event → Type 0
-Comes None stopped full due e = IsTrue (is_tick e)
-Comes (Some moment) true full due e = e ≡ event.Stop
-Comes (Some moment) false true due e = IsTrue (is_tick e)
-Comes (Some moment) false false true e = e ≢ event.Stop
-Comes (Some moment) false false false e = (e ≢ event.Stop) × (e ≢ event.Tick moment)
+abbrev pub is_mail : Event → Bool
+is_mail (event.Datagram listener from bytes) = true
+is_mail _ = false
 
--- what comes next: a tick before anything else; a stop once enough links ended; a tick where one is due at once; no stop otherwise,
--- and no second tick of a moment where nothing was handed up since the first
-abbrev pub ComesNext : Course → Event → Type 0
-ComesNext course e = Comes course.second (has_stopped course.stop_after course.ended) (is_full course.pace) (is_due course.pace) e
+-- what arrives and is no answer to a dial
+abbrev pub is_unasked : Event → Bool
+is_unasked (event.Joined uplink link at) = false
+is_unasked (event.Unjoined uplink) = false
+is_unasked e = is_arrival e
 
--- a step that gives no event is taken only where none is due at once
-abbrev pub Passes : (last : Option ℕ) (stopped full : Bool) → Type 0
-Passes None stopped full = ⊥
-Passes (Some moment) stopped full = (stopped ≡ false) × (full ≡ false)
+-- by the moment of the last tick, whether enough links ended, what was handed up, and the uplink of the first dead dial
+abbrev pub Comes : (last : Option ℕ) (stopped full due : Bool) (dead : Option ℕ) → Event → Type 0
+Comes None stopped full due dead e = IsTrue (is_tick e)
+Comes (Some moment) true full due dead e = e ≡ event.Stop
+Comes (Some moment) false true due dead e = IsTrue (is_tick e)
+Comes (Some moment) false false due (Some uplink) e = e ≡ event.Unjoined uplink
+Comes (Some moment) false false true None e = e ≢ event.Stop
+Comes (Some moment) false false false None e = (e ≢ event.Stop) × (e ≢ event.Tick moment)
 
-abbrev pub StepGives : Course → Option Event → Type 0
-StepGives course (Some e) = ComesNext course e
-StepGives course None = Passes course.second (has_stopped course.stop_after course.ended) (is_full course.pace)
+-- the uplink of the first dial that is dead at the moment of the last tick
+abbrev pub dead_at : Option ℕ → List Dial → Option ℕ
+dead_at None dials = None
+dead_at (Some moment) dials = first_dead moment dials
+
+-- what comes next: a tick before anything else; a stop once enough links ended; a tick where one is due at once; the answer to a dial that
+-- failed or is too old; no stop otherwise, and no second tick of a moment where nothing was handed up since the first
+abbrev pub ComesNext : Course → List Dial → Event → Type 0
+ComesNext course dials e = Comes course.second (has_stopped course.stop_after course.ended) (is_full course.pace) (is_due course.pace) (dead_at course.second dials) e
+
+-- a step that gives no event is taken only where none of these is due
+abbrev pub Passes : (last : Option ℕ) (stopped full : Bool) (dead : Option ℕ) → Type 0
+Passes None stopped full dead = ⊥
+Passes (Some moment) stopped full dead = (stopped ≡ false) × (full ≡ false) × (dead ≡ None)
+
+abbrev pub StepGives : Course → List Dial → Option Event → Type 0
+StepGives course dials (Some e) = ComesNext course dials e
+StepGives course dials None = Passes course.second (has_stopped course.stop_after course.ended) (is_full course.pace) (dead_at course.second dials)

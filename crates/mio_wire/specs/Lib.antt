@@ -1,5 +1,9 @@
 pub mod Pacing
+pub mod Names
+pub mod Dialled
 pub mod Coming
 pub mod Linked
 pub mod Arrivals
+pub mod Mail
+pub mod Sources
 pub mod Waiting

@@ -1,18 +1,23 @@
 //! The poll with the sockets that it watches.
-ghost use Rattle.std.specs.Prelude.{◌≡◌, ◌<◌, OnOk, OnErr, IfOk, length};
+ghost use Rattle.std.specs.Prelude.{◌≡◌, ◌<◌, OnOk, OnErr, IfOk, IfSome, length};
 ghost use Rattle.aprs_base.specs.Outside.{IsOutcome};
-ghost use Rattle.mio_wire.specs.Arrivals.{IsArrival, Steps, after_sent, forgotten};
+ghost use Rattle.mio_wire.specs.Arrivals.{IsArrival, IsMail, IsUnasked, Steps, after_sent, forgotten};
+ghost use Rattle.mio_wire.specs.Dialled.{AnswersStep};
 ghost use Rattle.mio_wire.specs.Linked.{dropped, numbers, without};
+ghost use Rattle.mio_wire.specs.Mail.{caster_after};
 
+use crate::addresses::{addr_of, socket_of};
+use crate::dials::{Dials, Outcome};
 use crate::inbox::Inbox;
 use crate::links::{Links, Reading};
-use crate::turns::{FIRST_EAR, Ready, Turns};
-use aprs_base::{Addr, Chunk, Event, Sent, WireError};
-use mio::net::{TcpListener, TcpStream};
+use crate::mail::{Caster, Mailbox, Received, caster_after, receive};
+use crate::turns::{FIRST_EAR, FIRST_MAILBOX, Ready, Source, Turns, source_of};
+use aprs_base::{Addr, Chunk, Event, ListenSpec, PortKind, Sent, WireError};
+use mio::net::{TcpListener, TcpStream, UdpSocket};
 use mio::{Events, Interest, Poll, Token};
 use std::alloc::{AllocError, Global};
 use std::io::{self, ErrorKind};
-use std::net::{Ipv4Addr, Net, SocketAddr, SocketAddrV4};
+use std::net::Net;
 use std::time::Duration;
 
 /// How many events one poll brings at most.
@@ -21,7 +26,10 @@ const MOST_EVENTS: usize = 512;
 /// How many links one listener opens in a turn.
 const MOST_OPENED: u32 = 64;
 
-/// A listener.
+/// How many datagrams one socket brings in a turn.
+const MOST_DATAGRAMS: u32 = 64;
+
+/// A listener for links.
 #[derive(Drop)]
 struct Ear {
     number: u16,
@@ -37,29 +45,12 @@ pub(crate) struct Sockets {
     poll: Poll,
     events: Events,
     ears: Vec<Ear>,
+    mailboxes: Vec<Mailbox>,
+    caster: Option<Caster>,
     turns: Turns,
     inbox: Inbox,
     /// Deaf ears are to be tried again.
     retry: bool,
-}
-
-/// The address of a socket of IPv4.
-fn socket_of(at: Addr) -> SocketAddr {
-    SocketAddr::V4(SocketAddrV4::new(Ipv4Addr::from(at.ip), at.port))
-}
-
-/// The address that a peer has; that of an IPv6 peer, which no listener of IPv4 has, is left out.
-fn addr_of(socket: SocketAddr) -> Addr {
-    match socket {
-        SocketAddr::V4(at) => Addr {
-            ip: at.ip().octets(),
-            port: at.port(),
-        },
-        SocketAddr::V6(at) => Addr {
-            ip: [0; 4],
-            port: at.port(),
-        },
-    }
 }
 
 impl Sockets {
@@ -73,19 +64,30 @@ impl Sockets {
             poll,
             events,
             ears: Vec::new(alloc),
+            mailboxes: Vec::new(alloc),
+            caster: None,
             turns: Turns::new(alloc),
             inbox,
             retry: false,
         })
     }
 
-    /// Listens at an address for links.
+    /// Listens for links or for datagrams, as a listener of its kind does.
     pub(crate) fn listen<R: Net>(
         &mut self,
         rt: &R,
         number: u16,
-        at: Addr,
+        spec: &ListenSpec,
     ) -> Result<(), WireError> {
+        match spec.kind {
+            PortKind::Full | PortKind::Igate | PortKind::Only | PortKind::Dupe => {
+                self.listen_for_links(rt, number, spec.at)
+            }
+            PortKind::Submit | PortKind::Core => self.listen_for_mail(rt, number, spec),
+        }
+    }
+
+    fn listen_for_links<R: Net>(&mut self, rt: &R, number: u16, at: Addr) -> Result<(), WireError> {
         let Ok(listener) = self.bind(rt, at) else {
             return Err(WireError::Failed);
         };
@@ -107,6 +109,55 @@ impl Sockets {
         Ok(listener)
     }
 
+    fn listen_for_mail<R: Net>(
+        &mut self,
+        rt: &R,
+        number: u16,
+        spec: &ListenSpec,
+    ) -> Result<(), WireError> {
+        let Ok(socket) = self.bind_mailbox(rt, spec.at) else {
+            return Err(WireError::Failed);
+        };
+        let place = self.mailboxes.len();
+        self.mailboxes.push(Mailbox {
+            number,
+            socket,
+            received: 0,
+        })?;
+        self.caster = caster_after(self.caster, spec.kind, number, place);
+        Ok(())
+    }
+
+    fn bind_mailbox<R: Net>(&self, rt: &R, at: Addr) -> io::Result<UdpSocket> {
+        let mut socket = UdpSocket::bind(rt, socket_of(at))?;
+        let token = Token(FIRST_MAILBOX.saturating_add(self.mailboxes.len()));
+        self.poll
+            .registry()
+            .register(&mut socket, token, Interest::READABLE)?;
+        Ok(socket)
+    }
+
+    /// Begins to connect to an address. None where that fails at once.
+    pub(crate) fn connect<R: Net>(&self, rt: &R, at: Addr, token: usize) -> Option<TcpStream> {
+        let mut stream = TcpStream::connect(rt, socket_of(at)).ok()?;
+        let interest = Interest::READABLE | Interest::WRITABLE;
+        self.poll
+            .registry()
+            .register(&mut stream, Token(token), interest)
+            .ok()?;
+        Some(stream)
+    }
+
+    /// Casts a datagram. A lost one is no fault.
+    pub(crate) fn cast(&self, to: Addr, bytes: &[u8]) {
+        let Some(caster) = self.caster else {
+            return;
+        };
+        if let Some(mailbox) = self.mailboxes.get(caster.place) {
+            let _ = mailbox.socket.send_to(bytes, socket_of(to));
+        }
+    }
+
     /// Has deaf listeners tried again in the next turn.
     pub(crate) fn retry(&mut self) {
         self.retry = true;
@@ -115,6 +166,9 @@ impl Sockets {
     /// Waits until something is ready, but not where something waits for another turn, and begins a turn.
     pub(crate) fn wait(&mut self, most: Duration) -> Result<(), WireError> {
         self.wake_ears()?;
+        for mailbox in self.mailboxes.iter_mut() {
+            mailbox.received = 0;
+        }
         let most = if self.turns.has_later() {
             Duration::ZERO
         } else {
@@ -156,24 +210,127 @@ impl Sockets {
     }
 
     /// Serves the source whose turn it is.
-    pub(crate) fn serve(&mut self, links: &mut Links) -> Result<Option<Event>, AllocError>
+    pub(crate) fn serve(
+        &mut self,
+        links: &mut Links,
+        dials: &mut Dials,
+    ) -> Result<Option<Event>, AllocError>
         ensures steps { IfOk result (Steps (numbers links.old.list.items) (numbers links.new.list.items) links.old.made links.new.made) }
+        ensures dials { IfOk result (AnswersStep dials.old.list.items dials.new.list.items) }
         ensures arrival { IfOk result IsArrival }
         ensures err { OnErr result ((numbers links.new.list.items ≡ numbers links.old.list.items) × (links.new.made ≡ links.old.made)) }
     {
         let Some(ready) = self.turns.current() else {
             return Ok(None);
         };
-        match u32::try_from(ready.token) {
-            Ok(number) => self.serve_link(links, number, ready),
-            Err(_) => self.serve_ear(links, ready.token.saturating_sub(FIRST_EAR)),
+        match source_of(ready.token) {
+            Source::Link(number) => self.serve_link(links, number, ready),
+            Source::Ear(place) => self.serve_ear(links, place),
+            Source::Mailbox(place) => self.serve_mailbox(place),
+            Source::Dial(token) => self.serve_dial(links, dials, token, ready),
         }
+    }
+
+    /// Hands up a datagram, or goes on where none waits.
+    fn serve_mailbox(&mut self, place: usize) -> Result<Option<Event>, AllocError>
+        ensures { IfOk result IsMail }
+    {
+        let Some(mailbox) = self.mailboxes.get_mut(place) else {
+            self.turns.advance();
+            return Ok(None);
+        };
+        if mailbox.received >= MOST_DATAGRAMS {
+            self.turns.advance();
+            self.turns
+                .put_off(Ready::to_read(FIRST_MAILBOX.saturating_add(place)))?;
+            return Ok(None);
+        }
+        mailbox.received += 1;
+        match receive(&mailbox.socket) {
+            Received::Datagram(from, bytes) => Ok(Some(Event::Datagram {
+                listener: mailbox.number,
+                from,
+                bytes,
+            })),
+            Received::Dropped => Ok(None),
+            Received::Nothing => {
+                self.turns.advance();
+                Ok(None)
+            }
+        }
+    }
+
+    /// Answers a dial of whose socket the poll told, once its outcome is known.
+    fn serve_dial(
+        &mut self,
+        links: &mut Links,
+        dials: &mut Dials,
+        token: usize,
+        ready: Ready,
+    ) -> Result<Option<Event>, AllocError>
+        ensures steps { IfOk result (Steps (numbers links.old.list.items) (numbers links.new.list.items) links.old.made links.new.made) }
+        ensures dials { IfOk result (AnswersStep dials.old.list.items dials.new.list.items) }
+        ensures arrival { IfOk result IsArrival }
+        ensures err { OnErr result ((numbers links.new.list.items ≡ numbers links.old.list.items) × (links.new.made ≡ links.old.made)) }
+    {
+        self.turns.advance();
+        let Some(place) = dials.place_of(token) else {
+            return Ok(None);
+        };
+        match dials.outcome(place, ready.writable || ready.closed) {
+            Outcome::Waits => Ok(None),
+            Outcome::Joins => self.join(links, dials, place),
+            Outcome::Fails => Ok(Some(dials.give_up(place))),
+        }
+    }
+
+    /// Makes a link of a dial that is connected, where there is a number for it.
+    fn join(
+        &mut self,
+        links: &mut Links,
+        dials: &mut Dials,
+        place: usize,
+    ) -> Result<Option<Event>, AllocError>
+        requires { place < length dials.old.list.items }
+        ensures steps { IfOk result (Steps (numbers links.old.list.items) (numbers links.new.list.items) links.old.made links.new.made) }
+        ensures dials { IfOk result (AnswersStep dials.old.list.items dials.new.list.items) }
+        ensures arrival { IfOk result IsArrival }
+        ensures err { OnErr result ((numbers links.new.list.items ≡ numbers links.old.list.items) × (links.new.made ≡ links.old.made)) }
+    {
+        let Some(number) = links.made.checked_add(1) else {
+            return Ok(Some(dials.give_up(place)));
+        };
+        let dial = dials.take(place);
+        let uplink = dial.uplink;
+        let at = dial.at;
+        let Some(stream) = self.taken_over(dial.stream, number) else {
+            return Ok(Some(Event::Unjoined(uplink)));
+        };
+        links.add(stream)?;
+        Ok(Some(Event::Joined {
+            uplink,
+            link: number,
+            at,
+        }))
+    }
+
+    /// The stream of a dial, watched by the poll as that of a link.
+    fn taken_over(&self, stream: Option<TcpStream>, number: u32) -> Option<TcpStream> {
+        let mut stream = stream?;
+        // A link works without it.
+        let _ = stream.set_nodelay(true);
+        let interest = Interest::READABLE | Interest::WRITABLE;
+        self.poll
+            .registry()
+            .reregister(&mut stream, Token(number as usize), interest)
+            .ok()?;
+        Some(stream)
     }
 
     /// Opens a link, or goes on where none waits.
     fn serve_ear(&mut self, links: &mut Links, place: usize) -> Result<Option<Event>, AllocError>
         ensures steps { IfOk result (Steps (numbers links.old.list.items) (numbers links.new.list.items) links.old.made links.new.made) }
-        ensures arrival { IfOk result IsArrival }
+        ensures arrival { IfOk result IsUnasked }
         ensures err { OnErr result ((numbers links.new.list.items ≡ numbers links.old.list.items) × (links.new.made ≡ links.old.made)) }
     {
         let opened = self.open_link(links, place)?;
@@ -185,7 +342,7 @@ impl Sockets {
 
     fn open_link(&mut self, links: &mut Links, place: usize) -> Result<Option<Event>, AllocError>
         ensures steps { IfOk result (Steps (numbers links.old.list.items) (numbers links.new.list.items) links.old.made links.new.made) }
-        ensures arrival { IfOk result IsArrival }
+        ensures arrival { IfOk result IsUnasked }
         ensures err { OnErr result ((numbers links.new.list.items ≡ numbers links.old.list.items) × (links.new.made ≡ links.old.made)) }
     {
         let Some(number) = links.made.checked_add(1) else {
@@ -225,7 +382,7 @@ impl Sockets {
         ready: Ready,
     ) -> Result<Option<Event>, AllocError>
         ensures steps { IfOk result (Steps (numbers links.old.list.items) (numbers links.new.list.items) links.old.made links.new.made) }
-        ensures arrival { IfOk result IsArrival }
+        ensures arrival { IfOk result IsUnasked }
         ensures err { OnErr result ((numbers links.new.list.items ≡ numbers links.old.list.items) × (links.new.made ≡ links.old.made)) }
     {
         let Some(place) = links.place_of(number) else {
@@ -251,7 +408,7 @@ impl Sockets {
     ) -> Result<Option<Event>, AllocError>
         requires { place < length links.old.list.items }
         ensures steps { IfOk result (Steps (numbers links.old.list.items) (numbers links.new.list.items) links.old.made links.new.made) }
-        ensures arrival { IfOk result IsArrival }
+        ensures arrival { IfOk result IsUnasked }
         ensures err { OnErr result ((numbers links.new.list.items ≡ numbers links.old.list.items) × (links.new.made ≡ links.old.made)) }
     {
         match links.read(place, &mut self.inbox) {

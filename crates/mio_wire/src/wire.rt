@@ -1,22 +1,35 @@
 //! The wire over the sockets of the system.
-ghost use Rattle.std.specs.Prelude.{◌≡◌, ℕ, ◌+◌, ◌-◌, ◌^◌, ◌≤◌, ◌++◌, [], ◌∷◌, None, true, false, min, option_map, OnOk, OnErr, IfOk, IfSome, IsErrOf};
+ghost use Rattle.std.specs.Prelude.{◌≡◌, ℕ, ◌+◌, ◌-◌, ◌^◌, ◌≤◌, ◌++◌, [], ◌∷◌, Some, None, true, false, min, option_map, OnOk, OnErr, IfOk, IfSome, IsErrOf};
 ghost use Rattle.aprs_base.specs.Outside.{AfterAct, AfterListen, AfterNext, AfterSend, IsOutcome, Rose, with_cast, with_closed, with_dial};
 ghost use Rattle.aprs_base.specs.declared.events.Event.TheVariants.{Tick};
 ghost use Rattle.aprs_base.specs.declared.events.WireError.TheVariants as WireError;
 ghost use Rattle.mio_wire.specs.Pacing.{is_due, rested};
 ghost use Rattle.mio_wire.specs.Coming.{ComesNext, StepGives, after_event, after_offer};
+ghost use Rattle.std.specs.Net.Grammar.{IsIpv4Text};
+ghost use Rattle.std.specs.declared.net.ipv4_addr.Ipv4Addr.{Ipv4Addr};
+ghost use Rattle.mio_wire.specs.Names.{IsIn};
+ghost use Rattle.mio_wire.specs.Dialled.{Answers, AnswersStep, Begins};
 ghost use Rattle.mio_wire.specs.Linked.{numbers, numbers_after, without};
 ghost use Rattle.mio_wire.specs.Arrivals.{IsArrival, Steps, after_sent, counts, gones_after};
 ghost use Rattle.mio_wire.specs.Waiting.{forgotten_of, waiting};
 
 use crate::course::Course;
+use crate::dials::{Dial, Dials};
 use crate::links::Links;
+use crate::names::Names;
 use crate::sockets::Sockets;
-use aprs_base::{Addr, Event, ListenSpec, Memory, PortKind, Sent, UplinkSpec, Wire, WireError};
+use aprs_base::{Addr, Event, ListenSpec, Memory, Sent, UplinkSpec, Wire, WireError};
+use mio::net::TcpStream;
 use std::alloc::Global;
 use std::net::Net;
 use std::sync::Wait;
 use std::time::{Clock, Duration, SystemTime};
+
+/// The address of a dial for which none was found.
+const NOWHERE: Addr = Addr {
+    ip: [0; 4],
+    port: 0,
+};
 
 /// The network of the system. It tells nothing of what happens but its counts: of failed calls, of links that a send found
 /// gone, and of links that were made.
@@ -29,8 +42,8 @@ pub struct MioWire<'a, R: Net + Clock> {
     alloc: Global,
     sockets: Option<Sockets>,
     links: Links,
-    /// Uplinks that were dialled and are not answered.
-    dialled: Vec<u16>,
+    dials: Dials,
+    names: Names,
     course: Course,
     stops: u64,
     gones: u64,
@@ -41,7 +54,7 @@ impl<'a, R: Net + Clock> MioWire<'a, R> {
     /// opens nothing until it is called.
     pub fn new(rt: &'a R, alloc: Global, stop_after: Option<u32>) -> MioWire<'a, R>
         ensures counts { (result.stops ≡ 0) × (result.gones ≡ 0) × (result.links.made ≡ 0) }
-        ensures opens { (result.sockets ≡ None) × (result.links.list.items ≡ []) × (result.dialled.items ≡ []) }
+        ensures opens { (result.sockets ≡ None) × (result.links.list.items ≡ []) × (result.dials.list.items ≡ []) }
         ensures course { result.course ≡ record { stop_after = stop_after; second = None; ended = 0; pace = rested } }
     {
         MioWire {
@@ -49,7 +62,8 @@ impl<'a, R: Net + Clock> MioWire<'a, R> {
             alloc,
             sockets: None,
             links: Links::new(alloc),
-            dialled: Vec::new(alloc),
+            dials: Dials::new(alloc),
+            names: Names::new(alloc),
             course: Course::new(stop_after),
             stops: 0,
             gones: 0,
@@ -105,16 +119,16 @@ impl<'a, R: Net + Clock> MioWire<'a, R> {
 
     /// Whether something has come that is not handed up, or not looked at.
     fn has_arrived(&self) -> bool {
-        let waiting = match &self.sockets {
+        match &self.sockets {
             Some(sockets) => sockets.has_bytes() || sockets.has_ready(),
             None => false,
-        };
-        waiting || !self.dialled.is_empty()
+        }
     }
 
-    /// The next thing to hand up of what has come: bytes that were read, a dial's answer, or what a socket has.
+    /// The next thing to hand up of what has come: bytes that were read, or what a socket has.
     fn arrived(&mut self) -> Result<Option<Event>, WireError>
         ensures steps { IfOk result (Steps (numbers self.old.links.list.items) (numbers self.new.links.list.items) self.old.links.made self.new.links.made) }
+        ensures dials { IfOk result (AnswersStep self.old.dials.list.items self.new.dials.list.items) }
         ensures arrival { IfOk result IsArrival }
         ensures err { OnErr result ((numbers self.new.links.list.items ≡ numbers self.old.links.list.items) × (self.new.links.made ≡ self.old.links.made)) }
         ensures memory { IsErrOf result WireError.Failed → ⊥ }
@@ -126,16 +140,14 @@ impl<'a, R: Net + Clock> MioWire<'a, R> {
         if let Some((link, bytes)) = sockets.take_chunk() {
             return Ok(Some(Event::Bytes(link, bytes)));
         }
-        if let Some(uplink) = self.dialled.pop() {
-            return Ok(Some(Event::Unjoined(uplink)));
-        }
-        Ok(sockets.serve(&mut self.links)?)
+        Ok(sockets.serve(&mut self.links, &mut self.dials)?)
     }
 
     /// The next event, or none where it took a step towards it.
     fn step(&mut self) -> Result<Option<Event>, WireError>
         ensures steps { IfOk result (Steps (numbers self.old.links.list.items) (numbers self.new.links.list.items) self.old.links.made self.new.links.made) }
-        ensures gives { IfOk result (StepGives self.old.course) }
+        ensures dials { IfOk result (AnswersStep self.old.dials.list.items self.new.dials.list.items) }
+        ensures gives { IfOk result (StepGives self.old.course self.old.dials.list.items) }
         ensures err { OnErr result ((numbers self.new.links.list.items ≡ numbers self.old.links.list.items) × (self.new.links.made ≡ self.old.links.made)) }
         ensures stops { (self.old.stops ≤ self.new.stops) × (IsErrOf result WireError.Failed → Rose self.old.stops self.new.stops) }
         ensures kept { (self.new.gones ≡ self.old.gones) × (self.new.course ≡ self.old.course) }
@@ -150,6 +162,9 @@ impl<'a, R: Net + Clock> MioWire<'a, R> {
         if self.course.pace.is_full() {
             let now = self.clock();
             return Ok(Some(self.tick(now.as_secs())));
+        }
+        if let Some(place) = self.dials.dead(second) {
+            return Ok(Some(self.dials.give_up(place)));
         }
         if self.has_arrived() {
             return self.arrived();
@@ -177,6 +192,61 @@ impl<'a, R: Net + Clock> MioWire<'a, R> {
         Ok(sockets.send(&mut self.links, link, bytes)?)
     }
 
+    /// The moment of the last tick, or of the clock before the first.
+    fn moment(&self) -> u64
+        ensures { IfSome self.now.course.second (λ second. result ≡ second) }
+    {
+        match self.course.second {
+            Some(second) => second,
+            None => self.clock().as_secs(),
+        }
+    }
+
+    /// Begins a dial, which has failed where there is no address for it.
+    fn begin(&mut self, uplink: u16, spec: &UplinkSpec) -> Result<Dial, Memory>
+        ensures named { IfOk result (λ d. d.uplink ≡ uplink) }
+        ensures digits { (a : Ipv4Addr) → IsIpv4Text spec.now.host a → IfOk result (λ d. IsIn spec.now.host spec.now.port (Some d.at)) }
+        ensures since { IfOk result (λ d. IfSome self.old.course.second (λ second. d.since ≡ second)) }
+        ensures kept { self.new ≡ record self.old { sockets = self.new.sockets; dials = self.new.dials; names = self.new.names } }
+        ensures dials { self.new.dials.list ≡ self.old.dials.list }
+    {
+        let since = self.moment();
+        let token = self.dials.next_token();
+        match self.names.next_address(self.rt, uplink, spec)? {
+            Some(at) => Ok(Dial {
+                uplink,
+                at,
+                since,
+                token,
+                stream: self.connect(at, token)?,
+            }),
+            None => Ok(Dial {
+                uplink,
+                at: NOWHERE,
+                since,
+                token,
+                stream: None,
+            }),
+        }
+    }
+
+    /// Begins to connect. None where that fails at once.
+    fn connect(&mut self, at: Addr, token: usize) -> Result<Option<TcpStream>, Memory>
+        ensures kept { self.new ≡ record self.old { sockets = self.new.sockets } }
+    {
+        if self.sockets.is_none() {
+            match Sockets::open(self.rt, self.alloc) {
+                Ok(sockets) => self.sockets = Some(sockets),
+                Err(WireError::Memory) => return Err(Memory),
+                Err(WireError::Failed) => return Ok(None),
+            }
+        }
+        match &self.sockets {
+            Some(sockets) => Ok(sockets.connect(self.rt, at, token)),
+            None => Ok(None),
+        }
+    }
+
     /// Waits for the sockets, but not beyond the second that `now` is in.
     fn wait(&mut self, now: Duration) -> Result<(), WireError>
         requires { is_due self.old.course.pace ≡ false }
@@ -194,26 +264,18 @@ impl<'a, R: Net + Clock> MioWire<'a, R> {
     }
 }
 
-/// Whether a listener of that kind takes links.
-fn takes_links(kind: PortKind) -> bool {
-    match kind {
-        PortKind::Full | PortKind::Igate | PortKind::Only | PortKind::Dupe => true,
-        PortKind::Submit | PortKind::Core => false,
-    }
-}
-
 impl<'a, R: Net + Clock + Wait> Wire for MioWire<'a, R> {
     ghost shown = { λ w. counts w.stops w.gones w.links.made };
 
-    /// Listens over TCP. Listeners for datagrams are not built: they are `Failed`.
+    /// Listens over TCP for links, and over UDP for what is submitted in datagrams and for a peer group.
     fn listen(&mut self, n: u16, spec: &ListenSpec) -> Result<(), WireError>
         ensures listen { AfterListen (counts self.old.stops self.old.gones self.old.links.made) (counts self.new.stops self.new.gones self.new.links.made) n spec.now result }
         ensures kept { self.new ≡ record self.old { sockets = self.new.sockets; stops = self.new.stops } }
     {
         self.open()?;
         let listened = match &mut self.sockets {
-            Some(sockets) if takes_links(spec.kind) => sockets.listen(self.rt, n, spec.at),
-            _ => Err(WireError::Failed),
+            Some(sockets) => sockets.listen(self.rt, n, spec),
+            None => Err(WireError::Failed),
         };
         match listened {
             Ok(()) => Ok(()),
@@ -223,9 +285,10 @@ impl<'a, R: Net + Clock + Wait> Wire for MioWire<'a, R> {
 
     fn next(&mut self) -> Result<Event, WireError>
         ensures next { AfterNext (counts self.old.stops self.old.gones self.old.links.made) (counts self.new.stops self.new.gones self.new.links.made) result }
-        ensures comes { IfOk result (ComesNext self.old.course) }
+        ensures comes { IfOk result (ComesNext self.old.course self.old.dials.list.items) }
         ensures course { IfOk result (λ e. self.new.course ≡ after_event e self.old.course) }
         ensures links { IfOk result (λ e. numbers self.new.links.list.items ≡ numbers_after e (numbers self.old.links.list.items)) }
+        ensures dials { IfOk result (λ e. Answers e self.old.dials.list.items self.new.dials.list.items) }
         ensures err { OnErr result ((self.new.course ≡ self.old.course) × (numbers self.new.links.list.items ≡ numbers self.old.links.list.items)) }
     {
         self.open()?;
@@ -244,7 +307,7 @@ impl<'a, R: Net + Clock + Wait> Wire for MioWire<'a, R> {
         ensures gones { self.new.gones ≡ gones_after result self.old.gones }
         ensures links { OnOk result (numbers self.new.links.list.items ≡ after_sent result link (numbers self.old.links.list.items)) }
         ensures others { without link self.new.links.list.items ≡ without link self.old.links.list.items }
-        ensures dials { self.new.dialled ≡ self.old.dialled }
+        ensures dials { self.new.dials ≡ self.old.dials }
     {
         let sent = self.offer(link, bytes)?;
         match sent {
@@ -267,21 +330,27 @@ impl<'a, R: Net + Clock + Wait> Wire for MioWire<'a, R> {
         Ok(())
     }
 
-    /// Dials are not built: the answer is `Unjoined`.
+    /// Begins to connect to an uplink's address, or to the next one of its name, which is looked up where none is left. A
+    /// look-up waits, and the whole server with it. The answer comes from `next`: within 30 s, `Unjoined` where it isn't joined.
     fn dial(&mut self, uplink: u16, spec: &UplinkSpec) -> Result<(), Memory>
         ensures dial { AfterAct (counts self.old.stops self.old.gones self.old.links.made) (counts self.new.stops self.new.gones self.new.links.made) (with_dial uplink spec.now) result }
-        ensures answer { OnOk result (self.new.dialled.items ≡ self.old.dialled.items ++ uplink ∷ []) }
-        ensures kept { self.new ≡ record self.old { dialled = self.new.dialled } }
+        ensures begun { OnOk result (Begins uplink spec.now self.old.course.second self.old.dials.list.items self.new.dials.list.items) }
+        ensures err { OnErr result (self.new.dials.list.items ≡ self.old.dials.list.items) }
+        ensures kept { self.new ≡ record self.old { sockets = self.new.sockets; dials = self.new.dials; names = self.new.names } }
     {
-        self.dialled.push(uplink)?;
+        let dial = self.begin(uplink, spec)?;
+        self.dials.add(dial)?;
         Ok(())
     }
 
-    /// Datagrams are not built: each is lost.
-    fn cast(&mut self, _peer: u16, _to: Addr, _bytes: &[u8]) -> Result<(), Memory>
-        ensures cast { AfterAct (counts self.old.stops self.old.gones self.old.links.made) (counts self.new.stops self.new.gones self.new.links.made) (with_cast _peer _to _bytes.now) result }
+    /// Casts from the socket of the peer group's listener, or of the one with the greatest number. A lost datagram is no fault.
+    fn cast(&mut self, peer: u16, to: Addr, bytes: &[u8]) -> Result<(), Memory>
+        ensures cast { AfterAct (counts self.old.stops self.old.gones self.old.links.made) (counts self.new.stops self.new.gones self.new.links.made) (with_cast peer to bytes.now) result }
         ensures kept { self.new ≡ self.old }
     {
+        if let Some(sockets) = &self.sockets {
+            sockets.cast(to, bytes);
+        }
         Ok(())
     }
 }

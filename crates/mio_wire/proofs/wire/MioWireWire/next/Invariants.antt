@@ -2,7 +2,7 @@ use Rattle.std.proofs.Common.{◌≡◌, ◌≤◌}
 use Rattle.mio_wire.specs.Linked.{numbers}
 use Rattle.mio_wire.proofs.wire.MioWireWire.next.Given as goal
 
--- no link was made, no send was made, and nothing was handed up
+-- no link was made, no dial was answered, no send was made, and nothing was handed up
 abbrev pub invariant-loop : goal.invariant-loop
 invariant-loop g l =
     (goal.iterator-loop g).can_next l.iterator'
@@ -11,4 +11,5 @@ invariant-loop g l =
     × (l.self.gones ≡ l.initial.self.gones)
     × (l.self.links.made ≡ l.initial.self.links.made)
     × (numbers l.self.links.list.items ≡ numbers l.initial.self.links.list.items)
+    × (l.self.dials.list.items ≡ l.initial.self.dials.list.items)
     × (l.self.course ≡ l.initial.self.course)
