@@ -3,3 +3,5 @@ pub mod PieceLemmas
 pub mod WriteLemmas
 pub mod LinkLemmas
 pub mod FindLemmas
+pub mod NextLemmas
+pub mod MailLemmas

@@ -7,19 +7,6 @@ use Rattle.aprs_base.specs.declared.events.Sent.TheVariants as sent
 use Rattle.mio_wire.specs.Coming.{is_arrival, is_mail, is_unasked}
 use Rattle.mio_wire.specs.Linked.{dropped, numbers_after}
 
--- bytes that a link brought
-pub record Brought : Type 0 where
-  pub link : ℕ
-  pub left : List ℕ
-
--- without the bytes of a link
-abbrev pub forgotten : ℕ → Brought → Brought
-forgotten link brought = record brought { left = if brought.link == link then [] else brought.left }
-
--- the number after that of the last link, where there is one
-abbrev pub next_number : ℕ → Option ℕ
-next_number made = if nat_lt (made + 1) (2 ^ 32) then Some (made + 1) else None
-
 -- the links' numbers and their count after a step: they change by what arrived alone
 abbrev pub Steps : (before now : List ℕ) (made made' : ℕ) → Option Event → Type 0
 Steps before now made made' None = (now ≡ before) × (made' ≡ made)

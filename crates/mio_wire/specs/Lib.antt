@@ -1,4 +1,5 @@
 pub mod Pacing
+pub mod Unread
 pub mod Names
 pub mod Dialled
 pub mod Coming
@@ -6,4 +7,4 @@ pub mod Linked
 pub mod Arrivals
 pub mod Mail
 pub mod Sources
-pub mod Waiting
+pub mod Held

@@ -1,33 +1,28 @@
 //! The poll with the sockets that it watches.
-ghost use Rattle.std.specs.Prelude.{◌≡◌, ◌<◌, OnOk, OnErr, IfOk, IfSome, length};
+ghost use Rattle.std.specs.Prelude.{◌≡◌, ◌≤◌, None, true, false, OnOk, OnErr, IfOk, IfNone, IfSome, length, take, drop, vec_len};
 ghost use Rattle.aprs_base.specs.Outside.{IsOutcome};
-ghost use Rattle.mio_wire.specs.Arrivals.{IsArrival, IsMail, IsUnasked, Steps, after_sent, forgotten};
-ghost use Rattle.mio_wire.specs.Dialled.{AnswersStep};
+ghost use Rattle.mio_wire.specs.Arrivals.{after_sent};
 ghost use Rattle.mio_wire.specs.Linked.{dropped, numbers, without};
 ghost use Rattle.mio_wire.specs.Mail.{caster_after};
+ghost use Rattle.mio_wire.specs.Unread.{forgotten, nothing};
 
-use crate::addresses::{addr_of, socket_of};
-use crate::dials::{Dials, Outcome};
+mod serving;
+
+use crate::addresses::socket_of;
 use crate::inbox::Inbox;
-use crate::links::{Links, Reading};
-use crate::mail::{Caster, Mailbox, Received, caster_after, receive};
-use crate::turns::{FIRST_EAR, FIRST_MAILBOX, Ready, Source, Turns, source_of};
-use aprs_base::{Addr, Chunk, Event, ListenSpec, PortKind, Sent, WireError};
+use crate::links::Links;
+use crate::mail::{Caster, Mailbox, caster_after};
+use crate::turns::{FIRST_EAR, FIRST_MAILBOX, Ready, Turns};
+use aprs_base::{Addr, Chunk, ListenSpec, PortKind, Sent, WireError};
 use mio::net::{TcpListener, TcpStream, UdpSocket};
 use mio::{Events, Interest, Poll, Token};
 use std::alloc::{AllocError, Global};
-use std::io::{self, ErrorKind};
+use std::io;
 use std::net::Net;
 use std::time::Duration;
 
 /// How many events one poll brings at most.
 const MOST_EVENTS: usize = 512;
-
-/// How many links one listener opens in a turn.
-const MOST_OPENED: u32 = 64;
-
-/// How many datagrams one socket brings in a turn.
-const MOST_DATAGRAMS: u32 = 64;
 
 /// A listener for links.
 #[derive(Drop)]
@@ -54,7 +49,9 @@ pub(crate) struct Sockets {
 }
 
 impl Sockets {
-    pub(crate) fn open<R: Net>(rt: &R, alloc: Global) -> Result<Sockets, WireError> {
+    pub(crate) fn open<R: Net>(rt: &R, alloc: Global) -> Result<Sockets, WireError>
+        ensures { IfOk result (λ s. (s.inbox ≡ nothing) × (s.caster ≡ None)) }
+    {
         let events = Events::with_capacity(alloc, MOST_EVENTS)?;
         let inbox = Inbox::new(alloc)?;
         let Ok(poll) = Poll::new(rt) else {
@@ -78,7 +75,11 @@ impl Sockets {
         rt: &R,
         number: u16,
         spec: &ListenSpec,
-    ) -> Result<(), WireError> {
+    ) -> Result<(), WireError>
+        ensures unread { self.new.inbox ≡ self.old.inbox }
+        ensures ok { OnOk result (self.new.caster ≡ caster_after spec.now.kind number (vec_len self.old.mailboxes) self.old.caster) }
+        ensures err { OnErr result (self.new.caster ≡ self.old.caster) }
+    {
         match spec.kind {
             PortKind::Full | PortKind::Igate | PortKind::Only | PortKind::Dupe => {
                 self.listen_for_links(rt, number, spec.at)
@@ -87,7 +88,9 @@ impl Sockets {
         }
     }
 
-    fn listen_for_links<R: Net>(&mut self, rt: &R, number: u16, at: Addr) -> Result<(), WireError> {
+    fn listen_for_links<R: Net>(&mut self, rt: &R, number: u16, at: Addr) -> Result<(), WireError>
+        ensures { (self.new.inbox ≡ self.old.inbox) × (self.new.caster ≡ self.old.caster) }
+    {
         let Ok(listener) = self.bind(rt, at) else {
             return Err(WireError::Failed);
         };
@@ -114,7 +117,11 @@ impl Sockets {
         rt: &R,
         number: u16,
         spec: &ListenSpec,
-    ) -> Result<(), WireError> {
+    ) -> Result<(), WireError>
+        ensures unread { self.new.inbox ≡ self.old.inbox }
+        ensures ok { OnOk result (self.new.caster ≡ caster_after spec.now.kind number (vec_len self.old.mailboxes) self.old.caster) }
+        ensures err { OnErr result (self.new.caster ≡ self.old.caster) }
+    {
         let Ok(socket) = self.bind_mailbox(rt, spec.at) else {
             return Err(WireError::Failed);
         };
@@ -159,7 +166,9 @@ impl Sockets {
     }
 
     /// Has deaf listeners tried again in the next turn.
-    pub(crate) fn retry(&mut self) {
+    pub(crate) fn retry(&mut self)
+        ensures { self.new ≡ record self.old { retry = true } }
+    {
         self.retry = true;
     }
 
@@ -195,233 +204,25 @@ impl Sockets {
     }
 
     /// Bytes that were read, as many as one event has.
-    pub(crate) fn take_chunk(&mut self) -> Option<(u32, Chunk)> {
+    pub(crate) fn take_chunk(&mut self) -> Option<(u32, Chunk)>
+        ensures chunk { IfSome result (λ c. (c.0 ≡ self.old.inbox.link) × (c.1 ≡ take 1460 self.old.inbox.left)) }
+        ensures rest { self.new ≡ record self.old { inbox = record self.old.inbox { left = drop 1460 self.old.inbox.left } } }
+        ensures none { IfNone result (length self.old.inbox.left ≡ 0) }
+        ensures some { IfSome result (λ c. 1 ≤ length self.old.inbox.left) }
+    {
         self.inbox.take_chunk()
     }
 
     /// Whether bytes that were read are not handed up yet.
-    pub(crate) fn has_bytes(&self) -> bool {
+    pub(crate) fn has_bytes(&self) -> bool
+        ensures { result ≡ false → length self.now.inbox.left ≡ 0 }
+    {
         !self.inbox.is_empty()
     }
 
     /// Whether a source of this turn is not served yet.
     pub(crate) fn has_ready(&self) -> bool {
         self.turns.current().is_some()
-    }
-
-    /// Serves the source whose turn it is.
-    pub(crate) fn serve(
-        &mut self,
-        links: &mut Links,
-        dials: &mut Dials,
-    ) -> Result<Option<Event>, AllocError>
-        ensures steps { IfOk result (Steps (numbers links.old.list.items) (numbers links.new.list.items) links.old.made links.new.made) }
-        ensures dials { IfOk result (AnswersStep dials.old.list.items dials.new.list.items) }
-        ensures arrival { IfOk result IsArrival }
-        ensures err { OnErr result ((numbers links.new.list.items ≡ numbers links.old.list.items) × (links.new.made ≡ links.old.made)) }
-    {
-        let Some(ready) = self.turns.current() else {
-            return Ok(None);
-        };
-        match source_of(ready.token) {
-            Source::Link(number) => self.serve_link(links, number, ready),
-            Source::Ear(place) => self.serve_ear(links, place),
-            Source::Mailbox(place) => self.serve_mailbox(place),
-            Source::Dial(token) => self.serve_dial(links, dials, token, ready),
-        }
-    }
-
-    /// Hands up a datagram, or goes on where none waits.
-    fn serve_mailbox(&mut self, place: usize) -> Result<Option<Event>, AllocError>
-        ensures { IfOk result IsMail }
-    {
-        let Some(mailbox) = self.mailboxes.get_mut(place) else {
-            self.turns.advance();
-            return Ok(None);
-        };
-        if mailbox.received >= MOST_DATAGRAMS {
-            self.turns.advance();
-            self.turns
-                .put_off(Ready::to_read(FIRST_MAILBOX.saturating_add(place)))?;
-            return Ok(None);
-        }
-        mailbox.received += 1;
-        match receive(&mailbox.socket) {
-            Received::Datagram(from, bytes) => Ok(Some(Event::Datagram {
-                listener: mailbox.number,
-                from,
-                bytes,
-            })),
-            Received::Dropped => Ok(None),
-            Received::Nothing => {
-                self.turns.advance();
-                Ok(None)
-            }
-        }
-    }
-
-    /// Answers a dial of whose socket the poll told, once its outcome is known.
-    fn serve_dial(
-        &mut self,
-        links: &mut Links,
-        dials: &mut Dials,
-        token: usize,
-        ready: Ready,
-    ) -> Result<Option<Event>, AllocError>
-        ensures steps { IfOk result (Steps (numbers links.old.list.items) (numbers links.new.list.items) links.old.made links.new.made) }
-        ensures dials { IfOk result (AnswersStep dials.old.list.items dials.new.list.items) }
-        ensures arrival { IfOk result IsArrival }
-        ensures err { OnErr result ((numbers links.new.list.items ≡ numbers links.old.list.items) × (links.new.made ≡ links.old.made)) }
-    {
-        self.turns.advance();
-        let Some(place) = dials.place_of(token) else {
-            return Ok(None);
-        };
-        match dials.outcome(place, ready.writable || ready.closed) {
-            Outcome::Waits => Ok(None),
-            Outcome::Joins => self.join(links, dials, place),
-            Outcome::Fails => Ok(Some(dials.give_up(place))),
-        }
-    }
-
-    /// Makes a link of a dial that is connected, where there is a number for it.
-    fn join(
-        &mut self,
-        links: &mut Links,
-        dials: &mut Dials,
-        place: usize,
-    ) -> Result<Option<Event>, AllocError>
-        requires { place < length dials.old.list.items }
-        ensures steps { IfOk result (Steps (numbers links.old.list.items) (numbers links.new.list.items) links.old.made links.new.made) }
-        ensures dials { IfOk result (AnswersStep dials.old.list.items dials.new.list.items) }
-        ensures arrival { IfOk result IsArrival }
-        ensures err { OnErr result ((numbers links.new.list.items ≡ numbers links.old.list.items) × (links.new.made ≡ links.old.made)) }
-    {
-        let Some(number) = links.made.checked_add(1) else {
-            return Ok(Some(dials.give_up(place)));
-        };
-        let dial = dials.take(place);
-        let uplink = dial.uplink;
-        let at = dial.at;
-        let Some(stream) = self.taken_over(dial.stream, number) else {
-            return Ok(Some(Event::Unjoined(uplink)));
-        };
-        links.add(stream)?;
-        Ok(Some(Event::Joined {
-            uplink,
-            link: number,
-            at,
-        }))
-    }
-
-    /// The stream of a dial, watched by the poll as that of a link.
-    fn taken_over(&self, stream: Option<TcpStream>, number: u32) -> Option<TcpStream> {
-        let mut stream = stream?;
-        // A link works without it.
-        let _ = stream.set_nodelay(true);
-        let interest = Interest::READABLE | Interest::WRITABLE;
-        self.poll
-            .registry()
-            .reregister(&mut stream, Token(number as usize), interest)
-            .ok()?;
-        Some(stream)
-    }
-
-    /// Opens a link, or goes on where none waits.
-    fn serve_ear(&mut self, links: &mut Links, place: usize) -> Result<Option<Event>, AllocError>
-        ensures steps { IfOk result (Steps (numbers links.old.list.items) (numbers links.new.list.items) links.old.made links.new.made) }
-        ensures arrival { IfOk result IsUnasked }
-        ensures err { OnErr result ((numbers links.new.list.items ≡ numbers links.old.list.items) × (links.new.made ≡ links.old.made)) }
-    {
-        let opened = self.open_link(links, place)?;
-        if opened.is_none() {
-            self.turns.advance();
-        }
-        Ok(opened)
-    }
-
-    fn open_link(&mut self, links: &mut Links, place: usize) -> Result<Option<Event>, AllocError>
-        ensures steps { IfOk result (Steps (numbers links.old.list.items) (numbers links.new.list.items) links.old.made links.new.made) }
-        ensures arrival { IfOk result IsUnasked }
-        ensures err { OnErr result ((numbers links.new.list.items ≡ numbers links.old.list.items) × (links.new.made ≡ links.old.made)) }
-    {
-        let Some(number) = links.made.checked_add(1) else {
-            return Ok(None);
-        };
-        let Some(ear) = self.ears.get_mut(place) else {
-            return Ok(None);
-        };
-        if ear.opened >= MOST_OPENED {
-            self.turns
-                .put_off(Ready::to_read(FIRST_EAR.saturating_add(place)))?;
-            return Ok(None);
-        }
-        match accept(&self.poll, &ear.listener, number) {
-            Ok((stream, from)) => {
-                ear.opened += 1;
-                let listener = ear.number;
-                links.add(stream)?;
-                Ok(Some(Event::Opened {
-                    listener,
-                    link: number,
-                    from,
-                }))
-            }
-            Err(error) => {
-                ear.deaf = error.kind() != ErrorKind::WouldBlock;
-                Ok(None)
-            }
-        }
-    }
-
-    /// Says that a link has room again, or reads what it brings.
-    fn serve_link(
-        &mut self,
-        links: &mut Links,
-        number: u32,
-        ready: Ready,
-    ) -> Result<Option<Event>, AllocError>
-        ensures steps { IfOk result (Steps (numbers links.old.list.items) (numbers links.new.list.items) links.old.made links.new.made) }
-        ensures arrival { IfOk result IsUnasked }
-        ensures err { OnErr result ((numbers links.new.list.items ≡ numbers links.old.list.items) × (links.new.made ≡ links.old.made)) }
-    {
-        let Some(place) = links.place_of(number) else {
-            self.turns.advance();
-            return Ok(None);
-        };
-        if links.note(place, ready) {
-            return Ok(Some(Event::Room(number)));
-        }
-        self.turns.advance();
-        if !ready.readable || (links.is_later(place) && !ready.again) {
-            return Ok(None);
-        }
-        self.read(links, place, number)
-    }
-
-    /// Reads once from a link, which has another turn where more may be there.
-    fn read(
-        &mut self,
-        links: &mut Links,
-        place: usize,
-        number: u32,
-    ) -> Result<Option<Event>, AllocError>
-        requires { place < length links.old.list.items }
-        ensures steps { IfOk result (Steps (numbers links.old.list.items) (numbers links.new.list.items) links.old.made links.new.made) }
-        ensures arrival { IfOk result IsUnasked }
-        ensures err { OnErr result ((numbers links.new.list.items ≡ numbers links.old.list.items) × (links.new.made ≡ links.old.made)) }
-    {
-        match links.read(place, &mut self.inbox) {
-            Reading::End => {
-                self.let_go(links, number);
-                Ok(Some(Event::Ended(number)))
-            }
-            Reading::More => {
-                self.turns.put_off(Ready::to_read(number as usize))?;
-                Ok(None)
-            }
-            Reading::All => Ok(None),
-        }
     }
 
     /// Lets go a link with what it brought.
@@ -460,15 +261,4 @@ impl Sockets {
         }
         Ok(Sent::Took(written.taken))
     }
-}
-
-/// The stream of the link that waits at a listener, watched by the poll, and where it comes from.
-fn accept(poll: &Poll, listener: &TcpListener, number: u32) -> io::Result<(TcpStream, Addr)> {
-    let (mut stream, from) = listener.accept()?;
-    // A link works without it.
-    let _ = stream.set_nodelay(true);
-    let interest = Interest::READABLE | Interest::WRITABLE;
-    poll.registry()
-        .register(&mut stream, Token(number as usize), interest)?;
-    Ok((stream, addr_of(from)))
 }

@@ -1,5 +1,5 @@
 //! The wire over the sockets of the system.
-ghost use Rattle.std.specs.Prelude.{◌≡◌, ℕ, ◌+◌, ◌-◌, ◌^◌, ◌≤◌, ◌++◌, [], ◌∷◌, Some, None, true, false, min, option_map, OnOk, OnErr, IfOk, IfSome, IsErrOf};
+ghost use Rattle.std.specs.Prelude.{◌≡◌, ℕ, ◌+◌, ◌-◌, ◌^◌, ◌≤◌, ◌++◌, [], ◌∷◌, Some, None, true, false, length, OnOk, OnErr, IfOk, IfSome, IsErrOf};
 ghost use Rattle.aprs_base.specs.Outside.{AfterAct, AfterListen, AfterNext, AfterSend, IsOutcome, Rose, with_cast, with_closed, with_dial};
 ghost use Rattle.aprs_base.specs.declared.events.Event.TheVariants.{Tick};
 ghost use Rattle.aprs_base.specs.declared.events.WireError.TheVariants as WireError;
@@ -11,7 +11,9 @@ ghost use Rattle.mio_wire.specs.Names.{IsIn};
 ghost use Rattle.mio_wire.specs.Dialled.{Answers, AnswersStep, Begins};
 ghost use Rattle.mio_wire.specs.Linked.{numbers, numbers_after, without};
 ghost use Rattle.mio_wire.specs.Arrivals.{IsArrival, Steps, after_sent, counts, gones_after};
-ghost use Rattle.mio_wire.specs.Waiting.{forgotten_of, waiting};
+ghost use Rattle.mio_wire.specs.Unread.{HandsUp, Leaves, forgotten};
+ghost use Rattle.mio_wire.specs.Held.{caster, unread};
+ghost use Rattle.mio_wire.specs.Mail.{caster_after};
 
 use crate::course::Course;
 use crate::dials::{Dial, Dials};
@@ -86,6 +88,7 @@ impl<'a, R: Net + Clock> MioWire<'a, R> {
     fn open(&mut self) -> Result<(), WireError>
         ensures stops { (self.old.stops ≤ self.new.stops) × (IsErrOf result WireError.Failed → Rose self.old.stops self.new.stops) }
         ensures kept { self.new ≡ record self.old { sockets = self.new.sockets; stops = self.new.stops } }
+        ensures held { (unread self.new.sockets ≡ unread self.old.sockets) × (caster self.new.sockets ≡ caster self.old.sockets) }
     {
         if self.sockets.is_none() {
             match Sockets::open(self.rt, self.alloc) {
@@ -108,6 +111,7 @@ impl<'a, R: Net + Clock> MioWire<'a, R> {
     fn tick(&mut self, moment: u64) -> Event
         ensures event { result ≡ Tick moment }
         ensures kept { self.new ≡ record self.old { sockets = self.new.sockets } }
+        ensures unread { unread self.new.sockets ≡ unread self.old.sockets }
     {
         if self.course.second != Some(moment) {
             if let Some(sockets) = &mut self.sockets {
@@ -118,7 +122,9 @@ impl<'a, R: Net + Clock> MioWire<'a, R> {
     }
 
     /// Whether something has come that is not handed up, or not looked at.
-    fn has_arrived(&self) -> bool {
+    fn has_arrived(&self) -> bool
+        ensures { result ≡ false → length (unread self.now.sockets).left ≡ 0 }
+    {
         match &self.sockets {
             Some(sockets) => sockets.has_bytes() || sockets.has_ready(),
             None => false,
@@ -130,6 +136,8 @@ impl<'a, R: Net + Clock> MioWire<'a, R> {
         ensures steps { IfOk result (Steps (numbers self.old.links.list.items) (numbers self.new.links.list.items) self.old.links.made self.new.links.made) }
         ensures dials { IfOk result (AnswersStep self.old.dials.list.items self.new.dials.list.items) }
         ensures arrival { IfOk result IsArrival }
+        ensures bytes { IfOk result (HandsUp (unread self.old.sockets)) }
+        ensures rest { IfOk result (λ o. IfSome o (Leaves (unread self.old.sockets) (unread self.new.sockets) (unread self.old.sockets).left)) }
         ensures err { OnErr result ((numbers self.new.links.list.items ≡ numbers self.old.links.list.items) × (self.new.links.made ≡ self.old.links.made)) }
         ensures memory { IsErrOf result WireError.Failed → ⊥ }
         ensures kept { (self.new.stops ≡ self.old.stops) × (self.new.gones ≡ self.old.gones) × (self.new.course ≡ self.old.course) }
@@ -147,7 +155,8 @@ impl<'a, R: Net + Clock> MioWire<'a, R> {
     fn step(&mut self) -> Result<Option<Event>, WireError>
         ensures steps { IfOk result (Steps (numbers self.old.links.list.items) (numbers self.new.links.list.items) self.old.links.made self.new.links.made) }
         ensures dials { IfOk result (AnswersStep self.old.dials.list.items self.new.dials.list.items) }
-        ensures gives { IfOk result (StepGives self.old.course self.old.dials.list.items) }
+        ensures rest { IfOk result (λ o. IfSome o (Leaves (unread self.old.sockets) (unread self.new.sockets) (unread self.old.sockets).left)) }
+        ensures gives { IfOk result (StepGives self.old.course self.old.dials.list.items (unread self.old.sockets)) }
         ensures err { OnErr result ((numbers self.new.links.list.items ≡ numbers self.old.links.list.items) × (self.new.links.made ≡ self.old.links.made)) }
         ensures stops { (self.old.stops ≤ self.new.stops) × (IsErrOf result WireError.Failed → Rose self.old.stops self.new.stops) }
         ensures kept { (self.new.gones ≡ self.old.gones) × (self.new.course ≡ self.old.course) }
@@ -270,6 +279,9 @@ impl<'a, R: Net + Clock + Wait> Wire for MioWire<'a, R> {
     /// Listens over TCP for links, and over UDP for what is submitted in datagrams and for a peer group.
     fn listen(&mut self, n: u16, spec: &ListenSpec) -> Result<(), WireError>
         ensures listen { AfterListen (counts self.old.stops self.old.gones self.old.links.made) (counts self.new.stops self.new.gones self.new.links.made) n spec.now result }
+        ensures caster { OnOk result ((place : ℕ) × (caster self.new.sockets ≡ caster_after spec.now.kind n place (caster self.old.sockets))) }
+        ensures err { OnErr result (caster self.new.sockets ≡ caster self.old.sockets) }
+        ensures unread { unread self.new.sockets ≡ unread self.old.sockets }
         ensures kept { self.new ≡ record self.old { sockets = self.new.sockets; stops = self.new.stops } }
     {
         self.open()?;
@@ -285,7 +297,8 @@ impl<'a, R: Net + Clock + Wait> Wire for MioWire<'a, R> {
 
     fn next(&mut self) -> Result<Event, WireError>
         ensures next { AfterNext (counts self.old.stops self.old.gones self.old.links.made) (counts self.new.stops self.new.gones self.new.links.made) result }
-        ensures comes { IfOk result (ComesNext self.old.course self.old.dials.list.items) }
+        ensures comes { IfOk result (ComesNext self.old.course self.old.dials.list.items (unread self.old.sockets)) }
+        ensures rest { IfOk result (Leaves (unread self.old.sockets) (unread self.new.sockets) (unread self.old.sockets).left) }
         ensures course { IfOk result (λ e. self.new.course ≡ after_event e self.old.course) }
         ensures links { IfOk result (λ e. numbers self.new.links.list.items ≡ numbers_after e (numbers self.old.links.list.items)) }
         ensures dials { IfOk result (λ e. Answers e self.old.dials.list.items self.new.dials.list.items) }
@@ -320,7 +333,7 @@ impl<'a, R: Net + Clock + Wait> Wire for MioWire<'a, R> {
     fn close(&mut self, link: u32) -> Result<(), Memory>
         ensures close { AfterAct (counts self.old.stops self.old.gones self.old.links.made) (counts self.new.stops self.new.gones self.new.links.made) (with_closed link) result }
         ensures links { (self.new.links.list.items ≡ without link self.old.links.list.items) × (self.new.links.made ≡ self.old.links.made) }
-        ensures unread { waiting self.new.sockets ≡ forgotten_of link (waiting self.old.sockets) }
+        ensures unread { unread self.new.sockets ≡ forgotten link (unread self.old.sockets) }
         ensures kept { self.new ≡ record self.old { sockets = self.new.sockets; links = self.new.links } }
     {
         match &mut self.sockets {

@@ -1,4 +1,5 @@
-use Rattle.std.proofs.Common.{◌≡◌, ◌≤◌}
+use Rattle.std.proofs.Common.{◌≡◌, ◌<◌, ◌≤◌, length}
+use Rattle.mio_wire.specs.Held.{unread}
 use Rattle.mio_wire.specs.Linked.{numbers}
 use Rattle.mio_wire.proofs.wire.MioWireWire.next.Given as goal
 
@@ -12,4 +13,5 @@ invariant-loop g l =
     × (l.self.links.made ≡ l.initial.self.links.made)
     × (numbers l.self.links.list.items ≡ numbers l.initial.self.links.list.items)
     × (l.self.dials.list.items ≡ l.initial.self.dials.list.items)
+    × (0 < length (unread l.initial.self.sockets).left → unread l.self.sockets ≡ unread l.initial.self.sockets)
     × (l.self.course ≡ l.initial.self.course)
