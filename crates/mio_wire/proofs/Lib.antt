@@ -5,3 +5,4 @@ pub mod LinkLemmas
 pub mod FindLemmas
 pub mod NextLemmas
 pub mod MailLemmas
+pub mod HeldLemmas

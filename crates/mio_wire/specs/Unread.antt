@@ -1,5 +1,5 @@
 -- Bytes that were read and are not handed up.
-use Rattle.std.specs.Prelude.{◌≡◌, ℕ, ◌==◌, ⊤, List, [], ◌∷◌, length, take, drop, Option, Some, None, if◌then◌else◌}
+use Rattle.std.specs.Prelude.{◌≡◌, ℕ, ◌<◌, ◌==◌, ⊤, Contains, List, [], ◌∷◌, length, take, drop, Option, Some, None, if◌then◌else◌}
 use Rattle.aprs_base.specs.declared.events.Event.{Event}
 use Rattle.aprs_base.specs.declared.events.Event.TheVariants as event
 
@@ -14,6 +14,10 @@ nothing = record { link = 0; left = [] }
 -- without the bytes of a link
 abbrev pub forgotten : ℕ → Brought → Brought
 forgotten link brought = record brought { left = if brought.link == link then [] else brought.left }
+
+-- bytes that are left are those of a link that is there
+abbrev pub IsHeld : Brought → List ℕ → Type 0
+IsHeld brought ns = 0 < length brought.left → Contains ns brought.link
 
 -- where bytes are left, the event is that of the next of them
 abbrev pub IsNextOf : (link : ℕ) (left : List ℕ) → Event → Type 0

@@ -1,6 +1,7 @@
 //! The links, and what is read from them and written to them.
-ghost use Rattle.std.specs.Prelude.{◌≡◌, ◌≢◌, ℕ, ◌+◌, ◌≤◌, ◌<◌, ◌^◌, [], ◌∷◌, ◌++◌, Some, OnOk, OnErr, IfSome, IfNone, IfOk, All, false, length, take, option_map, slice_get};
+ghost use Rattle.std.specs.Prelude.{◌≡◌, ◌≢◌, ℕ, ◌+◌, ◌≤◌, ◌<◌, ◌^◌, [], ◌∷◌, ◌++◌, Some, OnOk, OnErr, OnSome, IfSome, IfNone, IfOk, All, Contains, false, length, take, option_map, slice_get};
 ghost use Rattle.std.specs.Io.KnownBytes.{Appends};
+ghost use Rattle.mio_wire.specs.declared.links.Reading.TheVariants.{End};
 ghost use Rattle.mio_wire.specs.Linked.{IsCounted, IsRising, dropped, numbers, without};
 
 use crate::inbox::{Inbox, MOST_READ};
@@ -50,6 +51,7 @@ impl Link {
     fn read(&mut self, inbox: &mut Inbox) -> Reading
         ensures number { self.new.number ≡ self.old.number }
         ensures link { inbox.new.link ≡ self.old.number }
+        ensures end { result ≡ End → length inbox.new.left ≡ 0 }
     {
         let more = match inbox.fill(self.number, &mut self.stream) {
             Ok(0) => return Reading::End,
@@ -116,6 +118,7 @@ impl Links {
     pub(crate) fn place_of(&self, number: u32) -> Option<usize>
         ensures within { IfSome result (λ place. place < length self.now.list.items) }
         ensures number { IfSome result (λ place. option_map (λ l. l.number) (slice_get self.now.list.items place) ≡ Some number) }
+        ensures there { OnSome result (Contains (numbers self.now.list.items) number) }
         ensures none { IfNone result (All (λ n. n ≢ number) (numbers self.now.list.items)) }
     {
         self.list
@@ -141,7 +144,9 @@ impl Links {
     /// Reads once from the link at a place.
     pub(crate) fn read(&mut self, place: usize, inbox: &mut Inbox) -> Reading
         requires { place < length self.old.list.items }
-        ensures { (numbers self.new.list.items ≡ numbers self.old.list.items) × (self.new.made ≡ self.old.made) }
+        ensures link { Contains (numbers self.old.list.items) inbox.new.link }
+        ensures end { result ≡ End → length inbox.new.left ≡ 0 }
+        ensures same { (numbers self.new.list.items ≡ numbers self.old.list.items) × (self.new.made ≡ self.old.made) }
     {
         self.list[place].read(inbox)
     }

@@ -2,9 +2,9 @@
 ghost use Rattle.std.specs.Prelude.{◌≡◌, ◌≤◌, None, true, false, OnOk, OnErr, IfOk, IfNone, IfSome, length, take, drop, vec_len};
 ghost use Rattle.aprs_base.specs.Outside.{IsOutcome};
 ghost use Rattle.mio_wire.specs.Arrivals.{after_sent};
-ghost use Rattle.mio_wire.specs.Linked.{dropped, numbers, without};
+ghost use Rattle.mio_wire.specs.Linked.{TakesOf, dropped, numbers, without};
 ghost use Rattle.mio_wire.specs.Mail.{caster_after};
-ghost use Rattle.mio_wire.specs.Unread.{forgotten, nothing};
+ghost use Rattle.mio_wire.specs.Unread.{IsHeld, forgotten, nothing};
 
 mod serving;
 
@@ -173,7 +173,9 @@ impl Sockets {
     }
 
     /// Waits until something is ready, but not where something waits for another turn, and begins a turn.
-    pub(crate) fn wait(&mut self, most: Duration) -> Result<(), WireError> {
+    pub(crate) fn wait(&mut self, most: Duration) -> Result<(), WireError>
+        ensures { self.new.inbox ≡ self.old.inbox }
+    {
         self.wake_ears()?;
         for mailbox in self.mailboxes.iter_mut() {
             mailbox.received = 0;
@@ -190,7 +192,9 @@ impl Sockets {
         Ok(())
     }
 
-    fn wake_ears(&mut self) -> Result<(), AllocError> {
+    fn wake_ears(&mut self) -> Result<(), AllocError>
+        ensures { self.new.inbox ≡ self.old.inbox }
+    {
         for (place, ear) in self.ears.iter_mut().enumerate() {
             ear.opened = 0;
             if self.retry && ear.deaf {
@@ -244,6 +248,8 @@ impl Sockets {
         number: u32,
         bytes: &[u8],
     ) -> Result<Sent, AllocError>
+        ensures there { IfOk result (TakesOf (numbers links.old.list.items) number) }
+        ensures held { IsHeld self.old.inbox (numbers links.old.list.items) → IsHeld self.new.inbox (numbers links.new.list.items) }
         ensures part { IfOk result (IsOutcome bytes.now) }
         ensures made { links.new.made ≡ links.old.made }
         ensures numbers { OnOk result (numbers links.new.list.items ≡ after_sent result number (numbers links.old.list.items)) }

@@ -9,9 +9,9 @@ ghost use Rattle.std.specs.Net.Grammar.{IsIpv4Text};
 ghost use Rattle.std.specs.declared.net.ipv4_addr.Ipv4Addr.{Ipv4Addr};
 ghost use Rattle.mio_wire.specs.Names.{IsIn};
 ghost use Rattle.mio_wire.specs.Dialled.{Answers, AnswersStep, Begins};
-ghost use Rattle.mio_wire.specs.Linked.{numbers, numbers_after, without};
+ghost use Rattle.mio_wire.specs.Linked.{TakesOf, TellsOfOne, TellsStep, numbers, numbers_after, without};
 ghost use Rattle.mio_wire.specs.Arrivals.{IsArrival, Steps, after_sent, counts, gones_after};
-ghost use Rattle.mio_wire.specs.Unread.{HandsUp, Leaves, forgotten};
+ghost use Rattle.mio_wire.specs.Unread.{HandsUp, IsHeld, Leaves, forgotten};
 ghost use Rattle.mio_wire.specs.Held.{caster, unread};
 ghost use Rattle.mio_wire.specs.Mail.{caster_after};
 
@@ -136,6 +136,8 @@ impl<'a, R: Net + Clock> MioWire<'a, R> {
         ensures steps { IfOk result (Steps (numbers self.old.links.list.items) (numbers self.new.links.list.items) self.old.links.made self.new.links.made) }
         ensures dials { IfOk result (AnswersStep self.old.dials.list.items self.new.dials.list.items) }
         ensures arrival { IfOk result IsArrival }
+        ensures tells { IsHeld (unread self.old.sockets) (numbers self.old.links.list.items) → IfOk result (TellsStep (numbers self.old.links.list.items)) }
+        ensures held { IsHeld (unread self.old.sockets) (numbers self.old.links.list.items) → IfOk result (λ o. IsHeld (unread self.new.sockets) (numbers self.new.links.list.items)) }
         ensures bytes { IfOk result (HandsUp (unread self.old.sockets)) }
         ensures rest { IfOk result (λ o. IfSome o (Leaves (unread self.old.sockets) (unread self.new.sockets) (unread self.old.sockets).left)) }
         ensures err { OnErr result ((numbers self.new.links.list.items ≡ numbers self.old.links.list.items) × (self.new.links.made ≡ self.old.links.made)) }
@@ -156,6 +158,8 @@ impl<'a, R: Net + Clock> MioWire<'a, R> {
         ensures steps { IfOk result (Steps (numbers self.old.links.list.items) (numbers self.new.links.list.items) self.old.links.made self.new.links.made) }
         ensures dials { IfOk result (AnswersStep self.old.dials.list.items self.new.dials.list.items) }
         ensures rest { IfOk result (λ o. IfSome o (Leaves (unread self.old.sockets) (unread self.new.sockets) (unread self.old.sockets).left)) }
+        ensures tells { IsHeld (unread self.old.sockets) (numbers self.old.links.list.items) → IfOk result (TellsStep (numbers self.old.links.list.items)) }
+        ensures held { IsHeld (unread self.old.sockets) (numbers self.old.links.list.items) → IfOk result (λ o. IsHeld (unread self.new.sockets) (numbers self.new.links.list.items)) }
         ensures gives { IfOk result (StepGives self.old.course self.old.dials.list.items (unread self.old.sockets)) }
         ensures err { OnErr result ((numbers self.new.links.list.items ≡ numbers self.old.links.list.items) × (self.new.links.made ≡ self.old.links.made)) }
         ensures stops { (self.old.stops ≤ self.new.stops) × (IsErrOf result WireError.Failed → Rose self.old.stops self.new.stops) }
@@ -188,6 +192,8 @@ impl<'a, R: Net + Clock> MioWire<'a, R> {
 
     /// Offers bytes to a link, which is let go where it is gone.
     fn offer(&mut self, link: u32, bytes: &[u8]) -> Result<Sent, Memory>
+        ensures there { IfOk result (TakesOf (numbers self.old.links.list.items) link) }
+        ensures held { IsHeld (unread self.old.sockets) (numbers self.old.links.list.items) → IsHeld (unread self.new.sockets) (numbers self.new.links.list.items) }
         ensures part { IfOk result (IsOutcome bytes.now) }
         ensures links { OnOk result (numbers self.new.links.list.items ≡ after_sent result link (numbers self.old.links.list.items)) }
         ensures others { without link self.new.links.list.items ≡ without link self.old.links.list.items }
@@ -213,6 +219,7 @@ impl<'a, R: Net + Clock> MioWire<'a, R> {
 
     /// Begins a dial, which has failed where there is no address for it.
     fn begin(&mut self, uplink: u16, spec: &UplinkSpec) -> Result<Dial, Memory>
+        ensures unread { unread self.new.sockets ≡ unread self.old.sockets }
         ensures named { IfOk result (λ d. d.uplink ≡ uplink) }
         ensures digits { (a : Ipv4Addr) → IsIpv4Text spec.now.host a → IfOk result (λ d. IsIn spec.now.host spec.now.port (Some d.at)) }
         ensures since { IfOk result (λ d. IfSome self.old.course.second (λ second. d.since ≡ second)) }
@@ -241,6 +248,7 @@ impl<'a, R: Net + Clock> MioWire<'a, R> {
 
     /// Begins to connect. None where that fails at once.
     fn connect(&mut self, at: Addr, token: usize) -> Result<Option<TcpStream>, Memory>
+        ensures unread { unread self.new.sockets ≡ unread self.old.sockets }
         ensures kept { self.new ≡ record self.old { sockets = self.new.sockets } }
     {
         if self.sockets.is_none() {
@@ -261,6 +269,7 @@ impl<'a, R: Net + Clock> MioWire<'a, R> {
         requires { is_due self.old.course.pace ≡ false }
         ensures stops { (self.old.stops ≤ self.new.stops) × (IsErrOf result WireError.Failed → Rose self.old.stops self.new.stops) }
         ensures kept { self.new ≡ record self.old { sockets = self.new.sockets; stops = self.new.stops } }
+        ensures unread { unread self.new.sockets ≡ unread self.old.sockets }
     {
         let left = 1000u64.saturating_sub(u64::from(now.subsec_millis()));
         let Some(sockets) = &mut self.sockets else {
@@ -298,6 +307,8 @@ impl<'a, R: Net + Clock + Wait> Wire for MioWire<'a, R> {
     fn next(&mut self) -> Result<Event, WireError>
         ensures next { AfterNext (counts self.old.stops self.old.gones self.old.links.made) (counts self.new.stops self.new.gones self.new.links.made) result }
         ensures comes { IfOk result (ComesNext self.old.course self.old.dials.list.items (unread self.old.sockets)) }
+        ensures tells { IsHeld (unread self.old.sockets) (numbers self.old.links.list.items) → IfOk result (TellsOfOne (numbers self.old.links.list.items)) }
+        ensures held { IsHeld (unread self.old.sockets) (numbers self.old.links.list.items) → IfOk result (λ e. IsHeld (unread self.new.sockets) (numbers self.new.links.list.items)) }
         ensures rest { IfOk result (Leaves (unread self.old.sockets) (unread self.new.sockets) (unread self.old.sockets).left) }
         ensures course { IfOk result (λ e. self.new.course ≡ after_event e self.old.course) }
         ensures links { IfOk result (λ e. numbers self.new.links.list.items ≡ numbers_after e (numbers self.old.links.list.items)) }
@@ -316,6 +327,8 @@ impl<'a, R: Net + Clock + Wait> Wire for MioWire<'a, R> {
 
     fn send(&mut self, link: u32, bytes: &[u8]) -> Result<Sent, Memory>
         ensures send { AfterSend (counts self.old.stops self.old.gones self.old.links.made) (counts self.new.stops self.new.gones self.new.links.made) link bytes.now result }
+        ensures there { IfOk result (TakesOf (numbers self.old.links.list.items) link) }
+        ensures held { IsHeld (unread self.old.sockets) (numbers self.old.links.list.items) → IsHeld (unread self.new.sockets) (numbers self.new.links.list.items) }
         ensures course { self.new.course ≡ after_offer result self.old.course }
         ensures gones { self.new.gones ≡ gones_after result self.old.gones }
         ensures links { OnOk result (numbers self.new.links.list.items ≡ after_sent result link (numbers self.old.links.list.items)) }
@@ -332,6 +345,7 @@ impl<'a, R: Net + Clock + Wait> Wire for MioWire<'a, R> {
 
     fn close(&mut self, link: u32) -> Result<(), Memory>
         ensures close { AfterAct (counts self.old.stops self.old.gones self.old.links.made) (counts self.new.stops self.new.gones self.new.links.made) (with_closed link) result }
+        ensures held { IsHeld (unread self.old.sockets) (numbers self.old.links.list.items) → IsHeld (unread self.new.sockets) (numbers self.new.links.list.items) }
         ensures links { (self.new.links.list.items ≡ without link self.old.links.list.items) × (self.new.links.made ≡ self.old.links.made) }
         ensures unread { unread self.new.sockets ≡ forgotten link (unread self.old.sockets) }
         ensures kept { self.new ≡ record self.old { sockets = self.new.sockets; links = self.new.links } }
@@ -348,6 +362,7 @@ impl<'a, R: Net + Clock + Wait> Wire for MioWire<'a, R> {
     fn dial(&mut self, uplink: u16, spec: &UplinkSpec) -> Result<(), Memory>
         ensures dial { AfterAct (counts self.old.stops self.old.gones self.old.links.made) (counts self.new.stops self.new.gones self.new.links.made) (with_dial uplink spec.now) result }
         ensures begun { OnOk result (Begins uplink spec.now self.old.course.second self.old.dials.list.items self.new.dials.list.items) }
+        ensures unread { unread self.new.sockets ≡ unread self.old.sockets }
         ensures err { OnErr result (self.new.dials.list.items ≡ self.old.dials.list.items) }
         ensures kept { self.new ≡ record self.old { sockets = self.new.sockets; dials = self.new.dials; names = self.new.names } }
     {

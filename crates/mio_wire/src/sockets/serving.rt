@@ -1,8 +1,9 @@
 //! Serving the sources that are ready.
-ghost use Rattle.std.specs.Prelude.{◌≡◌, ◌<◌, OnErr, IfOk, length};
+ghost use Rattle.std.specs.Prelude.{◌≡◌, ◌<◌, OnErr, IfOk, Contains, length};
 ghost use Rattle.mio_wire.specs.Arrivals.{IsArrival, IsMail, IsUnasked, Steps};
 ghost use Rattle.mio_wire.specs.Dialled.{AnswersStep};
-ghost use Rattle.mio_wire.specs.Linked.{numbers};
+ghost use Rattle.mio_wire.specs.Linked.{TellsStep, numbers};
+ghost use Rattle.mio_wire.specs.Unread.{IsHeld};
 
 use super::Sockets;
 use crate::addresses::addr_of;
@@ -30,6 +31,8 @@ impl Sockets {
         dials: &mut Dials,
     ) -> Result<Option<Event>, AllocError>
         requires { length self.old.inbox.left ≡ 0 }
+        ensures tells { IfOk result (TellsStep (numbers links.old.list.items)) }
+        ensures held { IsHeld self.new.inbox (numbers links.new.list.items) }
         ensures steps { IfOk result (Steps (numbers links.old.list.items) (numbers links.new.list.items) links.old.made links.new.made) }
         ensures dials { IfOk result (AnswersStep dials.old.list.items dials.new.list.items) }
         ensures arrival { IfOk result IsArrival }
@@ -48,7 +51,8 @@ impl Sockets {
 
     /// Hands up a datagram, or goes on where none waits.
     fn serve_mailbox(&mut self, place: usize) -> Result<Option<Event>, AllocError>
-        ensures { IfOk result IsMail }
+        ensures mail { IfOk result IsMail }
+        ensures inbox { self.new.inbox ≡ self.old.inbox }
     {
         let Some(mailbox) = self.mailboxes.get_mut(place) else {
             self.turns.advance();
@@ -83,6 +87,8 @@ impl Sockets {
         token: usize,
         ready: Ready,
     ) -> Result<Option<Event>, AllocError>
+        ensures tells { IfOk result (TellsStep (numbers links.old.list.items)) }
+        ensures inbox { self.new.inbox ≡ self.old.inbox }
         ensures steps { IfOk result (Steps (numbers links.old.list.items) (numbers links.new.list.items) links.old.made links.new.made) }
         ensures dials { IfOk result (AnswersStep dials.old.list.items dials.new.list.items) }
         ensures arrival { IfOk result IsArrival }
@@ -107,6 +113,8 @@ impl Sockets {
         place: usize,
     ) -> Result<Option<Event>, AllocError>
         requires { place < length dials.old.list.items }
+        ensures tells { IfOk result (TellsStep (numbers links.old.list.items)) }
+        ensures inbox { self.new.inbox ≡ self.old.inbox }
         ensures steps { IfOk result (Steps (numbers links.old.list.items) (numbers links.new.list.items) links.old.made links.new.made) }
         ensures dials { IfOk result (AnswersStep dials.old.list.items dials.new.list.items) }
         ensures arrival { IfOk result IsArrival }
@@ -144,6 +152,8 @@ impl Sockets {
 
     /// Opens a link, or goes on where none waits.
     fn serve_ear(&mut self, links: &mut Links, place: usize) -> Result<Option<Event>, AllocError>
+        ensures tells { IfOk result (TellsStep (numbers links.old.list.items)) }
+        ensures inbox { self.new.inbox ≡ self.old.inbox }
         ensures steps { IfOk result (Steps (numbers links.old.list.items) (numbers links.new.list.items) links.old.made links.new.made) }
         ensures arrival { IfOk result IsUnasked }
         ensures err { OnErr result ((numbers links.new.list.items ≡ numbers links.old.list.items) × (links.new.made ≡ links.old.made)) }
@@ -156,6 +166,8 @@ impl Sockets {
     }
 
     fn open_link(&mut self, links: &mut Links, place: usize) -> Result<Option<Event>, AllocError>
+        ensures tells { IfOk result (TellsStep (numbers links.old.list.items)) }
+        ensures inbox { self.new.inbox ≡ self.old.inbox }
         ensures steps { IfOk result (Steps (numbers links.old.list.items) (numbers links.new.list.items) links.old.made links.new.made) }
         ensures arrival { IfOk result IsUnasked }
         ensures err { OnErr result ((numbers links.new.list.items ≡ numbers links.old.list.items) × (links.new.made ≡ links.old.made)) }
@@ -196,6 +208,9 @@ impl Sockets {
         number: u32,
         ready: Ready,
     ) -> Result<Option<Event>, AllocError>
+        requires { length self.old.inbox.left ≡ 0 }
+        ensures tells { IfOk result (TellsStep (numbers links.old.list.items)) }
+        ensures held { IsHeld self.new.inbox (numbers links.new.list.items) }
         ensures steps { IfOk result (Steps (numbers links.old.list.items) (numbers links.new.list.items) links.old.made links.new.made) }
         ensures arrival { IfOk result IsUnasked }
         ensures err { OnErr result ((numbers links.new.list.items ≡ numbers links.old.list.items) × (links.new.made ≡ links.old.made)) }
@@ -221,7 +236,10 @@ impl Sockets {
         place: usize,
         number: u32,
     ) -> Result<Option<Event>, AllocError>
-        requires { place < length links.old.list.items }
+        requires place { place < length links.old.list.items }
+        requires there { Contains (numbers links.old.list.items) number }
+        ensures tells { IfOk result (TellsStep (numbers links.old.list.items)) }
+        ensures held { IsHeld self.new.inbox (numbers links.new.list.items) }
         ensures steps { IfOk result (Steps (numbers links.old.list.items) (numbers links.new.list.items) links.old.made links.new.made) }
         ensures arrival { IfOk result IsUnasked }
         ensures err { OnErr result ((numbers links.new.list.items ≡ numbers links.old.list.items) × (links.new.made ≡ links.old.made)) }

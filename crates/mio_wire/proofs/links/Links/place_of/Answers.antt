@@ -1,6 +1,7 @@
 use Rattle.std.proofs.Common.{rules}
 use Rattle.std.proofs.lemmas.List.Sorted.{answers_always}
 use Rattle.mio_wire.proofs.FindLemmas.{found, unfound}
+use Rattle.mio_wire.proofs.HeldLemmas.{found_there}
 use Rattle.mio_wire.proofs.links.Links.place_of.Goals as goal
 
 pub returns-clause-number : goal.returns-clause-number
@@ -15,3 +16,6 @@ returns-clause-none c =
     let by_number = facts.position (λ l. l.number) (answers_always _ _ _ (λ f a r g called. search rules)) in
     let rising = rw (← c.deref.ensures.value) at c.args.self.now.rising in
     rw (c.ok.ensures.value, ← c.deref.ensures.value) (unfound c.deref.result.now c.args.number c.binary_search_by_key.result rising by_number)
+
+pub returns-clause-there : goal.returns-clause-there
+returns-clause-there c = found_there c.args.self.now.list.items c.args.number c.ok.result (returns-clause-number c)

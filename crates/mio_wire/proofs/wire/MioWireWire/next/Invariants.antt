@@ -1,6 +1,7 @@
 use Rattle.std.proofs.Common.{◌≡◌, ◌<◌, ◌≤◌, length}
 use Rattle.mio_wire.specs.Held.{unread}
 use Rattle.mio_wire.specs.Linked.{numbers}
+use Rattle.mio_wire.specs.Unread.{IsHeld}
 use Rattle.mio_wire.proofs.wire.MioWireWire.next.Given as goal
 
 -- no link was made, no dial was answered, no send was made, and nothing was handed up
@@ -15,3 +16,4 @@ invariant-loop g l =
     × (l.self.dials.list.items ≡ l.initial.self.dials.list.items)
     × (0 < length (unread l.initial.self.sockets).left → unread l.self.sockets ≡ unread l.initial.self.sockets)
     × (l.self.course ≡ l.initial.self.course)
+    × (IsHeld (unread l.initial.self.sockets) (numbers l.initial.self.links.list.items) → IsHeld (unread l.self.sockets) (numbers l.self.links.list.items))
