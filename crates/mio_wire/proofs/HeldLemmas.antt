@@ -1,6 +1,6 @@
 -- Bytes that are left are those of a link that is there.
-use Rattle.std.proofs.Common.{◌≡◌, ℕ, zero, suc, ◌+◌, ◌<◌, ◌≤◌, ◌==◌, not, Bool, true, false, cond, Some, Option, None, List, [], ◌∷◌, length, get_or, drop, refl, sym, ap, ◌∙◌, arith, length-drop}
-use Rattle.std.specs.List.{Contains, filter, slice_get}
+use Rattle.std.proofs.Common.{◌≡◌, ℕ, zero, suc, ◌<◌, ◌==◌, not, Bool, true, false, cond, Some, Option, None, List, [], ◌∷◌, length, get_or, drop, refl, sym, ap, arith, length-drop}
+use Rattle.std.specs.List.{Contains, slice_get}
 use Rattle.std.specs.Option.{IfSome, OnSome, option_map}
 use Rattle.std.proofs.lemmas.Bool.Decides.{nat_tests}
 use Rattle.mio_wire.specs.Linked.{dropped, numbers}

@@ -1,5 +1,5 @@
 -- What comes next by what was unread at the start, where nothing was read while that was left.
-use Rattle.std.proofs.Common.{◌≡◌, ℕ, ◌<◌, Bool, true, false, List, [], ◌∷◌, length, Option, Some, None, subst, sym, arith}
+use Rattle.std.proofs.Common.{◌≡◌, ℕ, ◌<◌, Bool, true, false, List, [], ◌∷◌, length, Option, Some, None, subst, arith}
 use Rattle.aprs_base.specs.declared.events.Event.{Event}
 use Rattle.mio_wire.specs.Coming.{Comes, ComesNext, dead_at, has_stopped}
 use Rattle.mio_wire.specs.Pacing.{is_due, is_full}

@@ -1,5 +1,5 @@
 -- What arrives, and is not yet handed up.
-use Rattle.std.specs.Prelude.{◌≡◌, ℕ, ◌+◌, ◌-◌, ◌^◌, ◌==◌, ⊤, min, nat_lt, List, [], Option, Some, None, Result, Ok, Err, IsTrue, if◌then◌else◌}
+use Rattle.std.specs.Prelude.{◌≡◌, ℕ, ◌+◌, ◌-◌, ◌^◌, ⊤, min, List, Option, Some, None, Result, Ok, Err, IsTrue}
 use Rattle.aprs_base.specs.Outside.{CountsLink, WireShown, new_link}
 use Rattle.aprs_base.specs.declared.events.Event.{Event}
 use Rattle.aprs_base.specs.declared.events.Sent.{Sent}
