@@ -1,4 +1,8 @@
 pub mod EndLemmas
 pub mod PieceLemmas
 pub mod WriteLemmas
+pub mod LinkLemmas
 pub mod FindLemmas
+pub mod NextLemmas
+pub mod MailLemmas
+pub mod HeldLemmas

@@ -1,25 +1,40 @@
 -- What arrives, and is not yet handed up.
-use Rattle.std.specs.Prelude.{◌≡◌, ℕ, ◌+◌, ◌^◌, ◌⊎◌, List, Option, Some, None, nat_lt, if◌then◌else◌}
+use Rattle.std.specs.Prelude.{◌≡◌, ℕ, ◌+◌, ◌-◌, ◌^◌, ⊤, min, List, Option, Some, None, Result, Ok, Err, IsTrue}
 use Rattle.aprs_base.specs.Outside.{CountsLink, WireShown, new_link}
 use Rattle.aprs_base.specs.declared.events.Event.{Event}
+use Rattle.aprs_base.specs.declared.events.Sent.{Sent}
+use Rattle.aprs_base.specs.declared.events.Sent.TheVariants as sent
+use Rattle.mio_wire.specs.Coming.{is_arrival, is_mail, is_unasked}
+use Rattle.mio_wire.specs.Linked.{dropped, numbers_after}
 
--- bytes that a link brought
-pub record Brought : Type 0 where
-  pub link : ℕ
-  pub left : List ℕ
+-- the links' numbers and their count after a step: they change by what arrived alone
+abbrev pub Steps : (before now : List ℕ) (made made' : ℕ) → Option Event → Type 0
+Steps before now made made' None = (now ≡ before) × (made' ≡ made)
+Steps before now made made' (Some e) = (now ≡ numbers_after e before) × CountsLink (new_link e) made made'
 
--- an event brings no link, or the next one
-abbrev pub TakesNext : Option ℕ → Event → Type 0
-TakesNext next event = (new_link event ≡ None) ⊎ (new_link event ≡ next)
+abbrev pub IsArrival : Option Event → Type 0
+IsArrival None = ⊤
+IsArrival (Some e) = IsTrue (is_arrival e)
 
--- the number after that of the last link, where there is one
-abbrev pub next_number : ℕ → Option ℕ
-next_number made = if nat_lt (made + 1) (2 ^ 32) then Some (made + 1) else None
+abbrev pub IsMail : Option Event → Type 0
+IsMail None = ⊤
+IsMail (Some e) = IsTrue (is_mail e)
 
--- a step that gives an event counts the link that it brings
-abbrev pub CountsStep : ℕ → ℕ → Option Event → Type 0
-CountsStep before now None = now ≡ before
-CountsStep before now (Some event) = CountsLink (new_link event) before now
+abbrev pub IsUnasked : Option Event → Type 0
+IsUnasked None = ⊤
+IsUnasked (Some e) = IsTrue (is_unasked e)
+
+-- the links' numbers after an offer: one that is gone is let go
+abbrev pub after_sent : {E : Type 0} → Result Sent E → ℕ → List ℕ → List ℕ
+after_sent (Ok (sent.Took count)) link ns = ns
+after_sent (Ok sent.Gone) link ns = dropped link ns
+after_sent (Err e) link ns = ns
+
+-- a lost link counts once
+abbrev pub gones_after : {E : Type 0} → Result Sent E → ℕ → ℕ
+gones_after (Ok (sent.Took count)) gones = gones
+gones_after (Ok sent.Gone) gones = min (gones + 1) (2 ^ 64 - 1)
+gones_after (Err e) gones = gones
 
 -- the counts alone: nothing else is told
 abbrev pub counts : (stops gones links : ℕ) → WireShown

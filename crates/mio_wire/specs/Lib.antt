@@ -1,2 +1,10 @@
 pub mod Pacing
+pub mod Unread
+pub mod Names
+pub mod Dialled
+pub mod Coming
+pub mod Linked
 pub mod Arrivals
+pub mod Mail
+pub mod Sources
+pub mod Held

@@ -1,7 +1,5 @@
--- Line ends in a piece of a stream, and what comes next of a wire.
-use Rattle.std.specs.Prelude.{◌≡◌, ◌≢◌, ℕ, ◌+◌, ◌==◌, ◌&&◌, ◌||◌, Bool, true, false, not, nat_le, List, [], ◌∷◌, Option, Some, None, IsTrue, if◌then◌else◌}
-use Rattle.aprs_base.specs.declared.events.Event.{Event}
-use Rattle.aprs_base.specs.declared.events.Event.TheVariants as event
+-- Line ends in a piece of a stream, and what was handed up since the last tick.
+use Rattle.std.specs.Prelude.{ℕ, ◌+◌, ◌-◌, ◌^◌, ◌==◌, ◌&&◌, ◌||◌, Bool, true, false, not, min, nat_le, List, [], ◌∷◌, length, if◌then◌else◌}
 use Rattle.mio_wire.specs.declared.pace.Pace.{Pace}
 
 abbrev pub begins_with_lf : List ℕ → Bool
@@ -21,28 +19,30 @@ line_ends (b ∷ bs) = (if ends_at b bs then 1 else 0) + line_ends bs
 abbrev pub begins_end : ℕ → (after_cr : Bool) → Bool
 begins_end b after_cr = b == 13 || (b == 10 && not after_cr)
 
--- a tick is due at once: 400 line ends or 48,000 bytes were handed up since the last one
+-- nothing was handed up or sent
+abbrev pub rested : Pace
+rested = record { handed = false; lines = 0; bytes = 0; whole = false }
+
+-- something was handed up
+abbrev pub with_event : Pace → Pace
+with_event pace = record pace { handed = true }
+
+-- bytes were handed up
+abbrev pub with_bytes : List ℕ → Pace → Pace
+with_bytes bytes pace = record pace {
+  handed = true;
+  lines = min (pace.lines + line_ends bytes) (2 ^ 64 - 1);
+  bytes = min (pace.bytes + length bytes) (2 ^ 64 - 1);
+}
+
+-- a send took so many bytes: 65,536 are a whole offer
+abbrev pub with_taken : ℕ → Pace → Pace
+with_taken count pace = record pace { whole = pace.whole || nat_le 65536 count }
+
+-- a tick is due before anything else is handed up: 400 line ends or 48,000 bytes were handed up since the last one
 abbrev pub is_full : Pace → Bool
 is_full pace = nat_le 400 pace.lines || nat_le 48000 pace.bytes
 
--- as many links ended as were asked for
-abbrev pub has_stopped : (stop_after : Option ℕ) (ended : ℕ) → Bool
-has_stopped None ended = false
-has_stopped (Some count) ended = nat_le count ended
-
-abbrev pub is_tick : Event → Bool
-is_tick (event.Tick moment) = true
-is_tick _ = false
-
--- what comes next: a tick before anything else, a stop once enough links ended, a tick where one is due at once, and no stop otherwise
-abbrev pub ComesNext : (last : Option ℕ) (stopped full : Bool) → Event → Type 0
-ComesNext None stopped full e = IsTrue (is_tick e)
-ComesNext (Some moment) true full e = e ≡ event.Stop
-ComesNext (Some moment) false true e = IsTrue (is_tick e)
-ComesNext (Some moment) false false e = e ≢ event.Stop
-
--- a step that gives no event is taken only where none is due at once
-abbrev pub StepGives : (last : Option ℕ) (stopped full : Bool) → Option Event → Type 0
-StepGives last stopped full (Some e) = ComesNext last stopped full e
-StepGives None stopped full None = ⊥
-StepGives (Some moment) stopped full None = (stopped ≡ false) × (full ≡ false)
+-- a tick is due once all that came is handed up
+abbrev pub is_due : Pace → Bool
+is_due pace = pace.handed || pace.whole

@@ -1,6 +1,7 @@
 //! The bytes that were read and not yet handed up. One room serves all links, since each read is handed up before the next.
-ghost use Rattle.std.specs.Prelude.{◌≡◌, ◌↔◌, ◌≤◌, ◌==◌, [], IfOk, IfSome, IsSome, OnOk, OnErr, length, take, drop, if◌then◌else◌};
+ghost use Rattle.std.specs.Prelude.{◌≡◌, ◌↔◌, ◌≤◌, ◌==◌, [], IfOk, IfNone, IfSome, IsSome, OnOk, OnErr, length, take, drop, if◌then◌else◌};
 ghost use Rattle.std.specs.Io.KnownBytes.{Consumes, IsAtEnd};
+ghost use Rattle.mio_wire.specs.Unread.{forgotten, nothing};
 
 use aprs_base::Chunk;
 use std::alloc::{AllocError, Global};
@@ -23,7 +24,7 @@ pub(crate) struct Inbox {
 
 impl Model for Inbox {
     ghost use Rattle.std.specs.Prelude.{◌-◌, ◌<◌, ◌≤◌, take, drop, length};
-    ghost use Rattle.mio_wire.specs.Arrivals.{Brought};
+    ghost use Rattle.mio_wire.specs.Unread.{Brought};
 
     ghost Value = { Brought };
 
@@ -34,7 +35,7 @@ impl Model for Inbox {
 
 impl Inbox {
     pub(crate) fn new(alloc: Global) -> Result<Inbox, AllocError>
-        ensures { IfOk result (λ i. i.left ≡ []) }
+        ensures { IfOk result (λ i. i ≡ nothing) }
     {
         Ok(Inbox {
             buffer: Vec::from_elem(alloc, 0, MOST_READ)?,
@@ -71,6 +72,7 @@ impl Inbox {
         ensures some { IsSome result ↔ (1 ≤ length self.old.left) }
         ensures chunk { IfSome result (λ c. (c.0 ≡ self.old.link) × (c.1 ≡ take 1460 self.old.left)) }
         ensures rest { self.new ≡ record self.old { left = drop 1460 self.old.left } }
+        ensures none { IfNone result (length self.old.left ≡ 0) }
     {
         if self.from >= self.to {
             return None;
@@ -83,7 +85,7 @@ impl Inbox {
 
     /// Lets go what is left of a link's bytes.
     pub(crate) fn forget(&mut self, link: u32)
-        ensures { self.new ≡ record self.old { left = if self.old.link == link then [] else self.old.left } }
+        ensures { self.new ≡ forgotten link self.old }
     {
         if self.link == link {
             self.from = self.to;

@@ -1,8 +1,13 @@
-//! The network of the system: listeners and links over TCP behind the trait `Wire`.
+//! The network of the system behind the trait `Wire`: listeners, links and dials over TCP, and datagrams over UDP.
 #![tactic(auto)]
 
+mod addresses;
+mod course;
+mod dials;
 mod inbox;
 mod links;
+mod mail;
+mod names;
 mod pace;
 mod sockets;
 #[cfg(test)]

@@ -1,8 +1,13 @@
-//! The links, and what is written to them.
-ghost use Rattle.std.specs.Prelude.{◌≡◌, ◌≤◌, ◌<◌, Some, IfSome, length, take, option_map, slice_get};
+//! The links, and what is read from them and written to them.
+ghost use Rattle.std.specs.Prelude.{◌≡◌, ◌≢◌, ℕ, ◌+◌, ◌≤◌, ◌<◌, ◌^◌, [], ◌∷◌, ◌++◌, Some, OnOk, OnErr, OnSome, IfSome, IfNone, IfOk, All, Contains, false, length, take, option_map, slice_get};
 ghost use Rattle.std.specs.Io.KnownBytes.{Appends};
+ghost use Rattle.mio_wire.specs.declared.links.Reading.TheVariants.{End};
+ghost use Rattle.mio_wire.specs.Linked.{IsCounted, IsRising, dropped, numbers, without};
 
+use crate::inbox::{Inbox, MOST_READ};
+use crate::turns::Ready;
 use mio::net::TcpStream;
+use std::alloc::{AllocError, Global};
 use std::io::{ErrorKind, Write};
 
 /// A link to a client.
@@ -18,12 +23,152 @@ pub(crate) struct Link {
     pub(crate) blocked: bool,
 }
 
-/// Where a link stands among links in rising number.
-pub(crate) fn place_of(links: &[Link], number: u32) -> Option<usize>
-    ensures within { IfSome result (λ place. place < length links.now) }
-    ensures number { IfSome result (λ place. option_map (λ l. l.number) (slice_get links.now place) ≡ Some number) }
-{
-    links.binary_search_by_key(&number, |link| link.number).ok()
+/// What a read brought.
+#[derive(Clone, Copy)]
+pub(crate) enum Reading {
+    /// The link has ended.
+    End,
+    /// There may be more.
+    More,
+    /// There is no more, until the poll tells of it.
+    All,
+}
+
+impl Link {
+    /// Notes what the poll says. True where the link was blocked and has room again.
+    fn note(&mut self, ready: Ready) -> bool
+        ensures { self.new.number ≡ self.old.number }
+    {
+        self.closed = self.closed || ready.closed;
+        let room = ready.writable && self.blocked;
+        if room {
+            self.blocked = false;
+        }
+        room
+    }
+
+    /// Reads once into an inbox.
+    fn read(&mut self, inbox: &mut Inbox) -> Reading
+        ensures number { self.new.number ≡ self.old.number }
+        ensures link { inbox.new.link ≡ self.old.number }
+        ensures end { result ≡ End → length inbox.new.left ≡ 0 }
+    {
+        let more = match inbox.fill(self.number, &mut self.stream) {
+            Ok(0) => return Reading::End,
+            Ok(count) => count == MOST_READ || self.closed,
+            Err(error) if error.kind() == ErrorKind::WouldBlock => false,
+            Err(error) if error.kind() == ErrorKind::Interrupted => true,
+            Err(_) => return Reading::End,
+        };
+        self.later = more;
+        if more { Reading::More } else { Reading::All }
+    }
+
+    /// Offers bytes to the link.
+    fn write(&mut self, bytes: &[u8]) -> Option<Written>
+        ensures number { self.new.number ≡ self.old.number }
+        ensures within { IfSome result (λ w. w.taken ≤ length bytes.now) }
+    {
+        let written = write_on(&mut self.stream, bytes)?;
+        if written.taken < bytes.len() {
+            self.blocked = true;
+        }
+        Some(written)
+    }
+}
+
+/// The links that are open, in rising number, and the number of the last that was made.
+#[derive(Drop)]
+pub(crate) struct Links {
+    pub(crate) list: Vec<Link>,
+    pub(crate) made: u32,
+    ghost rising: { IsRising (numbers list.items) },
+    ghost counted: { IsCounted made (numbers list.items) },
+}
+
+impl Links {
+    pub(crate) fn new(alloc: Global) -> Links
+        ensures { (result.list.items ≡ []) × (result.made ≡ 0) }
+    {
+        Links {
+            list: Vec::new(alloc),
+            made: 0,
+        }
+    }
+
+    /// Adds a link with the next number.
+    pub(crate) fn add(&mut self, stream: TcpStream) -> Result<(), AllocError>
+        requires { self.old.made + 1 < 2 ^ 32 }
+        ensures ok { OnOk result (self.new.made ≡ self.old.made + 1) }
+        ensures link { OnOk result (self.new.list.items ≡ self.old.list.items ++ record { number = self.old.made + 1; stream = stream; later = false; closed = false; blocked = false } ∷ []) }
+        ensures err { OnErr result ((self.new.list.items ≡ self.old.list.items) × (self.new.made ≡ self.old.made)) }
+    {
+        self.list.push(Link {
+            number: self.made + 1,
+            stream,
+            later: false,
+            closed: false,
+            blocked: false,
+        })?;
+        self.made += 1;
+        Ok(())
+    }
+
+    /// Where the link with a number stands.
+    pub(crate) fn place_of(&self, number: u32) -> Option<usize>
+        ensures within { IfSome result (λ place. place < length self.now.list.items) }
+        ensures number { IfSome result (λ place. option_map (λ l. l.number) (slice_get self.now.list.items place) ≡ Some number) }
+        ensures there { OnSome result (Contains (numbers self.now.list.items) number) }
+        ensures none { IfNone result (All (λ n. n ≢ number) (numbers self.now.list.items)) }
+    {
+        self.list
+            .binary_search_by_key(&number, |link| link.number)
+            .ok()
+    }
+
+    /// Notes what the poll says of the link at a place. True where it was blocked and has room again.
+    pub(crate) fn note(&mut self, place: usize, ready: Ready) -> bool
+        requires { place < length self.old.list.items }
+        ensures { (numbers self.new.list.items ≡ numbers self.old.list.items) × (self.new.made ≡ self.old.made) }
+    {
+        self.list[place].note(ready)
+    }
+
+    /// Whether the link at a place waits for another turn.
+    pub(crate) fn is_later(&self, place: usize) -> bool
+        requires { place < length self.now.list.items }
+    {
+        self.list[place].later
+    }
+
+    /// Reads once from the link at a place.
+    pub(crate) fn read(&mut self, place: usize, inbox: &mut Inbox) -> Reading
+        requires { place < length self.old.list.items }
+        ensures link { Contains (numbers self.old.list.items) inbox.new.link }
+        ensures end { result ≡ End → length inbox.new.left ≡ 0 }
+        ensures same { (numbers self.new.list.items ≡ numbers self.old.list.items) × (self.new.made ≡ self.old.made) }
+    {
+        self.list[place].read(inbox)
+    }
+
+    /// Offers bytes to the link at a place.
+    pub(crate) fn write(&mut self, place: usize, bytes: &[u8]) -> Option<Written>
+        requires { place < length self.old.list.items }
+        ensures same { (numbers self.new.list.items ≡ numbers self.old.list.items) × (self.new.made ≡ self.old.made) }
+        ensures others { (number : ℕ) → option_map (λ l. l.number) (slice_get self.old.list.items place) ≡ Some number → without number self.new.list.items ≡ without number self.old.list.items }
+        ensures within { IfSome result (λ w. w.taken ≤ length bytes.now) }
+    {
+        self.list[place].write(bytes)
+    }
+
+    /// Lets go the link with a number.
+    pub(crate) fn let_go(&mut self, number: u32)
+        ensures links { (self.new.list.items ≡ without number self.old.list.items) × (self.new.made ≡ self.old.made) }
+        ensures numbers { numbers self.new.list.items ≡ dropped number (numbers self.old.list.items) }
+        ensures others { without number self.new.list.items ≡ without number self.old.list.items }
+    {
+        self.list.retain(|link| link.number != number);
+    }
 }
 
 /// What was written to a link that is there.

@@ -1,6 +1,6 @@
 //! What was handed up since the last tick, and whether another is due before the next second.
-ghost use Rattle.std.specs.Prelude.{◌≡◌, ◌+◌, ◌-◌, ◌^◌, ◌||◌, true, false, min, length, nat_le};
-ghost use Rattle.mio_wire.specs.Pacing.{begins_end, is_full, line_ends};
+ghost use Rattle.std.specs.Prelude.{◌≡◌};
+ghost use Rattle.mio_wire.specs.Pacing.{begins_end, is_due, is_full, line_ends, rested, with_bytes, with_event, with_taken};
 
 /// So many line ends make a tick due, so that no round brings more lines than a queue holds.
 const MOST_LINES: usize = 400;
@@ -22,7 +22,7 @@ pub(crate) struct Pace {
 
 impl Pace {
     pub(crate) fn rested() -> Pace
-        ensures { result ≡ record { handed = false; lines = 0; bytes = 0; whole = false } }
+        ensures { result ≡ rested }
     {
         Pace {
             handed: false,
@@ -41,23 +41,19 @@ impl Pace {
 
     /// Whether a tick is due where all that came is handed up.
     pub(crate) fn is_due(&self) -> bool
-        ensures { result ≡ (self.now.handed || self.now.whole) }
+        ensures { result ≡ is_due self.now }
     {
         self.handed || self.whole
     }
 
     pub(crate) fn note_event(&mut self)
-        ensures { self.new ≡ record self.old { handed = true } }
+        ensures { self.new ≡ with_event self.old }
     {
         self.handed = true;
     }
 
     pub(crate) fn note_bytes(&mut self, bytes: &[u8])
-        ensures { self.new ≡ record self.old {
-          handed = true;
-          lines = min (self.old.lines + line_ends bytes.now) (2 ^ 64 - 1);
-          bytes = min (self.old.bytes + length bytes.now) (2 ^ 64 - 1);
-        } }
+        ensures { self.new ≡ with_bytes bytes.now self.old }
     {
         self.handed = true;
         self.lines = self.lines.saturating_add(line_ends(bytes));
@@ -66,7 +62,7 @@ impl Pace {
 
     /// A send took so many bytes.
     pub(crate) fn note_taken(&mut self, count: usize)
-        ensures { self.new ≡ record self.old { whole = self.old.whole || nat_le 65536 count } }
+        ensures { self.new ≡ with_taken count self.old }
     {
         self.whole = self.whole || count >= WHOLE_OFFER;
     }

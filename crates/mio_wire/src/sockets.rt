@@ -1,27 +1,30 @@
 //! The poll with the sockets that it watches.
-ghost use Rattle.std.specs.Prelude.{◌≡◌, ◌≢◌, ℕ, ◌≤◌, ◌<◌, None, IfOk, IfSome, length};
-ghost use Rattle.mio_wire.specs.Arrivals.{TakesNext};
-ghost use Rattle.aprs_base.specs.Outside.{IsOutcome, new_link};
-ghost use Rattle.aprs_base.specs.declared.events.Event.TheVariants.{Ended, Stop};
+ghost use Rattle.std.specs.Prelude.{◌≡◌, ◌≤◌, None, true, false, OnOk, OnErr, IfOk, IfNone, IfSome, length, take, drop, vec_len};
+ghost use Rattle.aprs_base.specs.Outside.{IsOutcome};
+ghost use Rattle.mio_wire.specs.Arrivals.{after_sent};
+ghost use Rattle.mio_wire.specs.Linked.{TakesOf, dropped, numbers, without};
+ghost use Rattle.mio_wire.specs.Mail.{caster_after};
+ghost use Rattle.mio_wire.specs.Unread.{IsHeld, forgotten, nothing};
 
-use crate::inbox::{Inbox, MOST_READ};
-use crate::links::{Link, place_of, write_on};
-use crate::turns::{FIRST_EAR, Ready, Turns};
-use aprs_base::{Addr, Chunk, Event, Sent, WireError};
-use mio::net::TcpListener;
+mod serving;
+
+use crate::addresses::socket_of;
+use crate::inbox::Inbox;
+use crate::links::Links;
+use crate::mail::{Caster, Mailbox, caster_after};
+use crate::turns::{FIRST_EAR, FIRST_MAILBOX, Ready, Turns};
+use aprs_base::{Addr, Chunk, ListenSpec, PortKind, Sent, WireError};
+use mio::net::{TcpListener, TcpStream, UdpSocket};
 use mio::{Events, Interest, Poll, Token};
 use std::alloc::{AllocError, Global};
-use std::io::{self, ErrorKind};
-use std::net::{Ipv4Addr, Net, SocketAddr, SocketAddrV4};
+use std::io;
+use std::net::Net;
 use std::time::Duration;
 
 /// How many events one poll brings at most.
 const MOST_EVENTS: usize = 512;
 
-/// How many links one listener opens in a turn.
-const MOST_OPENED: u32 = 64;
-
-/// A listener.
+/// A listener for links.
 #[derive(Drop)]
 struct Ear {
     number: u16,
@@ -34,62 +37,60 @@ struct Ear {
 
 #[derive(Drop)]
 pub(crate) struct Sockets {
-    alloc: Global,
     poll: Poll,
     events: Events,
     ears: Vec<Ear>,
-    links: Vec<Link>,
+    mailboxes: Vec<Mailbox>,
+    caster: Option<Caster>,
     turns: Turns,
     inbox: Inbox,
     /// Deaf ears are to be tried again.
     retry: bool,
 }
 
-/// The address of a socket of IPv4.
-fn socket_of(at: Addr) -> SocketAddr {
-    SocketAddr::V4(SocketAddrV4::new(Ipv4Addr::from(at.ip), at.port))
-}
-
-/// The address that a peer has; that of an IPv6 peer, which no listener of IPv4 has, is left out.
-fn addr_of(socket: SocketAddr) -> Addr {
-    match socket {
-        SocketAddr::V4(at) => Addr {
-            ip: at.ip().octets(),
-            port: at.port(),
-        },
-        SocketAddr::V6(at) => Addr {
-            ip: [0; 4],
-            port: at.port(),
-        },
-    }
-}
-
 impl Sockets {
-    pub(crate) fn open<R: Net>(rt: &R, alloc: Global) -> Result<Sockets, WireError> {
+    pub(crate) fn open<R: Net>(rt: &R, alloc: Global) -> Result<Sockets, WireError>
+        ensures { IfOk result (λ s. (s.inbox ≡ nothing) × (s.caster ≡ None)) }
+    {
         let events = Events::with_capacity(alloc, MOST_EVENTS)?;
         let inbox = Inbox::new(alloc)?;
         let Ok(poll) = Poll::new(rt) else {
             return Err(WireError::Failed);
         };
         Ok(Sockets {
-            alloc,
             poll,
             events,
             ears: Vec::new(alloc),
-            links: Vec::new(alloc),
+            mailboxes: Vec::new(alloc),
+            caster: None,
             turns: Turns::new(alloc),
             inbox,
             retry: false,
         })
     }
 
-    /// Listens at an address for links.
+    /// Listens for links or for datagrams, as a listener of its kind does.
     pub(crate) fn listen<R: Net>(
         &mut self,
         rt: &R,
         number: u16,
-        at: Addr,
-    ) -> Result<(), WireError> {
+        spec: &ListenSpec,
+    ) -> Result<(), WireError>
+        ensures unread { self.new.inbox ≡ self.old.inbox }
+        ensures ok { OnOk result (self.new.caster ≡ caster_after spec.now.kind number (vec_len self.old.mailboxes) self.old.caster) }
+        ensures err { OnErr result (self.new.caster ≡ self.old.caster) }
+    {
+        match spec.kind {
+            PortKind::Full | PortKind::Igate | PortKind::Only | PortKind::Dupe => {
+                self.listen_for_links(rt, number, spec.at)
+            }
+            PortKind::Submit | PortKind::Core => self.listen_for_mail(rt, number, spec),
+        }
+    }
+
+    fn listen_for_links<R: Net>(&mut self, rt: &R, number: u16, at: Addr) -> Result<(), WireError>
+        ensures { (self.new.inbox ≡ self.old.inbox) × (self.new.caster ≡ self.old.caster) }
+    {
         let Ok(listener) = self.bind(rt, at) else {
             return Err(WireError::Failed);
         };
@@ -111,14 +112,74 @@ impl Sockets {
         Ok(listener)
     }
 
+    fn listen_for_mail<R: Net>(
+        &mut self,
+        rt: &R,
+        number: u16,
+        spec: &ListenSpec,
+    ) -> Result<(), WireError>
+        ensures unread { self.new.inbox ≡ self.old.inbox }
+        ensures ok { OnOk result (self.new.caster ≡ caster_after spec.now.kind number (vec_len self.old.mailboxes) self.old.caster) }
+        ensures err { OnErr result (self.new.caster ≡ self.old.caster) }
+    {
+        let Ok(socket) = self.bind_mailbox(rt, spec.at) else {
+            return Err(WireError::Failed);
+        };
+        let place = self.mailboxes.len();
+        self.mailboxes.push(Mailbox {
+            number,
+            socket,
+            received: 0,
+        })?;
+        self.caster = caster_after(self.caster, spec.kind, number, place);
+        Ok(())
+    }
+
+    fn bind_mailbox<R: Net>(&self, rt: &R, at: Addr) -> io::Result<UdpSocket> {
+        let mut socket = UdpSocket::bind(rt, socket_of(at))?;
+        let token = Token(FIRST_MAILBOX.saturating_add(self.mailboxes.len()));
+        self.poll
+            .registry()
+            .register(&mut socket, token, Interest::READABLE)?;
+        Ok(socket)
+    }
+
+    /// Begins to connect to an address. None where that fails at once.
+    pub(crate) fn connect<R: Net>(&self, rt: &R, at: Addr, token: usize) -> Option<TcpStream> {
+        let mut stream = TcpStream::connect(rt, socket_of(at)).ok()?;
+        let interest = Interest::READABLE | Interest::WRITABLE;
+        self.poll
+            .registry()
+            .register(&mut stream, Token(token), interest)
+            .ok()?;
+        Some(stream)
+    }
+
+    /// Casts a datagram. A lost one is no fault.
+    pub(crate) fn cast(&self, to: Addr, bytes: &[u8]) {
+        let Some(caster) = self.caster else {
+            return;
+        };
+        if let Some(mailbox) = self.mailboxes.get(caster.place) {
+            let _ = mailbox.socket.send_to(bytes, socket_of(to));
+        }
+    }
+
     /// Has deaf listeners tried again in the next turn.
-    pub(crate) fn retry(&mut self) {
+    pub(crate) fn retry(&mut self)
+        ensures { self.new ≡ record self.old { retry = true } }
+    {
         self.retry = true;
     }
 
     /// Waits until something is ready, but not where something waits for another turn, and begins a turn.
-    pub(crate) fn wait(&mut self, most: Duration) -> Result<(), WireError> {
+    pub(crate) fn wait(&mut self, most: Duration) -> Result<(), WireError>
+        ensures { self.new.inbox ≡ self.old.inbox }
+    {
         self.wake_ears()?;
+        for mailbox in self.mailboxes.iter_mut() {
+            mailbox.received = 0;
+        }
         let most = if self.turns.has_later() {
             Duration::ZERO
         } else {
@@ -131,7 +192,9 @@ impl Sockets {
         Ok(())
     }
 
-    fn wake_ears(&mut self) -> Result<(), AllocError> {
+    fn wake_ears(&mut self) -> Result<(), AllocError>
+        ensures { self.new.inbox ≡ self.old.inbox }
+    {
         for (place, ear) in self.ears.iter_mut().enumerate() {
             ear.opened = 0;
             if self.retry && ear.deaf {
@@ -145,12 +208,19 @@ impl Sockets {
     }
 
     /// Bytes that were read, as many as one event has.
-    pub(crate) fn take_chunk(&mut self) -> Option<(u32, Chunk)> {
+    pub(crate) fn take_chunk(&mut self) -> Option<(u32, Chunk)>
+        ensures chunk { IfSome result (λ c. (c.0 ≡ self.old.inbox.link) × (c.1 ≡ take 1460 self.old.inbox.left)) }
+        ensures rest { self.new ≡ record self.old { inbox = record self.old.inbox { left = drop 1460 self.old.inbox.left } } }
+        ensures none { IfNone result (length self.old.inbox.left ≡ 0) }
+        ensures some { IfSome result (λ c. 1 ≤ length self.old.inbox.left) }
+    {
         self.inbox.take_chunk()
     }
 
     /// Whether bytes that were read are not handed up yet.
-    pub(crate) fn has_bytes(&self) -> bool {
+    pub(crate) fn has_bytes(&self) -> bool
+        ensures { result ≡ false → length self.now.inbox.left ≡ 0 }
+    {
         !self.inbox.is_empty()
     }
 
@@ -159,163 +229,42 @@ impl Sockets {
         self.turns.current().is_some()
     }
 
-    /// Serves the source whose turn it is. `next` is the number of the next link, where there is one.
-    pub(crate) fn serve(&mut self, next: Option<u32>) -> Result<Option<Event>, AllocError>
-        ensures { IfOk result (λ o. IfSome o (λ e. TakesNext next e × (e ≢ Stop))) }
-    {
-        let Some(ready) = self.turns.current() else {
-            return Ok(None);
-        };
-        match u32::try_from(ready.token) {
-            Ok(number) => self.serve_link(number, ready),
-            Err(_) => self.serve_ear(ready.token.saturating_sub(FIRST_EAR), next),
-        }
-    }
-
-    /// Opens a link, or goes on where none waits.
-    fn serve_ear(&mut self, place: usize, next: Option<u32>) -> Result<Option<Event>, AllocError>
-        ensures { IfOk result (λ o. IfSome o (λ e. TakesNext next e × (e ≢ Stop))) }
-    {
-        let opened = self.open_link(place, next)?;
-        if opened.is_none() {
-            self.turns.advance();
-        }
-        Ok(opened)
-    }
-
-    fn open_link(&mut self, place: usize, next: Option<u32>) -> Result<Option<Event>, AllocError>
-        ensures { IfOk result (λ o. IfSome o (λ e. TakesNext next e × (e ≢ Stop))) }
-    {
-        let Some(number) = next else {
-            return Ok(None);
-        };
-        let Some(ear) = self.ears.get_mut(place) else {
-            return Ok(None);
-        };
-        if ear.opened >= MOST_OPENED {
-            self.turns
-                .put_off(Ready::to_read(FIRST_EAR.saturating_add(place)))?;
-            return Ok(None);
-        }
-        match accept(&self.poll, &ear.listener, number) {
-            Ok((link, from)) => {
-                ear.opened += 1;
-                let listener = ear.number;
-                self.links.push(link)?;
-                Ok(Some(Event::Opened {
-                    listener,
-                    link: number,
-                    from,
-                }))
-            }
-            Err(error) => {
-                ear.deaf = error.kind() != ErrorKind::WouldBlock;
-                Ok(None)
-            }
-        }
-    }
-
-    /// Says that a link has room again, or reads what it brings.
-    fn serve_link(&mut self, number: u32, ready: Ready) -> Result<Option<Event>, AllocError>
-        ensures { IfOk result (λ o. IfSome o (λ e. (new_link e ≡ None) × (e ≢ Stop))) }
-    {
-        let Some(place) = place_of(self.links.as_slice(), number) else {
-            self.turns.advance();
-            return Ok(None);
-        };
-        let link = &mut self.links[place];
-        link.closed = link.closed || ready.closed;
-        if ready.writable && link.blocked {
-            link.blocked = false;
-            return Ok(Some(Event::Room(number)));
-        }
-        let waits = link.later && !ready.again;
-        self.turns.advance();
-        if waits || !ready.readable {
-            return Ok(None);
-        }
-        self.read(place, number)
-    }
-
-    /// Reads once from a link, which has another turn where more may be there.
-    fn read(&mut self, place: usize, number: u32) -> Result<Option<Event>, AllocError>
-        requires { place < length self.old.links.items }
-        ensures { IfOk result (λ o. IfSome o (λ e. (new_link e ≡ None) × (e ≢ Stop))) }
-    {
-        let link = &mut self.links[place];
-        let more = match self.inbox.fill(number, &mut link.stream) {
-            Ok(0) => return Ok(Some(self.end(place, number))),
-            Ok(count) => count == MOST_READ || link.closed,
-            Err(error) if error.kind() == ErrorKind::WouldBlock => false,
-            Err(error) if error.kind() == ErrorKind::Interrupted => true,
-            Err(_) => return Ok(Some(self.end(place, number))),
-        };
-        link.later = more;
-        if more {
-            self.turns.put_off(Ready::to_read(number as usize))?;
-        }
-        Ok(None)
-    }
-
-    fn end(&mut self, place: usize, number: u32) -> Event
-        requires { place < length self.old.links.items }
-        ensures { result ≡ Ended number }
-    {
-        self.let_go(place, number);
-        Event::Ended(number)
-    }
-
     /// Lets go a link with what it brought.
-    fn let_go(&mut self, place: usize, number: u32)
-        requires { place < length self.old.links.items }
+    pub(crate) fn let_go(&mut self, links: &mut Links, number: u32)
+        ensures links { (links.new.list.items ≡ without number links.old.list.items) × (links.new.made ≡ links.old.made) }
+        ensures numbers { numbers links.new.list.items ≡ dropped number (numbers links.old.list.items) }
+        ensures others { without number links.new.list.items ≡ without number links.old.list.items }
+        ensures inbox { self.new.inbox ≡ forgotten number self.old.inbox }
     {
-        self.links.remove(place);
+        links.let_go(number);
         self.inbox.forget(number);
         self.retry = true;
     }
 
     /// Offers bytes to a link.
-    pub(crate) fn send(&mut self, number: u32, bytes: &[u8]) -> Result<Sent, AllocError>
-        ensures { IfOk result (IsOutcome bytes.now) }
+    pub(crate) fn send(
+        &mut self,
+        links: &mut Links,
+        number: u32,
+        bytes: &[u8],
+    ) -> Result<Sent, AllocError>
+        ensures there { IfOk result (TakesOf (numbers links.old.list.items) number) }
+        ensures held { IsHeld self.old.inbox (numbers links.old.list.items) → IsHeld self.new.inbox (numbers links.new.list.items) }
+        ensures part { IfOk result (IsOutcome bytes.now) }
+        ensures made { links.new.made ≡ links.old.made }
+        ensures numbers { OnOk result (numbers links.new.list.items ≡ after_sent result number (numbers links.old.list.items)) }
+        ensures others { without number links.new.list.items ≡ without number links.old.list.items }
     {
-        let Some(place) = place_of(self.links.as_slice(), number) else {
+        let Some(place) = links.place_of(number) else {
             return Ok(Sent::Gone);
         };
-        let link = &mut self.links[place];
-        let Some(written) = write_on(&mut link.stream, bytes) else {
-            self.let_go(place, number);
+        let Some(written) = links.write(place, bytes) else {
+            self.let_go(links, number);
             return Ok(Sent::Gone);
         };
-        if written.taken < bytes.len() {
-            link.blocked = true;
-            if !written.full {
-                self.turns.put_off(Ready::to_write(number as usize))?;
-            }
+        if written.taken < bytes.len() && !written.full {
+            self.turns.put_off(Ready::to_write(number as usize))?;
         }
         Ok(Sent::Took(written.taken))
     }
-
-    pub(crate) fn close(&mut self, number: u32) {
-        if let Some(place) = place_of(self.links.as_slice(), number) {
-            self.let_go(place, number);
-        }
-    }
-}
-
-/// The link that waits at a listener, watched by the poll, and where it comes from.
-fn accept(poll: &Poll, listener: &TcpListener, number: u32) -> io::Result<(Link, Addr)> {
-    let (mut stream, from) = listener.accept()?;
-    // A link works without it.
-    let _ = stream.set_nodelay(true);
-    let interest = Interest::READABLE | Interest::WRITABLE;
-    poll.registry()
-        .register(&mut stream, Token(number as usize), interest)?;
-    let link = Link {
-        number,
-        stream,
-        later: false,
-        closed: false,
-        blocked: false,
-    };
-    Ok((link, addr_of(from)))
 }

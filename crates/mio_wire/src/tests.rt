@@ -1,9 +1,9 @@
-//! Links over loopback. Each test has a port of its own.
+//! Links, dials and datagrams over loopback. Each test has ports of its own, below those that the system gives away.
 use crate::MioWire;
-use aprs_base::{Addr, Event, ListenSpec, PortKind, Sent, UplinkSpec, Wire, WireError};
+use aprs_base::{Addr, Chunk, Event, ListenSpec, PortKind, Sent, UplinkSpec, Wire, WireError};
 use arrayvec::ArrayVec;
 use std::io::{self, Read, Write};
-use std::net::{Net, Shutdown, TcpStream};
+use std::net::{Net, Shutdown, TcpListener, TcpStream, UdpSocket};
 use std::test::Fail;
 use std::thread;
 
@@ -28,23 +28,34 @@ enum Seen {
     Bytes(u32, u8),
     Room(u32),
     Ended(u32),
+    /// A dial's answer, with the port of its address.
+    Joined(u16, u32, u16),
     Unjoined(u16),
+    /// A datagram, by the first of its bytes and their number.
+    Datagram(u16, u8, usize),
     Stop,
     Failed,
+}
+
+fn first_of(bytes: &Chunk) -> u8 {
+    bytes.bytes().first().copied().unwrap_or(0)
 }
 
 fn seen_of(event: &Event) -> Seen {
     match event {
         Event::Tick(_) => Seen::Tick,
         Event::Opened { listener, link, .. } => Seen::Opened(*listener, *link),
-        Event::Bytes(link, bytes) => {
-            Seen::Bytes(*link, bytes.bytes().first().copied().unwrap_or(0))
-        }
+        Event::Bytes(link, bytes) => Seen::Bytes(*link, first_of(bytes)),
         Event::Room(link) => Seen::Room(*link),
         Event::Ended(link) => Seen::Ended(*link),
+        Event::Joined { uplink, link, at } => Seen::Joined(*uplink, *link, at.port),
         Event::Unjoined(uplink) => Seen::Unjoined(*uplink),
+        Event::Datagram {
+            listener,
+            bytes,
+            ..
+        } => Seen::Datagram(*listener, first_of(bytes), bytes.bytes().len()),
         Event::Stop => Seen::Stop,
-        _ => Seen::Failed,
     }
 }
 
@@ -89,7 +100,7 @@ fn meet<R: Net<Stream = TcpStream>, W: Wire>(
 
 /// Says a line, and hears its answer.
 fn greet<R: Net>(rt: &R) -> io::Result<bool> {
-    let mut stream = TcpStream::connect(rt, "127.0.0.1:47101")?;
+    let mut stream = TcpStream::connect(rt, "127.0.0.1:24001")?;
     stream.write_all(b"hello\r\n")?;
     let mut answer = [0; 4];
     stream.read_exact(&mut answer)?;
@@ -108,7 +119,7 @@ fn answers<W: Wire>(wire: &mut W) -> bool {
 #[test]
 fn serves_a_link_and_stops(rt: HostRuntime) -> Result<(), Fail> {
     let mut wire = MioWire::new(&rt, rt.alloc(), Some(1));
-    let _ = listens(&mut wire, 3, PortKind::Full, 47101);
+    let _ = listens(&mut wire, 3, PortKind::Full, 24001);
     let handle = rt.clone()?;
     let client = thread::spawn(&rt, move || greet(&handle))?;
     let served = answers(&mut wire);
@@ -145,16 +156,16 @@ fn is_closed<W: Wire>(wire: &mut W, client: &mut TcpStream) -> io::Result<bool> 
 
 /// One link after the other ends, and the others go on.
 fn end_apart<R: Net<Stream = TcpStream>, W: Wire>(rt: &R, wire: &mut W) -> io::Result<bool> {
-    let mut first = meet(rt, wire, 1, "127.0.0.1:47102")?;
-    let second = meet(rt, wire, 2, "127.0.0.1:47102")?;
-    let mut third = meet(rt, wire, 3, "127.0.0.1:47102")?;
+    let mut first = meet(rt, wire, 1, "127.0.0.1:24002")?;
+    let second = meet(rt, wire, 2, "127.0.0.1:24002")?;
+    let mut third = meet(rt, wire, 3, "127.0.0.1:24002")?;
     Ok(hears_on(wire, &mut first)? && resets(wire, second)? && is_closed(wire, &mut third)?)
 }
 
 #[test]
 fn keeps_links_apart(rt: HostRuntime) {
     let mut wire = MioWire::new(&rt, rt.alloc(), None);
-    let _ = listens(&mut wire, 0, PortKind::Igate, 47102);
+    let _ = listens(&mut wire, 0, PortKind::Igate, 24002);
     assert!(rt; matches!(end_apart(&rt, &mut wire), Ok(true)));
 }
 
@@ -176,7 +187,7 @@ fn reads_late<R: Net<Stream = TcpStream>, W: Wire>(
     wire: &mut W,
     bytes: &mut [u8],
 ) -> io::Result<bool> {
-    let mut client = meet(rt, wire, 1, "127.0.0.1:47103")?;
+    let mut client = meet(rt, wire, 1, "127.0.0.1:24003")?;
     let _ = next(wire);
     for _ in 0..whole_offers(wire, bytes) {
         client.read_exact(bytes)?;
@@ -188,7 +199,7 @@ fn reads_late<R: Net<Stream = TcpStream>, W: Wire>(
 fn says_when_there_is_room(rt: HostRuntime) -> Result<(), Fail> {
     let mut bytes = Vec::from_elem(rt.alloc(), b'z', 65_536)?;
     let mut wire = MioWire::new(&rt, rt.alloc(), None);
-    let _ = listens(&mut wire, 0, PortKind::Only, 47103);
+    let _ = listens(&mut wire, 0, PortKind::Only, 24003);
     assert!(rt; matches!(reads_late(&rt, &mut wire, bytes.as_mut_slice()), Ok(true)));
     Ok(())
 }
@@ -212,8 +223,8 @@ fn flood<R: Net<Stream = TcpStream>, W: Wire>(
     wire: &mut W,
     lines: &[u8],
 ) -> io::Result<(usize, bool)> {
-    let mut first = meet(rt, wire, 1, "127.0.0.1:47104")?;
-    let mut second = meet(rt, wire, 2, "127.0.0.1:47104")?;
+    let mut first = meet(rt, wire, 1, "127.0.0.1:24004")?;
+    let mut second = meet(rt, wire, 2, "127.0.0.1:24004")?;
     let _ = next(wire);
     first.set_nonblocking(true)?;
     first.write(lines)?;
@@ -225,33 +236,100 @@ fn flood<R: Net<Stream = TcpStream>, W: Wire>(
 fn a_flood_keeps_nobody_waiting(rt: HostRuntime) -> Result<(), Fail> {
     let lines = Vec::from_elem(rt.alloc(), b'\n', 200_000)?;
     let mut wire = MioWire::new(&rt, rt.alloc(), None);
-    let _ = listens(&mut wire, 0, PortKind::Full, 47104);
+    let _ = listens(&mut wire, 0, PortKind::Full, 24004);
     // One read of at most 65,536 bytes in pieces of 1,460, and a tick after each, since each has more than 400 line ends.
     assert!(rt; matches!(flood(&rt, &mut wire, lines.as_slice()), Ok((1..=45, true))));
     Ok(())
 }
 
-/// What no second listener can do, and what is not built.
+/// What no second listener can do.
 fn refuses<W: Wire>(wire: &mut W) -> bool {
-    listens(wire, 0, PortKind::Dupe, 47105) == Ok(())
-        && listens(wire, 1, PortKind::Full, 47105) == Err(WireError::Failed)
-        && listens(wire, 2, PortKind::Submit, 47106) == Err(WireError::Failed)
-}
-
-/// A dial's answer.
-fn answers_a_dial<W: Wire>(wire: &mut W) -> bool {
-    let spec = UplinkSpec {
-        host: ArrayVec::new(),
-        port: 1,
-    };
-    wire.cast(0, loopback(1), b"x") == Ok(())
-        && wire.dial(4, &spec) == Ok(())
-        && next(wire) == Seen::Tick
-        && gives(wire, Seen::Unjoined(4))
+    listens(wire, 0, PortKind::Dupe, 24005) == Ok(())
+        && listens(wire, 1, PortKind::Full, 24005) == Err(WireError::Failed)
+        && listens(wire, 2, PortKind::Submit, 24006) == Ok(())
+        && listens(wire, 3, PortKind::Core, 24006) == Err(WireError::Failed)
 }
 
 #[test]
-fn refuses_what_it_cannot_do(rt: HostRuntime) {
+fn refuses_a_second_listener(rt: HostRuntime) {
     let mut wire = MioWire::new(&rt, rt.alloc(), None);
-    assert!(rt; refuses(&mut wire) && answers_a_dial(&mut wire));
+    assert!(rt; refuses(&mut wire));
+}
+
+/// Sends an empty datagram, one of a byte too many, and one of as many as there may be.
+fn submits<R: Net>(rt: &R) -> io::Result<()> {
+    let client = UdpSocket::bind(rt, "127.0.0.1:24008")?;
+    client.send_to(&[], "127.0.0.1:24007")?;
+    client.send_to(&[b'a'; 1461], "127.0.0.1:24007")?;
+    client.send_to(&[b'b'; 1460], "127.0.0.1:24007")?;
+    Ok(())
+}
+
+#[test]
+fn hands_up_whole_datagrams(rt: HostRuntime) {
+    let mut wire = MioWire::new(&rt, rt.alloc(), None);
+    let listened = listens(&mut wire, 4, PortKind::Submit, 24007);
+    let sent = submits(&rt).is_ok();
+    assert!(rt; listened == Ok(()) && sent && gives(&mut wire, Seen::Datagram(4, b'b', 1460)));
+}
+
+/// Whether a cast comes from the peer group's listener with the greatest number.
+fn casts<R: Net, W: Wire>(rt: &R, wire: &mut W) -> io::Result<bool> {
+    let peer = UdpSocket::bind(rt, "127.0.0.1:24012")?;
+    let cast = listens(wire, 5, PortKind::Core, 24009) == Ok(())
+        && listens(wire, 2, PortKind::Core, 24010) == Ok(())
+        && listens(wire, 7, PortKind::Submit, 24011) == Ok(())
+        && wire.cast(0, loopback(24012), b"cast") == Ok(());
+    let mut bytes = [0; 9];
+    let (count, from) = peer.recv_from(&mut bytes)?;
+    Ok(cast && count == 4 && from.port() == 24009)
+}
+
+#[test]
+fn casts_from_the_peer_group(rt: HostRuntime) {
+    let mut wire = MioWire::new(&rt, rt.alloc(), None);
+    assert!(rt; matches!(casts(&rt, &mut wire), Ok(true)));
+}
+
+fn dials<W: Wire>(wire: &mut W, uplink: u16, host: &[u8], port: u16) -> bool {
+    let Ok(host) = ArrayVec::try_from(host) else {
+        return false;
+    };
+    wire.dial(uplink, &UplinkSpec { host, port }) == Ok(())
+}
+
+/// An uplink is joined, and bytes go both ways.
+fn joins<R: Net<Stream = TcpStream, Listener = TcpListener>, W: Wire>(
+    rt: &R,
+    wire: &mut W,
+) -> io::Result<bool> {
+    let listener = TcpListener::bind(rt, "127.0.0.1:24013")?;
+    let joined = dials(wire, 2, b"127.0.0.1", 24013) && gives(wire, Seen::Joined(2, 1, 24013));
+    let (mut uplink, _) = listener.accept()?;
+    uplink.write_all(b"# hello\r\n")?;
+    let spoken = gives(wire, Seen::Bytes(1, b'#')) && takes(wire, 1, b"user");
+    let mut heard = [0; 4];
+    uplink.read_exact(&mut heard)?;
+    drop(uplink);
+    Ok(joined && spoken && heard == *b"user" && gives(wire, Seen::Ended(1)))
+}
+
+#[test]
+fn joins_an_uplink(rt: HostRuntime) {
+    let mut wire = MioWire::new(&rt, rt.alloc(), None);
+    assert!(rt; matches!(joins(&rt, &mut wire), Ok(true)));
+}
+
+/// Uplinks where nobody listens, and whose host is no name.
+fn fails_to_join<W: Wire>(wire: &mut W) -> bool {
+    dials(wire, 4, b"127.0.0.1", 24014)
+        && gives(wire, Seen::Unjoined(4))
+        && dials(wire, 5, b"\xff", 24014)
+        && gives(wire, Seen::Unjoined(5))
+}
+
+#[test]
+fn answers_a_dial_that_fails(rt: HostRuntime) {
+    let mut wire = MioWire::new(&rt, rt.alloc(), None);
+    assert!(rt; fails_to_join(&mut wire));
 }

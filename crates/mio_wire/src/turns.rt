@@ -1,6 +1,7 @@
 //! What is ready and is served in turn, and what waits for another turn.
 ghost use Rattle.std.specs.Prelude.{◌≡◌, ◌≢◌, ◌↔◌, ◌+◌, ◌-◌, ◌^◌, true, false, List, [], ◌∷◌, ◌++◌, OnOk, IsTrue, min, slice_get};
 ghost use Rattle.mio_wire.specs.declared.turns.Ready.{Ready};
+ghost use Rattle.mio_wire.specs.Sources.{source_of};
 
 use mio::Events;
 use mio::event::Event;
@@ -8,6 +9,33 @@ use std::alloc::{AllocError, Global};
 
 /// The tokens of listeners begin here. Those of links are their numbers, which are never used twice.
 pub(crate) const FIRST_EAR: usize = 1 << 32;
+
+/// The tokens of sockets for datagrams begin here.
+pub(crate) const FIRST_MAILBOX: usize = 2 << 32;
+
+/// The tokens of dials begin here. None is used twice.
+pub(crate) const FIRST_DIAL: usize = 3 << 32;
+
+/// What a token stands for: a link by its number, a listener or a socket for datagrams by its place, or a dial by its token.
+#[derive(Clone, Copy)]
+pub(crate) enum Source {
+    Link(u32),
+    Ear(usize),
+    Mailbox(usize),
+    Dial(usize),
+}
+
+/// The source that a token stands for.
+pub(crate) fn source_of(token: usize) -> Source
+    ensures { result ≡ source_of token }
+{
+    match u32::try_from(token) {
+        Ok(number) => Source::Link(number),
+        Err(_) if token < FIRST_MAILBOX => Source::Ear(token.saturating_sub(FIRST_EAR)),
+        Err(_) if token < FIRST_DIAL => Source::Mailbox(token.saturating_sub(FIRST_MAILBOX)),
+        Err(_) => Source::Dial(token),
+    }
+}
 
 /// A source that is ready.
 #[derive(Clone, Copy)]
@@ -27,7 +55,7 @@ impl Ready {
         Ready {
             token: event.token().0,
             readable: event.is_readable() || closed || event.is_error(),
-            writable: event.is_writable(),
+            writable: event.is_writable() || event.is_write_closed(),
             closed,
             again: false,
         }

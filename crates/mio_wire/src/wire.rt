@@ -1,18 +1,37 @@
 //! The wire over the sockets of the system.
-ghost use Rattle.std.specs.Prelude.{◌≡◌, ℕ, ◌+◌, ◌≤◌, ◌≢◌, ◌++◌, [], ◌∷◌, Some, None, Ok, false, IsTrue, OnOk, OnErr, IfOk, IfSome, IsErrOf};
-ghost use Rattle.aprs_base.specs.Outside.{AfterAct, AfterNext, CountsLink, Rose, new_link, with_dial};
-ghost use Rattle.aprs_base.specs.declared.events.Event.TheVariants.{Stop, Tick};
+ghost use Rattle.std.specs.Prelude.{◌≡◌, ℕ, ◌+◌, ◌-◌, ◌^◌, ◌≤◌, ◌++◌, [], ◌∷◌, Some, None, true, false, length, OnOk, OnErr, IfOk, IfSome, IsErrOf};
+ghost use Rattle.aprs_base.specs.Outside.{AfterAct, AfterListen, AfterNext, AfterSend, IsOutcome, Rose, with_cast, with_closed, with_dial};
+ghost use Rattle.aprs_base.specs.declared.events.Event.TheVariants.{Tick};
 ghost use Rattle.aprs_base.specs.declared.events.WireError.TheVariants as WireError;
-ghost use Rattle.mio_wire.specs.Pacing.{ComesNext, StepGives, has_stopped, is_full, is_tick};
-ghost use Rattle.mio_wire.specs.Arrivals.{CountsStep, TakesNext, counts, next_number};
+ghost use Rattle.mio_wire.specs.Pacing.{is_due, rested};
+ghost use Rattle.mio_wire.specs.Coming.{ComesNext, StepGives, after_event, after_offer};
+ghost use Rattle.std.specs.Net.Grammar.{IsIpv4Text};
+ghost use Rattle.std.specs.declared.net.ipv4_addr.Ipv4Addr.{Ipv4Addr};
+ghost use Rattle.mio_wire.specs.Names.{IsIn};
+ghost use Rattle.mio_wire.specs.Dialled.{Answers, AnswersStep, Begins};
+ghost use Rattle.mio_wire.specs.Linked.{TakesOf, TellsOfOne, TellsStep, numbers, numbers_after, without};
+ghost use Rattle.mio_wire.specs.Arrivals.{IsArrival, Steps, after_sent, counts, gones_after};
+ghost use Rattle.mio_wire.specs.Unread.{HandsUp, IsHeld, Leaves, forgotten};
+ghost use Rattle.mio_wire.specs.Held.{caster, unread};
+ghost use Rattle.mio_wire.specs.Mail.{caster_after};
 
-use crate::pace::Pace;
+use crate::course::Course;
+use crate::dials::{Dial, Dials};
+use crate::links::Links;
+use crate::names::Names;
 use crate::sockets::Sockets;
-use aprs_base::{Addr, Event, ListenSpec, Memory, PortKind, Sent, UplinkSpec, Wire, WireError};
+use aprs_base::{Addr, Event, ListenSpec, Memory, Sent, UplinkSpec, Wire, WireError};
+use mio::net::TcpStream;
 use std::alloc::Global;
 use std::net::Net;
 use std::sync::Wait;
 use std::time::{Clock, Duration, SystemTime};
+
+/// The address of a dial for which none was found.
+const NOWHERE: Addr = Addr {
+    ip: [0; 4],
+    port: 0,
+};
 
 /// The network of the system. It tells nothing of what happens but its counts: of failed calls, of links that a send found
 /// gone, and of links that were made.
@@ -23,49 +42,33 @@ use std::time::{Clock, Duration, SystemTime};
 pub struct MioWire<'a, R: Net + Clock> {
     rt: &'a R,
     alloc: Global,
-    stop_after: Option<u32>,
     sockets: Option<Sockets>,
-    /// Uplinks that were dialled and are not answered.
-    dialled: Vec<u16>,
-    pace: Pace,
-    /// The moment of the last tick.
-    second: Option<u64>,
-    ended: u32,
+    links: Links,
+    dials: Dials,
+    names: Names,
+    course: Course,
     stops: u64,
     gones: u64,
-    made: u32,
-}
-
-/// The number of the link that an event brings.
-fn new_link_of(event: &Event) -> Option<u32>
-    ensures { result ≡ new_link event.now }
-{
-    match event {
-        Event::Opened { link, .. } | Event::Joined { link, .. } => Some(*link),
-        _ => None,
-    }
 }
 
 impl<'a, R: Net + Clock> MioWire<'a, R> {
     /// A wire that gives a stop once it has given so many ends of links, where a number is given. It takes no memory and
     /// opens nothing until it is called.
     pub fn new(rt: &'a R, alloc: Global, stop_after: Option<u32>) -> MioWire<'a, R>
-        ensures counts { (result.stops ≡ 0) × (result.gones ≡ 0) × (result.made ≡ 0) × (result.ended ≡ 0) }
-        ensures opens { (result.sockets ≡ None) × (result.dialled.items ≡ []) × (result.second ≡ None) }
-        ensures stop { result.stop_after ≡ stop_after }
+        ensures counts { (result.stops ≡ 0) × (result.gones ≡ 0) × (result.links.made ≡ 0) }
+        ensures opens { (result.sockets ≡ None) × (result.links.list.items ≡ []) × (result.dials.list.items ≡ []) }
+        ensures course { result.course ≡ record { stop_after = stop_after; second = None; ended = 0; pace = rested } }
     {
         MioWire {
             rt,
             alloc,
-            stop_after,
             sockets: None,
-            dialled: Vec::new(alloc),
-            pace: Pace::rested(),
-            second: None,
-            ended: 0,
+            links: Links::new(alloc),
+            dials: Dials::new(alloc),
+            names: Names::new(alloc),
+            course: Course::new(stop_after),
             stops: 0,
             gones: 0,
-            made: 0,
         }
     }
 
@@ -73,8 +76,7 @@ impl<'a, R: Net + Clock> MioWire<'a, R> {
     fn refuse(&mut self, error: WireError) -> WireError
         ensures same { result ≡ error }
         ensures stops { (self.old.stops ≤ self.new.stops) × (error ≡ WireError.Failed → Rose self.old.stops self.new.stops) }
-        ensures others { (self.new.gones ≡ self.old.gones) × (self.new.made ≡ self.old.made) }
-        ensures kept { (self.new.second ≡ self.old.second) × (self.new.stop_after ≡ self.old.stop_after) × (self.new.ended ≡ self.old.ended) × (self.new.pace ≡ self.old.pace) }
+        ensures kept { self.new ≡ record self.old { stops = self.new.stops } }
     {
         if error == WireError::Failed {
             self.stops = self.stops.saturating_add(1);
@@ -85,8 +87,8 @@ impl<'a, R: Net + Clock> MioWire<'a, R> {
     /// The sockets, which are opened at the first call that needs them.
     fn open(&mut self) -> Result<(), WireError>
         ensures stops { (self.old.stops ≤ self.new.stops) × (IsErrOf result WireError.Failed → Rose self.old.stops self.new.stops) }
-        ensures others { (self.new.gones ≡ self.old.gones) × (self.new.made ≡ self.old.made) }
-        ensures kept { (self.new.second ≡ self.old.second) × (self.new.stop_after ≡ self.old.stop_after) × (self.new.ended ≡ self.old.ended) × (self.new.pace ≡ self.old.pace) }
+        ensures kept { self.new ≡ record self.old { sockets = self.new.sockets; stops = self.new.stops } }
+        ensures held { (unread self.new.sockets ≡ unread self.old.sockets) × (caster self.new.sockets ≡ caster self.old.sockets) }
     {
         if self.sockets.is_none() {
             match Sockets::open(self.rt, self.alloc) {
@@ -102,126 +104,172 @@ impl<'a, R: Net + Clock> MioWire<'a, R> {
         SystemTime::now(self.rt)
             .ok()
             .and_then(|now| now.duration_since(SystemTime::UNIX_EPOCH).ok())
-            .unwrap_or(Duration::from_secs(self.second.unwrap_or(0)))
+            .unwrap_or(Duration::from_secs(self.course.second.unwrap_or(0)))
     }
 
-    fn tick_now(&mut self) -> Event
-        ensures event { (new_link result ≡ None) × IsTrue (is_tick result) }
-        ensures counts { (self.new.stops ≡ self.old.stops) × (self.new.gones ≡ self.old.gones) × (self.new.made ≡ self.old.made) }
-    {
-        let moment = self.clock().as_secs();
-        self.tick(moment)
-    }
-
+    /// A tick. In a new second, listeners that failed to open a link try again.
     fn tick(&mut self, moment: u64) -> Event
         ensures event { result ≡ Tick moment }
-        ensures anew { (self.new.second ≡ Some moment) × (self.new.pace ≡ record { handed = false; lines = 0; bytes = 0; whole = false }) }
-        ensures counts { (self.new.stops ≡ self.old.stops) × (self.new.gones ≡ self.old.gones) × (self.new.made ≡ self.old.made) }
+        ensures kept { self.new ≡ record self.old { sockets = self.new.sockets } }
+        ensures unread { unread self.new.sockets ≡ unread self.old.sockets }
     {
-        if self.second != Some(moment) {
+        if self.course.second != Some(moment) {
             if let Some(sockets) = &mut self.sockets {
                 sockets.retry();
             }
         }
-        self.second = Some(moment);
-        self.pace = Pace::rested();
         Event::Tick(moment)
     }
 
-    /// Whether as many links ended as were asked for.
-    fn is_stopped(&self) -> bool
-        ensures { result ≡ has_stopped self.now.stop_after self.now.ended }
+    /// Whether something has come that is not handed up, or not looked at.
+    fn has_arrived(&self) -> bool
+        ensures { result ≡ false → length (unread self.now.sockets).left ≡ 0 }
     {
-        match self.stop_after {
-            Some(count) => self.ended >= count,
+        match &self.sockets {
+            Some(sockets) => sockets.has_bytes() || sockets.has_ready(),
             None => false,
         }
     }
 
-    /// Whether something has come that is not handed up, or not looked at.
-    fn has_arrived(&self) -> bool {
-        let waiting = match &self.sockets {
-            Some(sockets) => sockets.has_bytes() || sockets.has_ready(),
-            None => false,
-        };
-        waiting || !self.dialled.is_empty()
-    }
-
-    /// The next thing to hand up of what has come: bytes that were read, a dial's answer, or what a socket has.
+    /// The next thing to hand up of what has come: bytes that were read, or what a socket has.
     fn arrived(&mut self) -> Result<Option<Event>, WireError>
-        ensures made { IfOk result (CountsStep self.old.made self.new.made) }
-        ensures err { OnErr result (self.new.made ≡ self.old.made) }
+        ensures steps { IfOk result (Steps (numbers self.old.links.list.items) (numbers self.new.links.list.items) self.old.links.made self.new.links.made) }
+        ensures dials { IfOk result (AnswersStep self.old.dials.list.items self.new.dials.list.items) }
+        ensures arrival { IfOk result IsArrival }
+        ensures tells { IsHeld (unread self.old.sockets) (numbers self.old.links.list.items) → IfOk result (TellsStep (numbers self.old.links.list.items)) }
+        ensures held { IsHeld (unread self.old.sockets) (numbers self.old.links.list.items) → IfOk result (λ o. IsHeld (unread self.new.sockets) (numbers self.new.links.list.items)) }
+        ensures bytes { IfOk result (HandsUp (unread self.old.sockets)) }
+        ensures rest { IfOk result (λ o. IfSome o (Leaves (unread self.old.sockets) (unread self.new.sockets) (unread self.old.sockets).left)) }
+        ensures err { OnErr result ((numbers self.new.links.list.items ≡ numbers self.old.links.list.items) × (self.new.links.made ≡ self.old.links.made)) }
         ensures memory { IsErrOf result WireError.Failed → ⊥ }
-        ensures others { (self.new.stops ≡ self.old.stops) × (self.new.gones ≡ self.old.gones) }
-        ensures no_stop { IfOk result (λ o. IfSome o (λ e. e ≢ Stop)) }
-        ensures kept { result ≡ Ok None → (self.new.second ≡ self.old.second) × (self.new.stop_after ≡ self.old.stop_after) × (self.new.ended ≡ self.old.ended) × (self.new.pace ≡ self.old.pace) }
+        ensures kept { (self.new.stops ≡ self.old.stops) × (self.new.gones ≡ self.old.gones) × (self.new.course ≡ self.old.course) }
     {
         let Some(sockets) = &mut self.sockets else {
             return Ok(None);
         };
         if let Some((link, bytes)) = sockets.take_chunk() {
-            self.pace.note_bytes(bytes.bytes());
             return Ok(Some(Event::Bytes(link, bytes)));
         }
-        let event = match self.dialled.pop() {
-            Some(uplink) => Some(Event::Unjoined(uplink)),
-            None => sockets.serve(self.made.checked_add(1))?,
-        };
-        if let Some(event) = &event {
-            self.note(event);
-        }
-        Ok(event)
-    }
-
-    /// Counts an event that is handed up.
-    fn note(&mut self, event: &Event)
-        requires { TakesNext (next_number self.old.made) event.now }
-        ensures made { CountsLink (new_link event.now) self.old.made self.new.made }
-        ensures others { (self.new.stops ≡ self.old.stops) × (self.new.gones ≡ self.old.gones) }
-    {
-        self.pace.note_event();
-        if let Some(link) = new_link_of(event) {
-            self.made = link;
-        }
-        if let Event::Ended(_) = event {
-            self.ended = self.ended.saturating_add(1);
-        }
+        Ok(sockets.serve(&mut self.links, &mut self.dials)?)
     }
 
     /// The next event, or none where it took a step towards it.
     fn step(&mut self) -> Result<Option<Event>, WireError>
-        ensures made { IfOk result (CountsStep self.old.made self.new.made) }
-        ensures err { OnErr result (self.new.made ≡ self.old.made) }
+        ensures steps { IfOk result (Steps (numbers self.old.links.list.items) (numbers self.new.links.list.items) self.old.links.made self.new.links.made) }
+        ensures dials { IfOk result (AnswersStep self.old.dials.list.items self.new.dials.list.items) }
+        ensures rest { IfOk result (λ o. IfSome o (Leaves (unread self.old.sockets) (unread self.new.sockets) (unread self.old.sockets).left)) }
+        ensures tells { IsHeld (unread self.old.sockets) (numbers self.old.links.list.items) → IfOk result (TellsStep (numbers self.old.links.list.items)) }
+        ensures held { IsHeld (unread self.old.sockets) (numbers self.old.links.list.items) → IfOk result (λ o. IsHeld (unread self.new.sockets) (numbers self.new.links.list.items)) }
+        ensures gives { IfOk result (StepGives self.old.course self.old.dials.list.items (unread self.old.sockets)) }
+        ensures err { OnErr result ((numbers self.new.links.list.items ≡ numbers self.old.links.list.items) × (self.new.links.made ≡ self.old.links.made)) }
         ensures stops { (self.old.stops ≤ self.new.stops) × (IsErrOf result WireError.Failed → Rose self.old.stops self.new.stops) }
-        ensures gones { self.new.gones ≡ self.old.gones }
-        ensures gives { IfOk result (StepGives self.old.second (has_stopped self.old.stop_after self.old.ended) (is_full self.old.pace)) }
-        ensures kept { result ≡ Ok None → (self.new.second ≡ self.old.second) × (self.new.stop_after ≡ self.old.stop_after) × (self.new.ended ≡ self.old.ended) × (self.new.pace ≡ self.old.pace) }
+        ensures kept { (self.new.gones ≡ self.old.gones) × (self.new.course ≡ self.old.course) }
     {
-        let Some(second) = self.second else {
-            return Ok(Some(self.tick_now()));
+        let Some(second) = self.course.second else {
+            let now = self.clock();
+            return Ok(Some(self.tick(now.as_secs())));
         };
-        if self.is_stopped() {
+        if self.course.is_stopped() {
             return Ok(Some(Event::Stop));
         }
-        if self.pace.is_full() {
-            return Ok(Some(self.tick_now()));
+        if self.course.pace.is_full() {
+            let now = self.clock();
+            return Ok(Some(self.tick(now.as_secs())));
+        }
+        if let Some(place) = self.dials.dead(second) {
+            return Ok(Some(self.dials.give_up(place)));
         }
         if self.has_arrived() {
             return self.arrived();
         }
         let now = self.clock();
-        if self.pace.is_due() || now.as_secs() != second {
+        if self.course.pace.is_due() || now.as_secs() != second {
             return Ok(Some(self.tick(now.as_secs())));
         }
         self.wait(now)?;
         Ok(None)
     }
 
+    /// Offers bytes to a link, which is let go where it is gone.
+    fn offer(&mut self, link: u32, bytes: &[u8]) -> Result<Sent, Memory>
+        ensures there { IfOk result (TakesOf (numbers self.old.links.list.items) link) }
+        ensures held { IsHeld (unread self.old.sockets) (numbers self.old.links.list.items) → IsHeld (unread self.new.sockets) (numbers self.new.links.list.items) }
+        ensures part { IfOk result (IsOutcome bytes.now) }
+        ensures links { OnOk result (numbers self.new.links.list.items ≡ after_sent result link (numbers self.old.links.list.items)) }
+        ensures others { without link self.new.links.list.items ≡ without link self.old.links.list.items }
+        ensures made { self.new.links.made ≡ self.old.links.made }
+        ensures kept { self.new ≡ record self.old { sockets = self.new.sockets; links = self.new.links } }
+    {
+        let Some(sockets) = &mut self.sockets else {
+            self.links.let_go(link);
+            return Ok(Sent::Gone);
+        };
+        Ok(sockets.send(&mut self.links, link, bytes)?)
+    }
+
+    /// The moment of the last tick, or of the clock before the first.
+    fn moment(&self) -> u64
+        ensures { IfSome self.now.course.second (λ second. result ≡ second) }
+    {
+        match self.course.second {
+            Some(second) => second,
+            None => self.clock().as_secs(),
+        }
+    }
+
+    /// Begins a dial, which has failed where there is no address for it.
+    fn begin(&mut self, uplink: u16, spec: &UplinkSpec) -> Result<Dial, Memory>
+        ensures unread { unread self.new.sockets ≡ unread self.old.sockets }
+        ensures named { IfOk result (λ d. d.uplink ≡ uplink) }
+        ensures digits { (a : Ipv4Addr) → IsIpv4Text spec.now.host a → IfOk result (λ d. IsIn spec.now.host spec.now.port (Some d.at)) }
+        ensures since { IfOk result (λ d. IfSome self.old.course.second (λ second. d.since ≡ second)) }
+        ensures kept { self.new ≡ record self.old { sockets = self.new.sockets; dials = self.new.dials; names = self.new.names } }
+        ensures dials { self.new.dials.list ≡ self.old.dials.list }
+    {
+        let since = self.moment();
+        let token = self.dials.next_token();
+        match self.names.next_address(self.rt, uplink, spec)? {
+            Some(at) => Ok(Dial {
+                uplink,
+                at,
+                since,
+                token,
+                stream: self.connect(at, token)?,
+            }),
+            None => Ok(Dial {
+                uplink,
+                at: NOWHERE,
+                since,
+                token,
+                stream: None,
+            }),
+        }
+    }
+
+    /// Begins to connect. None where that fails at once.
+    fn connect(&mut self, at: Addr, token: usize) -> Result<Option<TcpStream>, Memory>
+        ensures unread { unread self.new.sockets ≡ unread self.old.sockets }
+        ensures kept { self.new ≡ record self.old { sockets = self.new.sockets } }
+    {
+        if self.sockets.is_none() {
+            match Sockets::open(self.rt, self.alloc) {
+                Ok(sockets) => self.sockets = Some(sockets),
+                Err(WireError::Memory) => return Err(Memory),
+                Err(WireError::Failed) => return Ok(None),
+            }
+        }
+        match &self.sockets {
+            Some(sockets) => Ok(sockets.connect(self.rt, at, token)),
+            None => Ok(None),
+        }
+    }
+
     /// Waits for the sockets, but not beyond the second that `now` is in.
     fn wait(&mut self, now: Duration) -> Result<(), WireError>
+        requires { is_due self.old.course.pace ≡ false }
         ensures stops { (self.old.stops ≤ self.new.stops) × (IsErrOf result WireError.Failed → Rose self.old.stops self.new.stops) }
-        ensures others { (self.new.gones ≡ self.old.gones) × (self.new.made ≡ self.old.made) }
-        ensures kept { (self.new.second ≡ self.old.second) × (self.new.stop_after ≡ self.old.stop_after) × (self.new.ended ≡ self.old.ended) × (self.new.pace ≡ self.old.pace) }
+        ensures kept { self.new ≡ record self.old { sockets = self.new.sockets; stops = self.new.stops } }
+        ensures unread { unread self.new.sockets ≡ unread self.old.sockets }
     {
         let left = 1000u64.saturating_sub(u64::from(now.subsec_millis()));
         let Some(sockets) = &mut self.sockets else {
@@ -234,23 +282,21 @@ impl<'a, R: Net + Clock> MioWire<'a, R> {
     }
 }
 
-/// Whether a listener of that kind takes links.
-fn takes_links(kind: PortKind) -> bool {
-    match kind {
-        PortKind::Full | PortKind::Igate | PortKind::Only | PortKind::Dupe => true,
-        PortKind::Submit | PortKind::Core => false,
-    }
-}
-
 impl<'a, R: Net + Clock + Wait> Wire for MioWire<'a, R> {
-    ghost shown = { λ w. counts w.stops w.gones w.made };
+    ghost shown = { λ w. counts w.stops w.gones w.links.made };
 
-    /// Listens over TCP. Listeners for datagrams are not built: they are `Failed`.
-    fn listen(&mut self, n: u16, spec: &ListenSpec) -> Result<(), WireError> {
+    /// Listens over TCP for links, and over UDP for what is submitted in datagrams and for a peer group.
+    fn listen(&mut self, n: u16, spec: &ListenSpec) -> Result<(), WireError>
+        ensures listen { AfterListen (counts self.old.stops self.old.gones self.old.links.made) (counts self.new.stops self.new.gones self.new.links.made) n spec.now result }
+        ensures caster { OnOk result ((place : ℕ) × (caster self.new.sockets ≡ caster_after spec.now.kind n place (caster self.old.sockets))) }
+        ensures err { OnErr result (caster self.new.sockets ≡ caster self.old.sockets) }
+        ensures unread { unread self.new.sockets ≡ unread self.old.sockets }
+        ensures kept { self.new ≡ record self.old { sockets = self.new.sockets; stops = self.new.stops } }
+    {
         self.open()?;
         let listened = match &mut self.sockets {
-            Some(sockets) if takes_links(spec.kind) => sockets.listen(self.rt, n, spec.at),
-            _ => Err(WireError::Failed),
+            Some(sockets) => sockets.listen(self.rt, n, spec),
+            None => Err(WireError::Failed),
         };
         match listened {
             Ok(()) => Ok(()),
@@ -259,48 +305,80 @@ impl<'a, R: Net + Clock + Wait> Wire for MioWire<'a, R> {
     }
 
     fn next(&mut self) -> Result<Event, WireError>
-        ensures next { AfterNext (counts self.old.stops self.old.gones self.old.made) (counts self.new.stops self.new.gones self.new.made) result }
-        ensures comes { IfOk result (ComesNext self.old.second (has_stopped self.old.stop_after self.old.ended) (is_full self.old.pace)) }
+        ensures next { AfterNext (counts self.old.stops self.old.gones self.old.links.made) (counts self.new.stops self.new.gones self.new.links.made) result }
+        ensures comes { IfOk result (ComesNext self.old.course self.old.dials.list.items (unread self.old.sockets)) }
+        ensures tells { IsHeld (unread self.old.sockets) (numbers self.old.links.list.items) → IfOk result (TellsOfOne (numbers self.old.links.list.items)) }
+        ensures held { IsHeld (unread self.old.sockets) (numbers self.old.links.list.items) → IfOk result (λ e. IsHeld (unread self.new.sockets) (numbers self.new.links.list.items)) }
+        ensures rest { IfOk result (Leaves (unread self.old.sockets) (unread self.new.sockets) (unread self.old.sockets).left) }
+        ensures course { IfOk result (λ e. self.new.course ≡ after_event e self.old.course) }
+        ensures links { IfOk result (λ e. numbers self.new.links.list.items ≡ numbers_after e (numbers self.old.links.list.items)) }
+        ensures dials { IfOk result (λ e. Answers e self.old.dials.list.items self.new.dials.list.items) }
+        ensures err { OnErr result ((self.new.course ≡ self.old.course) × (numbers self.new.links.list.items ≡ numbers self.old.links.list.items)) }
     {
         self.open()?;
         for _ in self.rt.forever() {
             if let Some(event) = self.step()? {
+                self.course.note(&event);
                 return Ok(event);
             }
         }
         unreachable!()
     }
 
-    fn send(&mut self, link: u32, bytes: &[u8]) -> Result<Sent, Memory> {
-        let sent = match &mut self.sockets {
-            Some(sockets) => sockets.send(link, bytes)?,
-            None => Sent::Gone,
-        };
+    fn send(&mut self, link: u32, bytes: &[u8]) -> Result<Sent, Memory>
+        ensures send { AfterSend (counts self.old.stops self.old.gones self.old.links.made) (counts self.new.stops self.new.gones self.new.links.made) link bytes.now result }
+        ensures there { IfOk result (TakesOf (numbers self.old.links.list.items) link) }
+        ensures held { IsHeld (unread self.old.sockets) (numbers self.old.links.list.items) → IsHeld (unread self.new.sockets) (numbers self.new.links.list.items) }
+        ensures course { self.new.course ≡ after_offer result self.old.course }
+        ensures gones { self.new.gones ≡ gones_after result self.old.gones }
+        ensures links { OnOk result (numbers self.new.links.list.items ≡ after_sent result link (numbers self.old.links.list.items)) }
+        ensures others { without link self.new.links.list.items ≡ without link self.old.links.list.items }
+        ensures dials { self.new.dials ≡ self.old.dials }
+    {
+        let sent = self.offer(link, bytes)?;
         match sent {
-            Sent::Took(count) => self.pace.note_taken(count),
+            Sent::Took(count) => self.course.pace.note_taken(count),
             Sent::Gone => self.gones = self.gones.saturating_add(1),
         }
         Ok(sent)
     }
 
-    fn close(&mut self, link: u32) -> Result<(), Memory> {
-        if let Some(sockets) = &mut self.sockets {
-            sockets.close(link);
+    fn close(&mut self, link: u32) -> Result<(), Memory>
+        ensures close { AfterAct (counts self.old.stops self.old.gones self.old.links.made) (counts self.new.stops self.new.gones self.new.links.made) (with_closed link) result }
+        ensures held { IsHeld (unread self.old.sockets) (numbers self.old.links.list.items) → IsHeld (unread self.new.sockets) (numbers self.new.links.list.items) }
+        ensures links { (self.new.links.list.items ≡ without link self.old.links.list.items) × (self.new.links.made ≡ self.old.links.made) }
+        ensures unread { unread self.new.sockets ≡ forgotten link (unread self.old.sockets) }
+        ensures kept { self.new ≡ record self.old { sockets = self.new.sockets; links = self.new.links } }
+    {
+        match &mut self.sockets {
+            Some(sockets) => sockets.let_go(&mut self.links, link),
+            None => self.links.let_go(link),
         }
         Ok(())
     }
 
-    /// Dials are not built: the answer is `Unjoined`.
+    /// Begins to connect to an uplink's address, or to the next one of its name, which is looked up where none is left. A
+    /// look-up waits, and the whole server with it. The answer comes from `next`: within 30 s, `Unjoined` where it isn't joined.
     fn dial(&mut self, uplink: u16, spec: &UplinkSpec) -> Result<(), Memory>
-        ensures dial { AfterAct (counts self.old.stops self.old.gones self.old.made) (counts self.new.stops self.new.gones self.new.made) (with_dial uplink spec.now) result }
-        ensures answer { OnOk result (self.new.dialled.items ≡ self.old.dialled.items ++ uplink ∷ []) }
+        ensures dial { AfterAct (counts self.old.stops self.old.gones self.old.links.made) (counts self.new.stops self.new.gones self.new.links.made) (with_dial uplink spec.now) result }
+        ensures begun { OnOk result (Begins uplink spec.now self.old.course.second self.old.dials.list.items self.new.dials.list.items) }
+        ensures unread { unread self.new.sockets ≡ unread self.old.sockets }
+        ensures err { OnErr result (self.new.dials.list.items ≡ self.old.dials.list.items) }
+        ensures kept { self.new ≡ record self.old { sockets = self.new.sockets; dials = self.new.dials; names = self.new.names } }
     {
-        self.dialled.push(uplink)?;
+        let dial = self.begin(uplink, spec)?;
+        self.dials.add(dial)?;
         Ok(())
     }
 
-    /// Datagrams are not built: each is lost.
-    fn cast(&mut self, _peer: u16, _to: Addr, _bytes: &[u8]) -> Result<(), Memory> {
+    /// Casts from the socket of the peer group's listener, or of the one with the greatest number. A lost datagram is no fault.
+    fn cast(&mut self, peer: u16, to: Addr, bytes: &[u8]) -> Result<(), Memory>
+        ensures cast { AfterAct (counts self.old.stops self.old.gones self.old.links.made) (counts self.new.stops self.new.gones self.new.links.made) (with_cast peer to bytes.now) result }
+        ensures kept { self.new ≡ self.old }
+    {
+        if let Some(sockets) = &self.sockets {
+            sockets.cast(to, bytes);
+        }
         Ok(())
     }
 }

@@ -1,0 +1,4 @@
+use Rattle.mio_wire.proofs.wire.MioWire.offer.Goals as goal
+
+pub returns-in_err-send-clause-held : goal.returns-in_err-send-clause-held
+returns-in_err-send-clause-held g c = λ held. c.send.ensures.held (rw c.in-Some.is at held)

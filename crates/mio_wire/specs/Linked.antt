@@ -1,0 +1,59 @@
+-- The links by their numbers.
+use Rattle.std.specs.Prelude.{◌==◌, ⊤, Contains, Option, Some, None, ℕ, ◌<◌, ◌≤◌, not, List, [], ◌∷◌, ◌++◌, All, AllPairs, map, filter}
+use Rattle.aprs_base.specs.declared.events.Event.{Event}
+use Rattle.aprs_base.specs.declared.events.Event.TheVariants as event
+use Rattle.aprs_base.specs.declared.events.Sent.{Sent}
+use Rattle.aprs_base.specs.declared.events.Sent.TheVariants as sent
+use Rattle.mio_wire.specs.declared.links.Link.{Link}
+
+abbrev pub numbers : List Link → List ℕ
+numbers links = map (λ l. l.number) links
+
+-- each number is below all later ones
+abbrev pub IsRising : List ℕ → Type 0
+IsRising ns = AllPairs (λ a b. a < b) ns
+
+-- no number is above that of the last link that was made
+abbrev pub IsCounted : ℕ → List ℕ → Type 0
+IsCounted made ns = All (λ n. n ≤ made) ns
+
+-- the links but for the one with that number
+abbrev pub without : ℕ → List Link → List Link
+without number links = filter (λ l. not (l.number == number)) links
+
+-- the numbers but for that one
+abbrev pub dropped : ℕ → List ℕ → List ℕ
+dropped number ns = filter (λ n. not (n == number)) ns
+
+-- the numbers after an event: a new link's is the last, and that of one that ended is there no more
+abbrev pub numbers_after : Event → List ℕ → List ℕ
+numbers_after (event.Opened listener link from) ns = ns ++ link ∷ []
+numbers_after (event.Joined uplink link at) ns = ns ++ link ∷ []
+numbers_after (event.Ended link) ns = dropped link ns
+numbers_after (event.Tick moment) ns = ns
+numbers_after (event.Unjoined uplink) ns = ns
+numbers_after (event.Bytes link bytes) ns = ns
+numbers_after (event.Room link) ns = ns
+numbers_after (event.Datagram listener from bytes) ns = ns
+numbers_after event.Stop ns = ns
+
+-- an event that tells of a link tells of one that is there
+abbrev pub TellsOfOne : List ℕ → Event → Type 0
+TellsOfOne ns (event.Bytes link bytes) = Contains ns link
+TellsOfOne ns (event.Ended link) = Contains ns link
+TellsOfOne ns (event.Room link) = Contains ns link
+TellsOfOne ns (event.Opened listener link from) = ⊤
+TellsOfOne ns (event.Joined uplink link at) = ⊤
+TellsOfOne ns (event.Tick moment) = ⊤
+TellsOfOne ns (event.Unjoined uplink) = ⊤
+TellsOfOne ns (event.Datagram listener from bytes) = ⊤
+TellsOfOne ns event.Stop = ⊤
+
+abbrev pub TellsStep : List ℕ → Option Event → Type 0
+TellsStep ns None = ⊤
+TellsStep ns (Some e) = TellsOfOne ns e
+
+-- only a link that is there takes a part of an offer
+abbrev pub TakesOf : List ℕ → (link : ℕ) → Sent → Type 0
+TakesOf ns link (sent.Took count) = Contains ns link
+TakesOf ns link sent.Gone = ⊤

@@ -1,0 +1,16 @@
+-- The addresses of uplinks that are dialled by name or by digits.
+use Rattle.std.specs.Prelude.{◌≡◌, ℕ, ◌+◌, ◌<◌, ◌≤◌, List, length, Option, Some, None}
+use Rattle.std.specs.Net.Addr.{ipv4_octets}
+use Rattle.std.specs.Net.Grammar.{IsIpv4Text}
+use Rattle.std.specs.declared.net.ipv4_addr.Ipv4Addr.{Ipv4Addr}
+use Rattle.aprs_base.specs.declared.texts.Addr.{Addr}
+
+-- the address that the digits write, and the port
+abbrev pub IsIn : (host : List ℕ) (port : ℕ) → Option Addr → Type 0
+IsIn host port None = ⊥
+IsIn host port (Some at) = (a : Ipv4Addr) × IsIpv4Text host a × (at.ip ≡ ipv4_octets a) × (at.port ≡ port)
+
+-- one more of the addresses that were found is tried, or the first of those that are found anew, where all were tried
+pub record IsTurn (found : List Addr) (tried : ℕ) (found' : List Addr) (tried' : ℕ) : Type 0 where
+  pub next : tried < length found → (found' ≡ found) × (tried' ≡ tried + 1)
+  pub anew : length found ≤ tried → tried' ≡ 1

@@ -1,0 +1,137 @@
+//! The dials that are not answered yet.
+ghost use Rattle.std.specs.Prelude.{◌≡◌, ◌==◌, ◌<◌, [], ◌∷◌, ◌++◌, Some, true, OnOk, OnErr, IfSome, length, position, remove, option_map, slice_get};
+ghost use Rattle.aprs_base.specs.declared.events.Event.TheVariants.{Unjoined};
+ghost use Rattle.mio_wire.specs.Dialled.{is_dead, outcome_of};
+ghost use Rattle.mio_wire.specs.declared.dials.Outcome.TheVariants.{Joins};
+
+use crate::turns::FIRST_DIAL;
+use aprs_base::{Addr, Event};
+use mio::net::TcpStream;
+use std::alloc::{AllocError, Global};
+
+/// For so many seconds a dial may be without an answer.
+const MOST_SECONDS: u64 = 30;
+
+/// A dial that is not answered yet.
+#[derive(Drop)]
+pub(crate) struct Dial {
+    pub(crate) uplink: u16,
+    /// The address that it is for.
+    pub(crate) at: Addr,
+    /// The moment at which it began, in seconds.
+    pub(crate) since: u64,
+    /// Its token at the poll.
+    pub(crate) token: usize,
+    /// None where it has failed.
+    pub(crate) stream: Option<TcpStream>,
+}
+
+impl Dial {
+    /// Whether it failed, or no answer came for 30 s. A clock that is set back doesn't keep it open.
+    fn is_dead(&self, second: u64) -> bool
+        ensures { result ≡ is_dead second self.now }
+    {
+        self.stream.is_none() || second.abs_diff(self.since) >= MOST_SECONDS
+    }
+}
+
+/// What is known of a dial.
+#[derive(Clone, Copy, PartialEq, Eq)]
+pub(crate) enum Outcome {
+    Waits,
+    Joins,
+    Fails,
+}
+
+/// What is known of a dial once the poll told of its socket or didn't, by whether that has a peer.
+fn known(told: bool, has_peer: bool) -> Outcome
+    ensures { result ≡ outcome_of told has_peer }
+{
+    match (told, has_peer) {
+        (false, _) => Outcome::Waits,
+        (true, true) => Outcome::Joins,
+        (true, false) => Outcome::Fails,
+    }
+}
+
+/// The dials that are not answered yet, in the order in which they began.
+#[derive(Drop)]
+pub(crate) struct Dials {
+    pub(crate) list: Vec<Dial>,
+    /// How many were made.
+    made: usize,
+}
+
+impl Dials {
+    pub(crate) fn new(alloc: Global) -> Dials
+        ensures { result.list.items ≡ [] }
+    {
+        Dials {
+            list: Vec::new(alloc),
+            made: 0,
+        }
+    }
+
+    /// A token that no dial had before.
+    pub(crate) fn next_token(&mut self) -> usize
+        ensures { self.new.list ≡ self.old.list }
+    {
+        self.made = self.made.saturating_add(1);
+        FIRST_DIAL.saturating_add(self.made)
+    }
+
+    pub(crate) fn add(&mut self, dial: Dial) -> Result<(), AllocError>
+        ensures ok { OnOk result (self.new.list.items ≡ self.old.list.items ++ dial ∷ []) }
+        ensures err { OnErr result (self.new.list.items ≡ self.old.list.items) }
+    {
+        self.list.push(dial)?;
+        Ok(())
+    }
+
+    /// Where the first dial stands that failed or was not answered for 30 s.
+    pub(crate) fn dead(&self, second: u64) -> Option<usize>
+        ensures place { result ≡ position (is_dead second) self.now.list.items }
+        ensures within { IfSome result (λ place. place < length self.now.list.items) }
+    {
+        self.list.iter().position(|dial| dial.is_dead(second))
+    }
+
+    /// Where the dial with a token stands.
+    pub(crate) fn place_of(&self, token: usize) -> Option<usize>
+        ensures place { result ≡ position (λ d. d.token == token) self.now.list.items }
+        ensures within { IfSome result (λ place. place < length self.now.list.items) }
+    {
+        self.list.iter().position(|dial| dial.token == token)
+    }
+
+    /// What is known of the dial at a place, whose socket the poll told of or didn't. Until it is known, nothing is asked of
+    /// the socket but its peer.
+    pub(crate) fn outcome(&self, place: usize, told: bool) -> Outcome
+        requires { place < length self.now.list.items }
+        ensures { result ≡ Joins → told ≡ true }
+    {
+        let has_peer = match &self.list[place].stream {
+            Some(stream) => stream.peer_addr().is_ok(),
+            None => false,
+        };
+        known(told, has_peer)
+    }
+
+    /// Takes the dial at a place out of the list.
+    pub(crate) fn take(&mut self, place: usize) -> Dial
+        requires { place < length self.old.list.items }
+        ensures dial { slice_get self.old.list.items place ≡ Some result }
+        ensures others { self.new.list.items ≡ remove self.old.list.items place }
+    {
+        self.list.remove(place)
+    }
+
+    /// Gives up the dial at a place.
+    pub(crate) fn give_up(&mut self, place: usize) -> Event
+        requires { place < length self.old.list.items }
+        ensures event { option_map (λ d. Unjoined d.uplink) (slice_get self.old.list.items place) ≡ Some result }
+        ensures others { self.new.list.items ≡ remove self.old.list.items place }
+    {
+        Event::Unjoined(self.take(place).uplink)
+    }
+}

@@ -1,0 +1,76 @@
+//! Datagrams that come, and the socket that they are cast from.
+ghost use Rattle.std.specs.Prelude.{◌≡◌, ◌≤◌, ◌↔◌, IsSome, IfSome, length};
+ghost use Rattle.mio_wire.specs.Mail.{caster_after};
+
+use crate::addresses::addr_of;
+use aprs_base::{Addr, Chunk, PortKind};
+use mio::net::UdpSocket;
+use std::io::ErrorKind;
+
+/// A socket for datagrams.
+#[derive(Drop)]
+pub(crate) struct Mailbox {
+    pub(crate) number: u16,
+    pub(crate) socket: UdpSocket,
+    /// How many datagrams it brought in this turn.
+    pub(crate) received: u32,
+}
+
+/// The socket that datagrams are cast from: its listener's number, and where it stands.
+#[derive(Clone, Copy)]
+pub(crate) struct Caster {
+    pub(crate) number: u16,
+    pub(crate) place: usize,
+}
+
+/// Where datagrams are cast from after one more listener: it is that of a peer group with the greatest number.
+pub(crate) fn caster_after(
+    caster: Option<Caster>,
+    kind: PortKind,
+    number: u16,
+    place: usize,
+) -> Option<Caster>
+    ensures { result ≡ caster_after kind number place caster }
+{
+    match (kind, caster) {
+        (PortKind::Core, None) => Some(Caster { number, place }),
+        (PortKind::Core, Some(other)) if other.number <= number => Some(Caster { number, place }),
+        _ => caster,
+    }
+}
+
+/// As many bytes as a read takes: one more than a datagram may have, so that a longer one shows.
+const MOST_RECEIVED: usize = 1461;
+
+/// What a read from a socket for datagrams brought.
+pub(crate) enum Received {
+    /// There is no more, until the poll tells of it.
+    Nothing,
+    /// A datagram that is too long or empty, or nothing because of a signal.
+    Dropped,
+    Datagram(Addr, Chunk),
+}
+
+/// The bytes of a datagram: None where it has none, or more than 1,460.
+fn whole_datagram(bytes: &[u8]) -> Option<Chunk>
+    ensures some { IsSome result ↔ ((1 ≤ length bytes.now) × (length bytes.now ≤ 1460)) }
+    ensures whole { IfSome result (λ c. c ≡ bytes.now) }
+{
+    if bytes.is_empty() {
+        return None;
+    }
+    Chunk::new(bytes)
+}
+
+/// Reads a datagram.
+pub(crate) fn receive(socket: &UdpSocket) -> Received {
+    let mut bytes = [0; MOST_RECEIVED];
+    match socket.recv_from(&mut bytes) {
+        Ok((count, from)) => match whole_datagram(&bytes[..count]) {
+            Some(chunk) => Received::Datagram(addr_of(from), chunk),
+            None => Received::Dropped,
+        },
+        Err(error) if error.kind() == ErrorKind::Interrupted => Received::Dropped,
+        Err(_) => Received::Nothing,
+    }
+}
