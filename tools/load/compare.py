@@ -51,6 +51,7 @@ FIGURES = {
     "logins": r"logged in.* s, (\d+) a second",
     "kilobytes": r"([\d.]+) kB a link",
     "share": r"idle +([\d.]+) %",
+    "left": r"all left took ([\d.]+) ms",
 }
 
 
@@ -96,11 +97,27 @@ def row(name, server, bare):
         cells = [f"{median(runs, 'logins'):.0f}" for runs in (bare, server)]
         cells += [f"{median(runs, 'kilobytes'):.2f}" for runs in (bare, server)]
         cells += [f"{median(runs, 'share'):.2f}" for runs in (bare, server)]
+        cells += [f"{median(runs, 'left'):.0f}" for runs in (bare, server)]
     else:
         cells = [f"{median(runs, 'delivered'):.0f}" for runs in (bare, server)] + [ratio(server, bare, "delivered")]
         cells += [f"{median(runs, 'cpu'):.3f}" for runs in (bare, server)] + [ratio(server, bare, "cpu")]
         cells += [f"{median(runs, 'p50'):.2f}, {median(runs, 'p99'):.2f}" for runs in (bare, server)]
     return f"| {name} | " + " | ".join(cells) + f" | {faults} |"
+
+
+FEED_HEAD = (
+    "| run | delivered a second: bare | server | ratio | us of processor a line: bare | server | ratio "
+    "| p50, p99 in ms: bare | server | lost/out of order/closed |"
+)
+IDLE_HEAD = (
+    "| run | logins a second: bare | server | kB a link: bare | server | % of a processor: bare | server "
+    "| ms of a line after all left: bare | server | lost/out of order/closed |"
+)
+
+
+def head(name):
+    text = IDLE_HEAD if name.startswith("idle") else FEED_HEAD
+    return text + "\n" + "|---" * (text.count("|") - 1) + "|"
 
 
 def loads():
@@ -121,13 +138,17 @@ def main():
         with open(f"{folder}/aprsc.conf", "w", encoding="ascii") as file:
             file.write(CONFIGURATION)
         servers = {"bare": [f"{folder}/bare", f"127.0.0.1:{FULL}"], "server": [program, "-c", "aprsc.conf"]}
+        before = None
         for name in names:
+            if before is None or head(name) != head(before):
+                print("\n" + head(name), flush=True)
+            before = name
             runs = {server: [] for server in servers}
             for _ in range(times):
                 for server, command in servers.items():
                     runs[server].append(measure(folder, command, RUNS[name]))
             print(row(name, runs["server"], runs["bare"]), flush=True)
-    print(f"load {loads()}")
+    print(f"\nload {loads()}")
 
 
 if __name__ == "__main__":

@@ -25,7 +25,7 @@ use std::thread;
 use std::time::{Duration, Instant};
 
 /// Where nothing has come for so long, nothing more will.
-const QUIET: Duration = Duration::from_secs(3);
+const QUIET: Duration = Duration::from_secs(20);
 
 /// How many of the links the server has closed.
 fn ended(clients: &mut [Client]) -> usize {
@@ -65,6 +65,25 @@ fn idle(options: &Options) -> io::Result<()> {
         options.seconds
     );
     println!("closed      {} links", ended(&mut clients));
+    leave(options, clients)
+}
+
+/// All clients leave at once, and then one that stays sends a line to another.
+fn leave(options: &Options, clients: Vec<Client>) -> io::Result<()> {
+    let options = Options {
+        clients: 1,
+        filtered: 0,
+        stalled: 0,
+        senders: 1,
+        readers: 1,
+        lines: 1,
+        ..options.clone()
+    };
+    let mut links = open_links(&options)?;
+    drop(clients);
+    let outcome = run_feed(&options, links.readers, &mut links.streams)?;
+    let (delivered, took) = (outcome.tally.delivered, outcome.tally.delays.most());
+    println!("left        {delivered} line sent right after all left took {took:.1} ms");
     Ok(())
 }
 

@@ -2,9 +2,6 @@
 
 use std::fs;
 
-/// The system counts processor time in hundredths of a second.
-const TICKS: f64 = 100.0;
-
 pub struct Process {
     pid: u32,
 }
@@ -15,16 +12,17 @@ impl Process {
         Process { pid }
     }
 
-    /// Processor time, in seconds.
+    /// Processor time of the threads that there are, in seconds.
     pub fn cpu(&self) -> f64 {
-        let text = fs::read_to_string(format!("/proc/{}/stat", self.pid)).unwrap_or_default();
-        // The name may hold blanks, and stands in parentheses; the times are the 12th and 13th words after it.
-        let after = text.rsplit_once(')').map_or("", |(_, after)| after);
-        let times = after.split_ascii_whitespace().skip(11).take(2);
-        times
-            .filter_map(|word| word.parse::<f64>().ok())
-            .sum::<f64>()
-            / TICKS
+        let Ok(threads) = fs::read_dir(format!("/proc/{}/task", self.pid)) else {
+            return 0.0;
+        };
+        let times = threads.flatten().filter_map(|thread| {
+            // The first word is the time in nanoseconds.
+            let text = fs::read_to_string(thread.path().join("schedstat")).ok()?;
+            text.split_ascii_whitespace().next()?.parse::<f64>().ok()
+        });
+        times.sum::<f64>() / 1e9
     }
 
     /// Resident memory, in kB.
