@@ -2,7 +2,7 @@
 
 use crate::delays::Delays;
 use crate::epoll::{Epoll, Event, READABLE};
-use crate::lines::{mark_of, Mark};
+use crate::lines::{mark_of, split_line, Mark};
 use std::io::{self, BufRead, BufReader, ErrorKind, Read, Write};
 use std::net::TcpStream;
 use std::sync::atomic::{AtomicBool, AtomicU64, Ordering};
@@ -150,17 +150,18 @@ impl Client {
             }
         };
         let now = began.elapsed().as_micros() as u64;
-        for piece in buffer[..count].split_inclusive(|byte| *byte == b'\n') {
-            if !piece.ends_with(b"\n") {
-                self.rest.extend_from_slice(piece);
-            } else if self.rest.is_empty() {
-                self.note(mark_of(piece), now, delays);
+        let mut left = &buffer[..count];
+        while let Some((line, after)) = split_line(left) {
+            left = after;
+            if self.rest.is_empty() {
+                self.note(mark_of(line), now, delays);
             } else {
-                self.rest.extend_from_slice(piece);
+                self.rest.extend_from_slice(line);
                 self.note(mark_of(&self.rest), now, delays);
                 self.rest.clear();
             }
         }
+        self.rest.extend_from_slice(left);
         true
     }
 

@@ -1,6 +1,11 @@
 //! The lines that are sent, each with a mark at its end.
 
+use std::ffi::c_void;
 use std::io::Write;
+
+extern "C" {
+    fn memchr(bytes: *const c_void, byte: i32, count: usize) -> *const c_void;
+}
 
 /// Who sent a line, its number among the sender's lines, and when it was sent, in microseconds since the beginning.
 pub struct Mark {
@@ -24,6 +29,17 @@ pub fn push_line(out: &mut Vec<u8>, mark: &Mark, length: usize) {
         "{:05} {:08} {:010}\r\n",
         mark.sender, mark.number, mark.micros
     );
+}
+
+/// The bytes up to the first LF, which is among them, and those after it.
+pub fn split_line(bytes: &[u8]) -> Option<(&[u8], &[u8])> {
+    let start = bytes.as_ptr();
+    // SAFETY: the call reads no more than the bytes that there are.
+    let found = unsafe { memchr(start.cast(), i32::from(b'\n'), bytes.len()) };
+    if found.is_null() {
+        return None;
+    }
+    Some(bytes.split_at(found as usize - start as usize + 1))
 }
 
 fn number(digits: &[u8]) -> Option<u64> {
