@@ -9,7 +9,7 @@ use std::marker::Model;
 /// The seconds between the end of a try and the next dial.
 const PAUSE: u64 = 10;
 
-/// What happens to uplinks and to links. The events of links that aren't joined uplinks change nothing.
+/// What happens to uplinks and to links.
 #[derive(Clone, Copy, PartialEq, Eq, Debug)]
 pub enum UpEvent {
     /// A second has passed.
@@ -18,9 +18,9 @@ pub enum UpEvent {
     Joined { uplink: u16, link: u32 },
     /// A dial came to nothing.
     Unjoined(u16),
-    /// The link brought bytes.
+    /// The link, of an uplink or not, brought bytes.
     Heard(u32),
-    /// The link ended.
+    /// The link, of an uplink or not, ended.
     Ended(u32),
 }
 
@@ -81,7 +81,9 @@ impl Uplinks {
         }
     }
 
-    /// What the event at the moment `now`, in seconds, makes of the uplinks, and what is to be done then.
+    /// What the event at `now`, in seconds, makes of the uplinks, and what is to be done then. At a tick a silent link
+    /// is closed. Otherwise the next uplink is dialled, where none is dialled or joined and ten seconds have passed since
+    /// the last try ended. The uplink that is dialled may join; any other link that joins is closed.
     pub fn step(&mut self, event: UpEvent, now: u64) -> UpActs
         ensures uplinks { self.new ≡ uplinks_after event now self.old }
         ensures acts { result ≡ acts_at event now self.old }
@@ -116,7 +118,7 @@ impl Uplinks {
                 }
             }
             Attempt::Idle => {
-                if self.is_rested(now) {
+                if self.may_dial(now) {
                     acts.dial = Some(self.next);
                     self.dial();
                 }
@@ -131,18 +133,21 @@ impl Uplinks {
         ensures acts { result ≡ acts_at (event.Joined uplink link) now self.old }
         ensures orderly { IsOrderly self.new }
     {
-        let mut acts = UpActs::default();
-        if self.attempt == Attempt::Dialled(uplink) {
-            self.attempt = Attempt::Joined {
-                uplink,
-                link,
-                last: now,
+        if self.attempt != Attempt::Dialled(uplink) {
+            return UpActs {
+                close: Some(link),
+                ..UpActs::default()
             };
-            acts.login = true;
-        } else {
-            acts.close = Some(link);
         }
-        acts
+        self.attempt = Attempt::Joined {
+            uplink,
+            link,
+            last: now,
+        };
+        UpActs {
+            login: true,
+            ..UpActs::default()
+        }
     }
 
     fn unjoin(&mut self, uplink: u16, now: u64)
@@ -192,7 +197,7 @@ impl Uplinks {
     }
 
     /// Whether there is one to dial, and the last try is over for long enough.
-    fn is_rested(&self, now: u64) -> bool
+    fn may_dial(&self, now: u64) -> bool
         ensures { result ≡ (nat_lt 0 self.now.count && is_rested now self.now.tried) }
     {
         self.count > 0 && self.tried.is_none_or(|tried| is_past(tried, PAUSE, now))
