@@ -1,6 +1,5 @@
 -- The server's uplinks as a trace leaves them, and what a round has for other servers: a dial, and packets for the peers.
-use Rattle.std.specs.Prelude.{ℕ, ◌+◌, Bool, List, [], ◌∷◌, ◌++◌, length, Option, Some, None, if◌then◌else◌}
-use Rattle.link_queue.specs.Lines.{ended_line}
+use Rattle.std.specs.Prelude.{ℕ, ◌+◌, Bool, List, [], ◌∷◌, ◌++◌, length, Option, None, if◌then◌else◌}
 use Rattle.uplinks_peers.specs.declared.uplinks.UpEvent.TheVariants as up
 use Rattle.uplinks_peers.specs.Uplinks.{UplinksSeen, acts_at, untried, uplinks_after}
 use Rattle.aprs_history.specs.declared.verdicts.Verdict.{Verdict}

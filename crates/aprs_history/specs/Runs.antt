@@ -8,7 +8,7 @@ use Rattle.aprs_base.specs.declared.packets.ListenSpec.{ListenSpec}
 use Rattle.aprs_base.specs.declared.events.Happening.{Happening}
 use Rattle.aprs_base.specs.declared.events.Happening.TheVariants as did
 use Rattle.aprs_history.specs.Setting.{Peer, Setting}
-use Rattle.aprs_history.specs.History.{History, in_order}
+use Rattle.aprs_history.specs.History.{History}
 use Rattle.aprs_history.specs.Acts.{IsRun}
 
 -- how many listeners were opened

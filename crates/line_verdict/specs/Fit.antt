@@ -1,5 +1,5 @@
 -- What every verdict is fit for: a login is a station's, and filters have few terms.
-use Rattle.std.specs.Prelude.{ℕ, Bool, true, nat_le, length, Option, Some, None, IsTrue, ⊤}
+use Rattle.std.specs.Prelude.{Bool, true, nat_le, length, Option, Some, None, IsTrue, ⊤}
 use Rattle.aprs_base.specs.Bytes.{is_station}
 use Rattle.aprs_history.specs.declared.verdicts.FilterAnswer.{FilterAnswer}
 use Rattle.aprs_history.specs.declared.verdicts.FilterAnswer.TheVariants.{Active, Denied}

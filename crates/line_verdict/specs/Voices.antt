@@ -4,8 +4,6 @@ use Rattle.aprs_base.specs.declared.packets.PortKind.{PortKind}
 use Rattle.login_pass.specs.Login.{login_of}
 use Rattle.q_construct.specs.Rule.{has_station}
 use Rattle.aprs_history.specs.Setting.{is_dupe_kind, is_filter_kind, is_only_kind}
-use Rattle.aprs_history.specs.declared.verdicts.FilterFault.TheVariants.{NoFilters}
-use Rattle.aprs_history.specs.declared.verdicts.FilterAnswer.TheVariants.{Denied}
 use Rattle.aprs_history.specs.declared.verdicts.Refusal.TheVariants.{ReadOnly}
 use Rattle.aprs_history.specs.declared.verdicts.Session.{Session}
 use Rattle.aprs_history.specs.declared.verdicts.Verdict.{Verdict}
