@@ -13,10 +13,8 @@ use Rattle.q_construct.specs.declared.origins.Origin.{Origin}
 use Rattle.uplinks_peers.specs.declared.uplinks.UpEvent.TheVariants as up
 use Rattle.uplinks_peers.specs.Uplinks.{acts_at, uplinks_after}
 use Rattle.aprs_history.specs.Dials.{uplinks_of}
-use Rattle.aprs_history.specs.declared.verdicts.LinkKind.{LinkKind}
 use Rattle.aprs_history.specs.declared.verdicts.LinkKind.TheVariants.{Uplink}
 use Rattle.aprs_history.specs.declared.verdicts.Refusal.{Refusal}
-use Rattle.aprs_history.specs.declared.verdicts.Refusal.TheVariants as refusal
 use Rattle.aprs_history.specs.declared.verdicts.FilterAnswer.{FilterAnswer}
 use Rattle.aprs_history.specs.declared.verdicts.Session.{Session}
 use Rattle.aprs_history.specs.declared.verdicts.Verdict.{Verdict}
@@ -31,7 +29,7 @@ use Rattle.aprs_history.specs.Links.{client_links, is_client_link, session_of, o
 use Rattle.aprs_history.specs.Dates.{comment_text}
 use Rattle.aprs_history.specs.History.{admission, admitted, joined_admission, refuse_datagram, begin_round, comment_seconds, dated, end_each, end_stopped, refused_links, refused_reason}
 use Rattle.aprs_history.specs.Stands.{LinkSeen, CoreSeen, ReachSeen, link_seen, Follows}
-use Rattle.server_core.specs.LinkSteps.{at_link, has_that, has_number, is_in_time, is_late_link, is_none_of, is_overfull, is_there, is_another, number_of, with_room, with_text, with_bytes, new_link_seen, numbers, Rises, IsDatagram, admitted_in, joined_outcome, client_kept, clients_in, ended_all, held_at, held_kept, logins_at, login_kept, speaker_at, speaker_kept, with_date, with_reply, others_at, at_moment, forgotten_all, is_lost}
+use Rattle.server_core.specs.LinkSteps.{at_link, has_that, has_number, is_in_time, is_late_link, is_none_of, is_overfull, is_there, is_another, with_room, with_bytes, numbers, Rises, IsDatagram, admitted_in, joined_outcome, client_kept, clients_in, ended_all, held_at, held_kept, logins_at, speaker_at, speaker_kept, with_date, others_at, at_moment, forgotten_all, is_lost}
 use Rattle.heard_routing.specs.Heard.{HeardSeen, without_link}
 use Rattle.aprs_conf.specs.Seen.{ConfSeen}
 use Rattle.server_core.specs.Meaning.{CoreMeaning, setting_of, timeouts_of}
@@ -40,7 +38,7 @@ use Rattle.server_core.specs.Steps.{SameRest, Walks, carried_at, scene_at, with_
 use Rattle.server_core.proofs.LinkLemmas.{changed_none, rises_to, rises_push}
 use Rattle.server_core.proofs.FollowLemmas.{picked_missing, picked_seen}
 use Rattle.server_core.proofs.HeardLemmas.{remembers_no_end}
-use Rattle.server_core.proofs.WalkLemmas.{with_ends, with_heard, with_links, with_reach, filter_seen, follows_began, follows_dated, follows_gone, follows_late, follows_looked, follows_turned_away, follows_unasked, follows_unjoined, follows_refused_links, going_after, late_goes, live_numbers, refused_goes, follows_said, follows_roomed, follows_ticked, follows_brought, follows_opened, follows_unserved, follows_ended, follows_stopped}
+use Rattle.server_core.proofs.WalkLemmas.{with_ends, with_links, with_reach, filter_seen, follows_began, follows_dated, follows_gone, follows_late, follows_looked, follows_turned_away, follows_unasked, follows_unjoined, follows_refused_links, going_after, late_goes, refused_goes, follows_said, follows_roomed, follows_ticked, follows_brought, follows_opened, follows_unserved, follows_ended, follows_stopped}
 use Rattle.aprs_history.proofs.EntryLemmas.{IsSaidBy}
 
 -- the core with other links

@@ -1,5 +1,5 @@
 -- Members of lists of numbers.
-use Rattle.std.proofs.Common.{◌≡◌, ℕ, ◌+◌, length, arith, ◌<◌, get_or, zero, suc, Option, Some, None, slice_get, ◌==◌, Bool, true, false, ◌||◌, ◌&&◌, List, [], ◌∷◌, ◌++◌, filter, refl, sym, ap, ◌∙◌, ⊎_elim, eq-eqb, cond}
+use Rattle.std.proofs.Common.{◌≡◌, ℕ, ◌+◌, length, arith, ◌<◌, get_or, zero, suc, Some, slice_get, ◌==◌, Bool, true, false, ◌||◌, ◌&&◌, List, [], ◌∷◌, ◌++◌, filter, refl, sym, ap, ◌∙◌, ⊎_elim, eq-eqb, cond}
 use Rattle.std.proofs.lemmas.Bool.{eqb-true, cases_Bool, false_from_ne_true, true≢false}
 use Rattle.aprs_base.specs.declared.packets.ListenSpec.{ListenSpec}
 use Rattle.std.specs.List.{list_all}

@@ -1,7 +1,6 @@
 -- The walk over a whole round, and what stands after it.
-use Rattle.std.proofs.Common.{◌≡◌, ℕ, suc, ◌+◌, ◌<◌, true, false, ◌||◌, List, [], ◌∷◌, ◌++◌, length, map, filter, sym, ap, ◌∙◌, subst, None, if◌then◌else◌, IfOk, OnOk, Result, Ok, Err, get_or, drop, drop-cons, add-one}
+use Rattle.std.proofs.Common.{◌≡◌, ℕ, suc, ◌+◌, ◌<◌, true, false, ◌||◌, List, [], ◌∷◌, ◌++◌, length, map, filter, sym, ap, ◌∙◌, subst, IfOk, OnOk, Result, Ok, Err, get_or, drop, drop-cons, add-one}
 use Rattle.aprs_base.specs.declared.events.Event.{Event}
-use Rattle.aprs_base.specs.declared.events.Event.TheVariants as event
 use Rattle.aprs_history.specs.Trace.{Trace, closed_links}
 use Rattle.aprs_history.specs.History.{History, is_stop, trace_of, with_event, begin_round, end_round}
 use Rattle.aprs_history.specs.Rounds.{AreFresh, is_whole, with_events, events_trace, greatest_after, stopped_after}

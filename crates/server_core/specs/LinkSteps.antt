@@ -35,7 +35,6 @@ use Rattle.aprs_base.specs.declared.texts.Addr.{Addr}
 use Rattle.aprs_history.specs.declared.verdicts.Admission.{Admission}
 use Rattle.aprs_history.specs.declared.verdicts.LinkKind.TheVariants.{Uplink}
 use Rattle.aprs_history.specs.declared.verdicts.Admission.TheVariants.{NoPort, NotAsked, Served, TurnedAway}
-use Rattle.aprs_history.specs.Stands.{ReachSeen}
 use Rattle.uplinks_peers.specs.declared.uplinks.UpEvent.TheVariants as up
 use Rattle.uplinks_peers.specs.Uplinks.{UplinksSeen, uplinks_after}
 use Rattle.server_core.specs.declared.link.SourcePlace.{SourcePlace}

@@ -1,4 +1,4 @@
-use Rattle.std.proofs.Common.{◌≡◌, ◌∙◌, ap, refl, sym, true, false, Option, Some, None, ℕ, Bool, is_some, position, List}
+use Rattle.std.proofs.Common.{◌≡◌, ◌∙◌, sym, Option, Some, None, ℕ, is_some, position, List}
 use Rattle.aprs_history.specs.Stands.{LinkSeen}
 use Rattle.server_core.specs.LinkSteps.{has_number, has_that}
 use Rattle.server_core.proofs.LinkLemmas.{position_none, position_there}

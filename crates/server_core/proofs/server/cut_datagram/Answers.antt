@@ -1,6 +1,5 @@
-use Rattle.std.proofs.Common.{◌≡◌, ◌∙◌, ◌++◌, ◌∷◌, [], ap, refl, sym}
-use Rattle.aprs_base.specs.Cuts.{cuts_by, cuts_of}
-use Rattle.aprs_base.specs.Held.{held_after}
+use Rattle.std.proofs.Common.{◌∙◌, ◌++◌, ◌∷◌, [], ap, sym}
+use Rattle.aprs_base.specs.Cuts.{cuts_by}
 use Rattle.aprs_base.proofs.CutLemmas.{cuts_of-append}
 use Rattle.server_core.proofs.server.cut_datagram.Goals as goal
 

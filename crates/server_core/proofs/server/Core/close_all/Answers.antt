@@ -1,10 +1,6 @@
 use Rattle.std.proofs.Common.{subst, sym, ap, ◌∙◌, true, refl}
 use Rattle.std.proofs.lemmas.Result.{on_ok_weaker}
 use Rattle.std.proofs.Common.{true}
-use Rattle.aprs_conf.specs.Seen.{ConfSeen}
-use Rattle.aprs_history.specs.History.{end_stopped}
-use Rattle.aprs_history.specs.Stands.{Follows}
-use Rattle.server_core.specs.Meaning.{setting_of}
 use Rattle.server_core.specs.LinkSteps.{numbers}
 use Rattle.server_core.specs.Meaning.{CoreMeaning}
 use Rattle.server_core.specs.Steps.{Walks}

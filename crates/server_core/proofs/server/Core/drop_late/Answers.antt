@@ -1,10 +1,7 @@
 use Rattle.std.proofs.Common.{subst, sym, ap, ◌∙◌, filter}
 use Rattle.std.proofs.lemmas.Result.{on_ok_weaker}
-use Rattle.aprs_conf.specs.Seen.{ConfSeen}
-use Rattle.aprs_history.specs.Links.{late_links, late_reason}
-use Rattle.aprs_history.specs.History.{end_each}
 use Rattle.server_core.specs.declared.link.Timeouts.{Timeouts}
-use Rattle.server_core.specs.Meaning.{setting_of, timeouts_of}
+use Rattle.server_core.specs.Meaning.{timeouts_of}
 use Rattle.server_core.specs.LinkSteps.{Rises, is_in_time, is_late_link, numbers}
 use Rattle.server_core.specs.Meaning.{CoreMeaning}
 use Rattle.server_core.specs.Steps.{Walks}

@@ -1,9 +1,6 @@
 use Rattle.std.proofs.Common.{subst, sym, ap, ◌∙◌, filter}
 use Rattle.std.proofs.lemmas.Result.{on_ok_weaker}
 use Rattle.aprs_history.specs.Trace.{placed_all}
-use Rattle.aprs_conf.specs.Seen.{ConfSeen}
-use Rattle.aprs_history.specs.History.{end_each, refused_links, refused_reason}
-use Rattle.server_core.specs.Meaning.{setting_of}
 use Rattle.server_core.specs.LinkSteps.{Rises, is_none_of, is_overfull, numbers}
 use Rattle.server_core.specs.Meaning.{CoreMeaning}
 use Rattle.server_core.specs.Steps.{Walks}

@@ -1,9 +1,9 @@
-use Rattle.std.proofs.Common.{◌≡◌, ◌∙◌, ap, subst, sym, ◌∷◌}
+use Rattle.std.proofs.Common.{◌∙◌, ap, subst, sym, ◌∷◌}
 use Rattle.std.proofs.lemmas.Result.{on_ok_weaker}
 use Rattle.aprs_history.specs.declared.verdicts.Admission.{Admission}
 use Rattle.aprs_history.specs.Trace.{ByUplink, Opened}
 use Rattle.aprs_history.specs.History.{joined_admission}
-use Rattle.server_core.specs.LinkSteps.{Rises, admitted_in, joined_outcome, numbers}
+use Rattle.server_core.specs.LinkSteps.{admitted_in, joined_outcome}
 use Rattle.server_core.specs.Meaning.{CoreMeaning, setting_of}
 use Rattle.server_core.specs.Steps.{Walks}
 use Rattle.server_core.proofs.CoreLemmas.{walks_joined}

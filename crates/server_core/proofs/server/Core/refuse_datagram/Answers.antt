@@ -1,10 +1,8 @@
 use Rattle.std.proofs.Common.{subst, sym}
 use Rattle.std.proofs.lemmas.Result.{on_ok_weaker}
-use Rattle.aprs_base.specs.declared.packets.Source.TheVariants as source
 use Rattle.aprs_history.specs.History.{refuse_datagram}
-use Rattle.aprs_history.specs.declared.verdicts.Verdict.TheVariants.{Refused}
-use Rattle.server_core.specs.Steps.{SameRest, Walks}
-use Rattle.server_core.proofs.CoreLemmas.{rest_kept, walks_unread}
+use Rattle.server_core.specs.Steps.{Walks}
+use Rattle.server_core.proofs.CoreLemmas.{walks_unread}
 use Rattle.server_core.proofs.server.Core.refuse_datagram.Goals as goal
 
 pub returns-clause-walks : goal.returns-clause-walks

@@ -1,4 +1,4 @@
-use Rattle.std.proofs.Common.{◌≡◌, ◌∙◌, ◌∷◌, [], List, ap, refl, sym, subst, true, false, ⊎_elim, length, eq-eqb, if◌then◌else◌}
+use Rattle.std.proofs.Common.{◌∙◌, ◌∷◌, List, ap, sym, subst, ⊎_elim, length, eq-eqb, if◌then◌else◌}
 use Rattle.std.proofs.lemmas.Bool.{cases_Bool, true≢false}
 use Rattle.aprs_base.specs.declared.cutting.Cut.{Cut}
 use Rattle.aprs_base.specs.declared.packets.Source.TheVariants as source

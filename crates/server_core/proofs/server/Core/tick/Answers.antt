@@ -1,4 +1,4 @@
-use Rattle.std.proofs.Common.{◌≡◌, ◌∷◌, OnOk, subst, ap, ◌∙◌}
+use Rattle.std.proofs.Common.{◌≡◌, ◌∷◌, subst, ap, ◌∙◌}
 use Rattle.aprs_conf.specs.Seen.{ConfSeen}
 use Rattle.aprs_history.specs.History.{dated, end_each}
 use Rattle.aprs_history.specs.Links.{late_links, late_reason}
