@@ -1,10 +1,11 @@
-//! Sessions on a full port, an igate port and one for clients alone, and what links are offered, from the public description of
+//! Sessions on ports of each kind, with an uplink and peers, and what is to be done for them, from the public description of
 //! APRS-IS.
 mod cores;
 mod endings;
 mod filters;
 mod logins;
 mod messages;
+mod network;
 mod packets;
 mod relays;
 mod rounds;

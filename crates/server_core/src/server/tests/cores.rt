@@ -1,6 +1,8 @@
 //! The core that sessions are run over, and what it must be given.
 ghost use Rattle.std.specs.Prelude.{◌≡◌, ◌<◌, ◌≤◌, ◌+◌, IsTrue, IfSome, length};
+ghost use Rattle.aprs_base.specs.Bytes.{is_station};
 ghost use Rattle.aprs_base.specs.Outside.{new_link};
+ghost use Rattle.aprs_conf.specs.Sound.{IsGroup};
 ghost use Rattle.aprs_history.specs.History.{is_round_event};
 ghost use Rattle.aprs_history.specs.Rounds.{AreFresh, is_whole};
 ghost use Rattle.server_core.specs.LinkSteps.{has_number};
@@ -8,8 +10,9 @@ ghost use Rattle.server_core.specs.Meaning.{numbered};
 
 use super::super::Core;
 use crate::acts::Acts;
-use aprs_base::{Addr, Call, Chunk, Event, ListenSpec, PortKind, Text};
-use aprs_conf::{Conf, Listen};
+use aprs_base::{Addr, Call, Chunk, Event, ListenSpec, PortKind, Text, UplinkSpec};
+use aprs_conf::{Conf, Listen, PeerSpec};
+use arrayvec::ArrayVec;
 use std::alloc::Global;
 use std::hash::RandomState;
 use std::marker::Sync;
@@ -21,6 +24,19 @@ const HERE: Addr = Addr {
     ip: [127, 0, 0, 1],
     port: 14580,
 };
+
+const UPLINK: Addr = Addr {
+    ip: [10, 0, 0, 9],
+    port: 10152,
+};
+
+/// Where peers and stations send datagrams from.
+const fn far(port: u16) -> Addr {
+    Addr {
+        ip: [10, 0, 0, 8],
+        port,
+    }
+}
 
 fn no_text(alloc: Global) -> Text {
     Text {
@@ -43,32 +59,53 @@ pub(super) struct Limits {
     pub clients: u32,
 }
 
-/// A full port, an igate port and one for clients alone.
+/// A peer that sends from this port.
+fn peer<R: Abort>(rt: &R, call: &[u8], port: u16) -> PeerSpec
+    ensures { IsTrue (is_station result.call) }
+{
+    let call = Call::read(call).expect(rt, "a call");
+    assert!(rt; call.is_station());
+    PeerSpec {
+        call,
+        at: far(port),
+    }
+}
+
+/// A port of each kind, an uplink, and two peers.
 fn conf_of<R: Abort>(rt: &R, alloc: Global, server: Call, limits: Limits) -> Conf
     ensures server { result.server ≡ server }
     ensures listens { length (numbered result.listens) ≤ 16 }
+    ensures uplinks { length result.uplinks ≤ 8 }
+    ensures peers { IsGroup result.group result.peers }
 {
     let listens = [
         listen(alloc, PortKind::Full),
         listen(alloc, PortKind::Igate),
         listen(alloc, PortKind::Only),
+        listen(alloc, PortKind::Dupe),
+        listen(alloc, PortKind::Submit),
     ];
+    let uplinks = [UplinkSpec {
+        host: ArrayVec::new(),
+        port: UPLINK.port,
+    }];
+    let peers = [peer(rt, b"T2HUB", 9000), peer(rt, b"T2LEAF", 9001)];
     Conf {
         server,
         code: 8385,
         admin: no_text(alloc),
         email: no_text(alloc),
         listens: Vec::from_array(alloc, listens).expect(rt, "memory"),
-        uplinks: Vec::new(alloc),
-        group: None,
-        peers: Vec::new(alloc),
+        uplinks: Vec::from_array(alloc, uplinks).expect(rt, "memory"),
+        group: Some(HERE),
+        peers: Vec::from_array(alloc, peers).expect(rt, "memory"),
         up_timeout: 15,
         client_timeout: limits.silence,
         max_clients: limits.clients,
     }
 }
 
-/// A core with this call and those ports.
+/// A core with this call, over such a configuration.
 pub(super) fn core_of<R: RandomSource + Abort>(
     rt: &R,
     alloc: Global,
@@ -86,6 +123,23 @@ pub(super) fn opened(link: u32, listener: u16) -> Event {
         listener,
         link,
         from: HERE,
+    }
+}
+
+/// The uplink joins as that link.
+pub(super) fn joined(link: u32) -> Event {
+    Event::Joined {
+        uplink: 0,
+        link,
+        at: UPLINK,
+    }
+}
+
+pub(super) fn datagram<R: Abort>(rt: &R, listener: u16, port: u16, text: &[u8]) -> Event {
+    Event::Datagram {
+        listener,
+        from: far(port),
+        bytes: Chunk::new(text).expect(rt, "a chunk"),
     }
 }
 

@@ -1,7 +1,7 @@
 //! Sessions as tables of rows.
 use super::super::Core;
-use super::cores::{Limits, bytes, core_of, is_served, opened, round, take_next};
-use crate::acts::Acts;
+use super::cores::{Limits, bytes, core_of, datagram, is_served, joined, opened, round, take_next};
+use crate::acts::{Acts, CastOut};
 use aprs_base::Event;
 use std::alloc::Global;
 use std::marker::Sync;
@@ -12,8 +12,12 @@ use std::thread::Threads;
 /// A row of a session: what comes, or what is to be done after it.
 #[derive(Clone, Copy)]
 pub(super) enum Row<'a> {
-    /// A link is opened on a listener: 0 is full, 1 an igate port, 2 for clients alone.
+    /// A link is opened on a listener: 0 is full, 1 an igate port, 2 for clients alone, 3 shows refused duplicates.
     Opens(u32, u16),
+    /// The uplink joins as that link.
+    Joins(u32),
+    /// A datagram comes on a listener from that port: 4 is for submissions, 5 for the two peers, at 9000 and 9001.
+    Sends(u16, u16, &'a [u8]),
     /// The link brings these bytes.
     Says(u32, &'a [u8]),
     /// The link's other side ends it.
@@ -36,6 +40,10 @@ pub(super) enum Row<'a> {
     Offers(&'a [u32]),
     /// These links are closed after the last round.
     Closes(&'a [u32]),
+    /// This uplink is dialled after the last round.
+    Dials(Option<u16>),
+    /// These lines are cast to these peers after the last round.
+    Casts(&'a [(u16, &'a [u8])]),
     /// The last round was a stop.
     Done,
     /// The link isn't served.
@@ -107,6 +115,13 @@ fn are_same<R: Abort>(rt: &R, links: &[u32], want: &[u32]) {
     assert!(rt; links == want);
 }
 
+fn are_cast<R: Abort>(rt: &R, casts: &[CastOut], want: &[(u16, &[u8])]) {
+    assert!(rt; casts.len() == want.len());
+    for (cast, (peer, line)) in casts.iter().zip(want) {
+        assert!(rt; cast.peer == *peer && cast.line.bytes() == *line);
+    }
+}
+
 fn keeps<R: Abort>(rt: &R, core: &Core, place: usize, moment: u64, class: u16) {
     assert!(rt; place < core.accepted.len());
     let packet = &core.accepted[place];
@@ -116,6 +131,10 @@ fn keeps<R: Abort>(rt: &R, core: &Core, place: usize, moment: u64, class: u16) {
 fn step<R: Threads + Sync + Abort>(rt: &R, alloc: Global, session: &mut Session, row: Row) {
     match row {
         Row::Opens(link, listener) => come(rt, session, opened(link, listener)),
+        Row::Joins(link) => come(rt, session, joined(link)),
+        Row::Sends(listener, port, text) => {
+            come(rt, session, datagram(rt, listener, port, text));
+        }
         Row::Says(link, text) => come(rt, session, bytes(rt, link, text)),
         Row::Ends(link) => come(rt, session, Event::Ended(link)),
         Row::Room(link) => come(rt, session, Event::Room(link)),
@@ -127,6 +146,8 @@ fn step<R: Threads + Sync + Abort>(rt: &R, alloc: Global, session: &mut Session,
         Row::Drains(link) => takes(rt, alloc, session, link, None, 600),
         Row::Offers(links) => are_same(rt, session.acts.offers.as_slice(), links),
         Row::Closes(links) => are_same(rt, session.acts.closes.as_slice(), links),
+        Row::Dials(uplink) => assert!(rt; session.acts.dial == uplink),
+        Row::Casts(lines) => are_cast(rt, session.acts.casts.as_slice(), lines),
         Row::Done => assert!(rt; session.acts.done),
         Row::Lacks(link) => assert!(rt; !is_served(&session.core, link)),
         Row::Keeps(place, moment, class) => keeps(rt, &session.core, place, moment, class),
