@@ -9,6 +9,13 @@ use std::time::{Clock, Duration};
 /// The seconds that a client waits for bytes at most.
 const PATIENCE: u64 = 20;
 
+/// A call and its passcode.
+pub(crate) const FIRST: (&str, u16) = ("N0CALL", 13023);
+
+pub(crate) const SECOND: (&str, u16) = ("K1ABC", 14993);
+
+pub(crate) const THIRD: (&str, u16) = ("K1XYZ", 14986);
+
 /// A client that speaks in lines.
 #[derive(Drop)]
 pub(crate) struct Client {
@@ -38,12 +45,35 @@ pub(crate) fn release<R: Net<Stream = TcpStream>>(rt: &R, port: u16, ends: u32) 
     }
 }
 
+/// Three clients of T2TEST that have logged in: N0CALL, K1ABC and K1XYZ.
+pub(crate) fn three<R: Clock + Net<Stream = TcpStream>>(
+    rt: &R,
+    alloc: Global,
+    port: u16,
+) -> io::Result<[Client; 3]> {
+    Ok([
+        Client::open(rt, alloc, port, FIRST)?,
+        Client::open(rt, alloc, port, SECOND)?,
+        Client::open(rt, alloc, port, THIRD)?,
+    ])
+}
+
 impl Client {
-    /// Opens a link, and logs in with a call and its passcode.
+    /// Opens a link, and logs in with a call and its passcode at T2TEST.
     pub(crate) fn open<R: Clock + Net<Stream = TcpStream>>(
         rt: &R,
         alloc: Global,
         port: u16,
+        login: (&str, u16),
+    ) -> io::Result<Client> {
+        Client::open_at(rt, alloc, ("T2TEST", port), login)
+    }
+
+    /// Opens a link to a server at a port, and logs in.
+    pub(crate) fn open_at<R: Clock + Net<Stream = TcpStream>>(
+        rt: &R,
+        alloc: Global,
+        (server, port): (&str, u16),
         (call, code): (&str, u16),
     ) -> io::Result<Client> {
         let stream = connect(rt, port)?;
@@ -53,15 +83,18 @@ impl Client {
             line: Vec::new(alloc),
         };
         client.hears(b"# aprsc 1.0\r\n")?;
-        client.log_in(alloc, call, code)?;
+        let login = format!(in alloc; "user {call} pass {code} vers t 1\r\n")?;
+        client.says(login.as_bytes())?;
+        let reply = format!(in alloc; "# logresp {call} verified, server {server}\r\n")?;
+        client.hears(reply.as_bytes())?;
         Ok(client)
     }
 
-    fn log_in(&mut self, alloc: Global, call: &str, code: u16) -> io::Result<()> {
-        let login = format!(in alloc; "user {call} pass {code} vers t 1\r\n")?;
-        self.says(login.as_bytes())?;
-        let reply = format!(in alloc; "# logresp {call} verified, server T2TEST\r\n")?;
-        self.hears(reply.as_bytes())
+    /// Waits for bytes so many milliseconds at most from now on.
+    pub(crate) fn waits(&mut self, millis: u64) -> io::Result<()> {
+        self.stream
+            .get_mut()
+            .set_read_timeout(Some(Duration::from_millis(millis)))
     }
 
     /// Says these bytes.

@@ -4,6 +4,12 @@
 #[cfg(test)]
 mod client;
 #[cfg(test)]
+mod crowd_tests;
+#[cfg(test)]
+mod network_tests;
+#[cfg(test)]
+mod packets;
+#[cfg(test)]
 mod server;
 #[cfg(test)]
 mod tests;
