@@ -1,59 +1,25 @@
-//! The server's program. It runs over a wire in memory, on which two stations log in and one sends a packet.
+//! The server's program: the top call over the files, the output and the sockets of the system.
 #![tactic(auto)]
 
-use aprs_base::{Addr, Chunk, Event, MemWire};
 use aprsc_daemon::{RealFiles, RealSink, aprsc};
-use std::alloc::{AllocError, Global};
+use mio_wire::MioWire;
+use std::alloc::AllocError;
 use std::env::{self, Env};
 use std::fs::Files;
 use std::hash::RandomState;
 use std::io::Print;
 use std::marker::Sync;
+use std::net::Net;
 use std::process::ExitCode;
 use std::sync::Wait;
 use std::thread::Threads;
+use std::time::Clock;
 
 /// The status for want of memory.
 const NO_MEMORY: u8 = 6;
 
 /// The status where the system gives no random words.
 const NO_RANDOM: u8 = 8;
-
-fn opened(link: u32) -> Event {
-    Event::Opened {
-        listener: 0,
-        link,
-        from: Addr {
-            ip: [127, 0, 0, 1],
-            port: 14580,
-        },
-    }
-}
-
-/// A station says a line.
-fn said(link: u32, line: &[u8]) -> Option<Event> {
-    Some(Event::Bytes(link, Chunk::new(line)?))
-}
-
-/// Two stations log in, and the first sends a packet.
-fn events(alloc: Global) -> Result<Vec<Event>, AllocError> {
-    let mut events = Vec::new(alloc);
-    events.push(Event::Tick(1000))?;
-    events.push(opened(1))?;
-    events.push(opened(2))?;
-    let lines: [(u32, &[u8]); 3] = [
-        (1, b"user N0CALL pass 13023 vers t 1\r\n"),
-        (2, b"user K1ABC pass 14993 vers t 1\r\n"),
-        (1, b"N0CALL>APRS,WIDE1-1:>hi\r\n"),
-    ];
-    for (link, line) in lines {
-        if let Some(event) = said(link, line) {
-            events.push(event)?;
-        }
-    }
-    events.push(Event::Stop)?;
-    Ok(events)
-}
 
 fn words<R: AllocGlobal + Env>(rt: &R) -> Result<Vec<String>, AllocError> {
     let mut words = Vec::new(rt.alloc());
@@ -65,16 +31,15 @@ fn words<R: AllocGlobal + Env>(rt: &R) -> Result<Vec<String>, AllocError> {
     Ok(words)
 }
 
+/// Serves until it is ended from outside, or until the wire or memory fails.
 fn run<R>(rt: &R, hasher: &RandomState) -> Result<u8, AllocError>
 where
-    R: AllocGlobal + Env + Files + Print + Sync + Threads + Wait,
+    R: AllocGlobal + Clock + Env + Files + Net + Print + Sync + Threads + Wait,
 {
     let alloc = rt.alloc();
     let words = words(rt)?;
-    let Ok(mut wire) = MemWire::new(alloc, events(alloc)?, Vec::new(alloc), None, None) else {
-        return Ok(NO_MEMORY);
-    };
     let mut files = RealFiles::new(rt);
+    let mut wire = MioWire::new(rt, alloc, None);
     let mut out = RealSink::new(rt);
     Ok(aprsc(
         rt,

@@ -17,12 +17,14 @@ use Rattle.aprs_conf.specs.Seen.{ConfSeen}
 use Rattle.aprs_conf.specs.Grammar.{conf_of}
 use Rattle.aprs_conf.specs.declared.errors.ConfError.{ConfError}
 use Rattle.aprsc_daemon.specs.Phases.{Ends, Finished, Idle}
-use Rattle.aprsc_daemon.specs.Saying.{listen_failed_text, unread_text, usage_text}
+use Rattle.aprsc_daemon.specs.Saying.{listen_failed_text, unread_text, usage_text, valid_text}
 use Rattle.aprsc_daemon.specs.Configuring.{IsTrouble}
 use Rattle.aprsc_daemon.specs.declared.configuring.Trouble.{Trouble}
 use Rattle.aprsc_daemon.specs.declared.configuring.Trouble.TheVariants as trouble
 use Rattle.aprsc_daemon.specs.Causes.{Asks, Cause, Ended, HasNamed, HasNoListener, HasNoMemory, HasRefused, IsDue, IsOff, IsServed, IsUnused, KeepsPromise, Opening, OpensOnly, Outside, Reports, Said, code_of_status, status_of}
-use Rattle.aprsc_daemon.specs.Words.{file_word}
+use Rattle.aprsc_daemon.specs.Words.{ServerWordsSeen, asked_of}
+use Rattle.aprsc_daemon.specs.declared.words.Task.{Task}
+use Rattle.aprsc_daemon.specs.declared.words.Task.TheVariants as task
 use Rattle.aprsc_daemon.specs.declared.serving.End.{End}
 use Rattle.aprsc_daemon.specs.declared.serving.End.TheVariants as ended
 use Rattle.aprsc_daemon.specs.declared.program.Status.{Status}
@@ -53,25 +55,32 @@ pub grew_nothing : (told : Option (List ℕ)) → told ≡ option_map (λ text. 
 grew_nothing None = refl
 grew_nothing (Some text) = ap Some (sym (append-nil text))
 
-pub words_cause : (o : Outside) (text : List ℕ) (result : Status) → file_word o.words ≡ None → IsUnused o → text ≡ usage_text → Said o.sink o.sink_after text status.BadWords result → Cause result o
+pub words_cause : (o : Outside) (text : List ℕ) (result : Status) → asked_of o.words ≡ None → IsUnused o → text ≡ usage_text → Said o.sink o.sink_after text status.BadWords result → Cause result o
 words_cause o text result bad unused line said =
     said_cause o text status.BadWords result said (record { bad = bad; unused = unused; line = line }) (λ reports. reports)
 
-pub off_cause : (o : Outside) (file bytes text : List ℕ) (result : Status) → file_word o.words ≡ Some file → Holds o.files.told file bytes → IsOff file bytes text
+pub off_cause : (o : Outside) (asked : ServerWordsSeen) (bytes text : List ℕ) (result : Status) → asked_of o.words ≡ Some asked → Holds o.files.told asked.file bytes → IsOff asked.file bytes text
     → IsUnused o → Said o.sink o.sink_after text status.BadFile result → Cause result o
-off_cause o file bytes text result named holds off unused said =
+off_cause o asked bytes text result named holds off unused said =
     said_cause o text status.BadFile result said
-    (record { read = record { file = file; bytes = bytes; named = named; holds = holds; off = off }; unused = unused })
+    (record { read = record { asked = asked; bytes = bytes; named = named; holds = holds; off = off }; unused = unused })
     (λ reports. reports)
 
-pub unread_cause : (o : Outside) (file : List ℕ) (result : Status) → file_word o.words ≡ Some file → Rose o.files.faults o.files_after.faults
-    → IsUnused o → Said o.sink o.sink_after (unread_text file) status.UnreadFile result → Cause result o
-unread_cause o file result named failed unused said =
-    said_cause o (unread_text file) status.UnreadFile result said
-    (record { file = file; named = named; failed = failed; unused = unused; line = refl })
+pub unread_cause : (o : Outside) (asked : ServerWordsSeen) (result : Status) → asked_of o.words ≡ Some asked → Rose o.files.faults o.files_after.faults
+    → IsUnused o → Said o.sink o.sink_after (unread_text asked.file) status.UnreadFile result → Cause result o
+unread_cause o asked result named failed unused said =
+    said_cause o (unread_text asked.file) status.UnreadFile result said
+    (record { asked = asked; named = named; failed = failed; unused = unused; line = refl })
     (λ reports. reports)
 
-pub listener_cause : (o : Outside) (conf : ConfSeen) (n : ℕ) (result : Status) → HasNamed o.words o.files.told conf → n < length (setting_of conf).listens → Rose o.wire.stops o.wire_after.stops
+pub valid_cause : (o : Outside) (conf : ConfSeen) (result : Status) → (read : HasNamed task.Check o.words o.files.told conf) → IsUnused o
+    → Said o.sink o.sink_after (valid_text read.asked.file) status.Checked result → Cause result o
+valid_cause o conf result read unused said =
+    said_cause o (valid_text read.asked.file) status.Checked result said
+    (record { conf = conf; read = read; unused = unused; line = refl })
+    (λ reports. reports)
+
+pub listener_cause : (o : Outside) (conf : ConfSeen) (n : ℕ) (result : Status) → HasNamed task.Serve o.words o.files.told conf → n < length (setting_of conf).listens → Rose o.wire.stops o.wire_after.stops
     → AppendsRun (setting_of conf) o.wire.told o.wire_after.told (OpensOnly n) → Said o.sink o.sink_after (listen_failed_text n) status.NoListener result → Cause result o
 listener_cause o conf n result read within failed run said =
     said_cause o (listen_failed_text n) status.NoListener result said
@@ -83,7 +92,7 @@ listener_cause o conf n result read within failed run said =
 pub memory_cause : (o : Outside) → o.sink_after.told ≡ o.sink.told → IsUnused o ⊎ IsServed o (λ s. HasFreshLinks) → HasNoMemory o
 memory_cause o silent left = inl (record { run = left; silent = silent })
 
-pub ended_cause : (o : Outside) (conf : ConfSeen) (end : End) (result : Status) → result ≡ status_of end → HasNamed o.words o.files.told conf → o.sink_after.told ≡ o.sink.told
+pub ended_cause : (o : Outside) (conf : ConfSeen) (end : End) (result : Status) → result ≡ status_of end → HasNamed task.Serve o.words o.files.told conf → o.sink_after.told ≡ o.sink.told
     → (end ≡ ended.Failed → Rose o.wire.stops o.wire_after.stops)
     → AppendsRun (setting_of conf) o.wire.told o.wire_after.told (Ends (setting_of conf) end) → Cause result o
 ended_cause o conf end result is read silent failed run = subst (λ st. Cause st o) (sym is) (causes end failed run)
@@ -95,8 +104,8 @@ ended_cause o conf end result is read silent failed run = subst (λ st. Cause st
 
 -- ---- files that tell their bytes
 
-at_files : (o : Outside) (files : List MemFile) (conf : ConfSeen) → o.files.told ≡ Some files → HasNamed o.words o.files.told conf → HasNamed o.words (Some files) conf
-at_files o files conf tells read = subst (λ told. HasNamed o.words told conf) tells read
+at_files : (t : Task) (o : Outside) (files : List MemFile) (conf : ConfSeen) → o.files.told ≡ Some files → HasNamed t o.words o.files.told conf → HasNamed t o.words (Some files) conf
+at_files t o files conf tells read = subst (λ told. HasNamed t o.words told conf) tells read
 
 some_same : {X : Type 0} (r : Option X) (m n : X) → r ≡ Some m → r ≡ Some n → m ≡ n
 some_same r m n e f = cc
@@ -105,14 +114,14 @@ ok_same : (r : Result ConfSeen ConfError) (m n : ConfSeen) → r ≡ Ok m → r 
 ok_same r m n e f = cc
 
 -- the words name one file, and it has one text
-same_bytes : (words : List (List ℕ)) (files : List MemFile) (this that here there : List ℕ) → file_word words ≡ Some this → file_word words ≡ Some that
-    → bytes_named this files ≡ Some here → bytes_named that files ≡ Some there → here ≡ there
+same_bytes : (words : List (List ℕ)) (files : List MemFile) (this that : ServerWordsSeen) (here there : List ℕ) → asked_of words ≡ Some this → asked_of words ≡ Some that
+    → bytes_named this.file files ≡ Some here → bytes_named that.file files ≡ Some there → here ≡ there
 same_bytes words files this that here there named named_too holds holds_too =
-    some_same (bytes_named that files) here there (ap (λ name. bytes_named name files) (sym (some_same (file_word words) this that named named_too)) ∙ holds) holds_too
+    some_same (bytes_named that.file files) here there (ap (λ asked. bytes_named asked.file files) (sym (some_same (asked_of words) this that named named_too)) ∙ holds) holds_too
 
-same_conf : (words : List (List ℕ)) (files : List MemFile) (a b : ConfSeen) → HasNamed words (Some files) a → HasNamed words (Some files) b → a ≡ b
+same_conf : (words : List (List ℕ)) (files : List MemFile) (a b : ConfSeen) → HasNamed task.Serve words (Some files) a → HasNamed task.Serve words (Some files) b → a ≡ b
 same_conf words files a b x y =
-    let same = same_bytes words files x.file y.file x.bytes y.bytes x.named y.named x.holds y.holds in
+    let same = same_bytes words files x.asked y.asked x.bytes y.bytes x.named y.named x.holds y.holds in
     ok_same (conf_of y.bytes) a b (ap conf_of (sym same) ∙ x.reads) y.reads
 
 no_trouble : (t : Trouble) (said : Result ConfSeen ConfError) (conf : ConfSeen) → said ≡ Ok conf → IsTrouble t said → ⊥
@@ -120,25 +129,33 @@ no_trouble (trouble.Line n f) said conf reads is = cc
 no_trouble (trouble.Missing w) said conf reads is = cc
 
 -- no file is both a configuration and off
-not_both : (words : List (List ℕ)) (files : List MemFile) (conf : ConfSeen) (text : List ℕ) → HasNamed words (Some files) conf → HasRefused words (Some files) text → ⊥
-not_both words files conf text read refused =
-    let same = same_bytes words files read.file refused.file read.bytes refused.bytes read.named refused.named read.holds refused.holds in
+not_both : (t : Task) (words : List (List ℕ)) (files : List MemFile) (conf : ConfSeen) (text : List ℕ) → HasNamed t words (Some files) conf → HasRefused words (Some files) text → ⊥
+not_both t words files conf text read refused =
+    let same = same_bytes words files read.asked refused.asked read.bytes refused.bytes read.named refused.named read.holds refused.holds in
     let short : length refused.bytes ≤ 65536 = subst (λ bytes. length bytes ≤ 65536) same read.short in
     ⊎_elim
     (λ big. absurd (omega (arith, big.0)))
     (λ off. no_trouble off.1 (conf_of refused.bytes) conf (ap conf_of (sym same) ∙ read.reads) off.2)
     refused.off
 
-not_named : (words : List (List ℕ)) (file : List ℕ) → file_word words ≡ None → file_word words ≡ Some file → ⊥
-not_named words file bad named = cc
+not_named : (words : List (List ℕ)) (asked : ServerWordsSeen) → asked_of words ≡ None → asked_of words ≡ Some asked → ⊥
+not_named words asked bad named = cc
+
+-- no words ask for a run and for a check
+one_task : (words : List (List ℕ)) (told : Option (List MemFile)) (a b : ConfSeen) → HasNamed task.Serve words told a → HasNamed task.Check words told b → ⊥
+one_task words told a b x y =
+    let asked : x.asked ≡ y.asked = some_same (asked_of words) x.asked y.asked x.named y.named in
+    let tasks : task.Serve ≡ task.Check = sym x.is_asked ∙ (ap (λ asked. asked.task) asked ∙ y.is_asked) in
+    cc
 
 -- a text that is due where the files hold a configuration, and didn't fail, is the line on a listener
-due_listener : (wanted : Status) (o : Outside) (files : List MemFile) (conf : ConfSeen) (text : List ℕ) → o.files.told ≡ Some files → HasNamed o.words o.files.told conf
+due_listener : (wanted : Status) (o : Outside) (files : List MemFile) (conf : ConfSeen) (text : List ℕ) → o.files.told ≡ Some files → HasNamed task.Serve o.words o.files.told conf
     → ¬ Rose o.files.faults o.files_after.faults → IsDue wanted o text → HasNoListener o text
 due_listener status.Stopped o files conf text tells read sound due = absurd due
-due_listener status.BadWords o files conf text tells read sound due = absurd (not_named o.words read.file due.bad read.named)
+due_listener status.Checked o files conf text tells read sound due = absurd (one_task o.words o.files.told conf due.conf read due.read)
+due_listener status.BadWords o files conf text tells read sound due = absurd (not_named o.words read.asked due.bad read.named)
 due_listener status.BadFile o files conf text tells read sound due =
-    absurd (not_both o.words files conf text (at_files o files conf tells read) (subst (λ told. HasRefused o.words told text) tells due.read))
+    absurd (not_both task.Serve o.words files conf text (at_files task.Serve o files conf tells read) (subst (λ told. HasRefused o.words told text) tells due.read))
 due_listener status.UnreadFile o files conf text tells read sound due = absurd (sound due.failed)
 due_listener status.NoListener o files conf text tells read sound due = due
 due_listener status.LostWire o files conf text tells read sound due = absurd due
@@ -150,10 +167,10 @@ due_listener status.LostSink o files conf text tells read sound due = absurd due
 unused_run : (o : Outside) (s : Setting) (P : History → Type 0) → P [] → IsUnused o → AppendsRun s o.wire.told o.wire_after.told P
 unused_run o s P begins unused = run_told s o.wire.told o.wire.told o.wire_after.told P unused (run_begins s o.wire.told P begins)
 
-served_run : (o : Outside) (files : List MemFile) (conf : ConfSeen) (P : Setting → History → Type 0) → o.files.told ≡ Some files → HasNamed o.words o.files.told conf → IsServed o P
+served_run : (o : Outside) (files : List MemFile) (conf : ConfSeen) (P : Setting → History → Type 0) → o.files.told ≡ Some files → HasNamed task.Serve o.words o.files.told conf → IsServed o P
     → AppendsRun (setting_of conf) o.wire.told o.wire_after.told (P (setting_of conf))
 served_run o files conf P tells read served =
-    let same = same_conf o.words files served.conf conf (at_files o files served.conf tells served.read) (at_files o files conf tells read) in
+    let same = same_conf o.words files served.conf conf (at_files task.Serve o files served.conf tells served.read) (at_files task.Serve o files conf tells read) in
     subst (λ c. AppendsRun (setting_of c) o.wire.told o.wire_after.told (P (setting_of c))) same served.run
 
 -- where nothing but listeners was opened, no link was numbered
@@ -167,7 +184,7 @@ listens_fresh (did.Dialled uplink ∷ more) only = absurd (false≢true only)
 listens_fresh (did.Cast peer bytes ∷ more) only = absurd (false≢true only)
 
 -- a run of which the end says no more
-goes_on : (o : Outside) (files : List MemFile) (conf : ConfSeen) (code : ℕ) → (code ≡ 0 → ⊥) → (code ≡ 5 → ⊥) → o.files.told ≡ Some files → HasNamed o.words o.files.told conf
+goes_on : (o : Outside) (files : List MemFile) (conf : ConfSeen) (code : ℕ) → (code ≡ 0 → ⊥) → (code ≡ 5 → ⊥) → o.files.told ≡ Some files → HasNamed task.Serve o.words o.files.told conf
     → IsUnused o ⊎ IsServed o (λ s. HasFreshLinks) → AppendsRun (setting_of conf) o.wire.told o.wire_after.told (Ended code (setting_of conf))
 goes_on o files conf code not_0 not_5 tells read =
     ⊎_elim
@@ -189,6 +206,7 @@ opens_some o text due =
 -- where a text is due nothing happened, or listeners alone were opened
 due_run : (wanted : Status) (o : Outside) (text : List ℕ) → IsDue wanted o text → IsUnused o ⊎ IsServed o (λ s. HasFreshLinks)
 due_run status.Stopped o text due = absurd due
+due_run status.Checked o text due = inl due.unused
 due_run status.BadWords o text due = inl due.unused
 due_run status.BadFile o text due = inl due.unused
 due_run status.UnreadFile o text due = inl due.unused
@@ -199,14 +217,15 @@ due_run status.LostSink o text due = absurd due
 
 -- and so the end says nothing
 due_ended : (wanted : Status) (o : Outside) (text : List ℕ) (files : List MemFile) (conf : ConfSeen) (code : ℕ) → (code ≡ 0 → ⊥) → (code ≡ 5 → ⊥) → o.files.told ≡ Some files
-    → HasNamed o.words o.files.told conf → IsDue wanted o text → AppendsRun (setting_of conf) o.wire.told o.wire_after.told (Ended code (setting_of conf))
+    → HasNamed task.Serve o.words o.files.told conf → IsDue wanted o text → AppendsRun (setting_of conf) o.wire.told o.wire_after.told (Ended code (setting_of conf))
 due_ended wanted o text files conf code not_0 not_5 tells read due =
     goes_on o files conf code not_0 not_5 tells read (due_run wanted o text due)
 
-pub headline : (o : Outside) (files : List MemFile) (conf : ConfSeen) (ending : Status) → o.files.told ≡ Some files → HasNamed o.words o.files.told conf → Cause ending o
+pub headline : (o : Outside) (files : List MemFile) (conf : ConfSeen) (ending : Status) → o.files.told ≡ Some files → HasNamed task.Serve o.words o.files.told conf → Cause ending o
     → AppendsRun (setting_of conf) o.wire.told o.wire_after.told (Ended (code_of_status ending) (setting_of conf))
 headline o files conf status.Stopped tells read cause =
     served_run o files conf (Ended 0) tells read (served_weaker o Finished (Ended 0) (λ s more at. record { fresh = at.idle.fresh; stopped = λ e. at; lost = λ e. absurd (omega arith) }) cause.run)
+headline o files conf status.Checked tells read cause = absurd (one_task o.words o.files.told conf cause.due.conf read cause.due.read)
 headline o files conf status.BadWords tells read cause =
     due_ended status.BadWords o cause.text files conf 1 (λ e. omega arith) (λ e. omega arith) tells read cause.due
 headline o files conf status.BadFile tells read cause =
@@ -241,10 +260,11 @@ keeps_promise s (Some told) now code run = (
 
 -- ---- the sink fails early
 
-pub early : (o : Outside) (files : List MemFile) (conf : ConfSeen) (ending : Status) → o.files.told ≡ Some files → HasNamed o.words o.files.told conf
+pub early : (o : Outside) (files : List MemFile) (conf : ConfSeen) (ending : Status) → o.files.told ≡ Some files → HasNamed task.Serve o.words o.files.told conf
     → ¬ Rose o.files.faults o.files_after.faults → code_of_status ending ≡ 7 → Cause ending o
     → AppendsRun (setting_of conf) o.wire.told o.wire_after.told (Opening (setting_of conf))
 early o files conf status.Stopped tells read sound is cause = absurd (omega arith)
+early o files conf status.Checked tells read sound is cause = absurd (omega arith)
 early o files conf status.BadWords tells read sound is cause = absurd (omega arith)
 early o files conf status.BadFile tells read sound is cause = absurd (omega arith)
 early o files conf status.UnreadFile tells read sound is cause = absurd (omega arith)
@@ -256,25 +276,28 @@ early o files conf status.LostSink tells read sound is cause =
 
 -- ---- completeness
 
-words_asked : (o : Outside) (ending : Status) → file_word o.words ≡ None → ¬ Rose o.sink.faults o.sink_after.faults → Cause ending o
+words_asked : (o : Outside) (ending : Status) → asked_of o.words ≡ None → ¬ Rose o.sink.faults o.sink_after.faults → Cause ending o
     → (code_of_status ending ≡ 1) ⊎ (code_of_status ending ≡ 6)
-words_asked o status.Stopped bad taken cause = absurd (not_named o.words cause.run.read.file bad cause.run.read.named)
+words_asked o status.Stopped bad taken cause = absurd (not_named o.words cause.run.read.asked bad cause.run.read.named)
+words_asked o status.Checked bad taken cause = absurd (not_named o.words cause.due.read.asked bad cause.due.read.named)
 words_asked o status.BadWords bad taken cause = inl refl
-words_asked o status.BadFile bad taken cause = absurd (not_named o.words cause.due.read.file bad cause.due.read.named)
-words_asked o status.UnreadFile bad taken cause = absurd (not_named o.words cause.due.file bad cause.due.named)
-words_asked o status.NoListener bad taken cause = absurd (not_named o.words cause.due.run.read.file bad cause.due.run.read.named)
-words_asked o status.LostWire bad taken cause = absurd (not_named o.words cause.run.read.file bad cause.run.read.named)
+words_asked o status.BadFile bad taken cause = absurd (not_named o.words cause.due.read.asked bad cause.due.read.named)
+words_asked o status.UnreadFile bad taken cause = absurd (not_named o.words cause.due.asked bad cause.due.named)
+words_asked o status.NoListener bad taken cause = absurd (not_named o.words cause.due.run.read.asked bad cause.due.run.read.named)
+words_asked o status.LostWire bad taken cause = absurd (not_named o.words cause.run.read.asked bad cause.run.read.named)
 words_asked o status.NoMemory bad taken cause = inr refl
 words_asked o status.LostSink bad taken cause = absurd (taken cause.failed)
 
 served_not_off : (o : Outside) (files : List MemFile) (text : List ℕ) (P : Setting → History → Type 0) → o.files.told ≡ Some files → HasRefused o.words (Some files) text → IsServed o P → ⊥
-served_not_off o files text P tells refused served = not_both o.words files served.conf text (at_files o files served.conf tells served.read) refused
+served_not_off o files text P tells refused served = not_both task.Serve o.words files served.conf text (at_files task.Serve o files served.conf tells served.read) refused
 
 file_asked : (o : Outside) (files : List MemFile) (text : List ℕ) (ending : Status) → o.files.told ≡ Some files → HasRefused o.words (Some files) text
     → ¬ Rose o.files.faults o.files_after.faults → ¬ Rose o.sink.faults o.sink_after.faults → Cause ending o
     → (code_of_status ending ≡ 2) ⊎ (code_of_status ending ≡ 6)
 file_asked o files text status.Stopped tells refused sound taken cause = absurd (served_not_off o files text Finished tells refused cause.run)
-file_asked o files text status.BadWords tells refused sound taken cause = absurd (not_named o.words refused.file cause.due.bad refused.named)
+file_asked o files text status.Checked tells refused sound taken cause =
+    absurd (not_both task.Check o.words files cause.due.conf text (at_files task.Check o files cause.due.conf tells cause.due.read) refused)
+file_asked o files text status.BadWords tells refused sound taken cause = absurd (not_named o.words refused.asked cause.due.bad refused.named)
 file_asked o files text status.BadFile tells refused sound taken cause = inl refl
 file_asked o files text status.UnreadFile tells refused sound taken cause = absurd (sound cause.due.failed)
 file_asked o files text status.NoListener tells refused sound taken cause = absurd (served_not_off o files text (λ s. OpensOnly cause.due.number) tells refused cause.due.run)
@@ -282,17 +305,19 @@ file_asked o files text status.LostWire tells refused sound taken cause = absurd
 file_asked o files text status.NoMemory tells refused sound taken cause = inr refl
 file_asked o files text status.LostSink tells refused sound taken cause = absurd (taken cause.failed)
 
-conf_asked : (o : Outside) (files : List MemFile) (conf : ConfSeen) (ending : Status) → o.files.told ≡ Some files → HasNamed o.words o.files.told conf
+conf_asked : (t : Task) (o : Outside) (files : List MemFile) (conf : ConfSeen) (ending : Status) → o.files.told ≡ Some files → HasNamed t o.words o.files.told conf
     → ¬ Rose o.files.faults o.files_after.faults → ¬ Rose o.wire.stops o.wire_after.stops → ¬ Rose o.sink.faults o.sink_after.faults → Cause ending o
     → (code_of_status ending ≡ 0) ⊎ (code_of_status ending ≡ 6)
-conf_asked o files conf status.Stopped tells read sound going taken cause = inl refl
-conf_asked o files conf status.BadWords tells read sound going taken cause = absurd (going (due_listener status.BadWords o files conf cause.text tells read sound cause.due).failed)
-conf_asked o files conf status.BadFile tells read sound going taken cause = absurd (going (due_listener status.BadFile o files conf cause.text tells read sound cause.due).failed)
-conf_asked o files conf status.UnreadFile tells read sound going taken cause = absurd (sound cause.due.failed)
-conf_asked o files conf status.NoListener tells read sound going taken cause = absurd (going cause.due.failed)
-conf_asked o files conf status.LostWire tells read sound going taken cause = absurd (going cause.failed)
-conf_asked o files conf status.NoMemory tells read sound going taken cause = inr refl
-conf_asked o files conf status.LostSink tells read sound going taken cause = absurd (taken cause.failed)
+conf_asked t o files conf status.Stopped tells read sound going taken cause = inl refl
+conf_asked t o files conf status.Checked tells read sound going taken cause = inl refl
+conf_asked t o files conf status.BadWords tells read sound going taken cause = absurd (not_named o.words read.asked cause.due.bad read.named)
+conf_asked t o files conf status.BadFile tells read sound going taken cause =
+    absurd (not_both t o.words files conf cause.text (at_files t o files conf tells read) (subst (λ told. HasRefused o.words told cause.text) tells cause.due.read))
+conf_asked t o files conf status.UnreadFile tells read sound going taken cause = absurd (sound cause.due.failed)
+conf_asked t o files conf status.NoListener tells read sound going taken cause = absurd (going cause.due.failed)
+conf_asked t o files conf status.LostWire tells read sound going taken cause = absurd (going cause.failed)
+conf_asked t o files conf status.NoMemory tells read sound going taken cause = inr refl
+conf_asked t o files conf status.LostSink tells read sound going taken cause = absurd (taken cause.failed)
 
 pub complete : (o : Outside) (code : ℕ) (ending : Status) → Asks o.words o.files.told code
     → ¬ Rose o.files.faults o.files_after.faults → ¬ Rose o.wire.stops o.wire_after.stops → ¬ Rose o.sink.faults o.sink_after.faults → Cause ending o
@@ -309,6 +334,6 @@ complete o code ending asks sound going taken cause = answers o.files.told refl 
         (λ words. is_code 1 words.0 (words_asked o ending words.1 taken cause))
         (λ good. ⊎_elim
         (λ file. is_code 2 file.0 (file_asked o files file.1 ending tells file.2 sound taken cause))
-        (λ named. is_code 0 named.0 (conf_asked o files named.1 ending tells (subst (λ told. HasNamed o.words told named.1) (sym tells) named.2) sound going taken cause))
+        (λ named. is_code 0 named.0 (conf_asked named.1 o files named.2 ending tells (subst (λ told. HasNamed named.1 o.words told named.2) (sym tells) named.3) sound going taken cause))
         good)
         asks

@@ -6,4 +6,5 @@ pub mod ReachLemmas
 mod Rows
 pub mod RunLemmas
 pub mod ServeLemmas
+pub mod WordsLemmas
 pub mod WriteLemmas

@@ -15,22 +15,37 @@ use Rattle.aprs_conf.specs.declared.errors.ConfFault.TheVariants as fault
 use Rattle.aprs_conf.specs.declared.errors.ConfWord.TheVariants as word
 use Rattle.aprsc_daemon.specs.Saying.{trouble_text, listen_failed_text}
 use Rattle.aprsc_daemon.specs.declared.configuring.Trouble.TheVariants as trouble
-use Rattle.aprsc_daemon.specs.Words.{file_word}
+use Rattle.clap.proofs.OnLiterals.{clap_on_literals}
+use Rattle.aprsc_daemon.specs.Words.{asked_of}
+use Rattle.aprsc_daemon.specs.declared.words.Task.TheVariants as task
 
-good_words : file_word (codes "-c" ∷ codes "aprsc.conf" ∷ []) ≡ Some (codes "aprsc.conf")
+good_words : asked_of (codes "-c" ∷ codes "aprsc.conf" ∷ []) ≡ Some (record { file = codes "aprsc.conf"; workers = 1; task = task.Serve })
+unfolding clap_on_literals asked_of
 good_words = refl
 
-no_file : file_word (codes "-c" ∷ []) ≡ None
+all_words : asked_of (codes "-w" ∷ codes "64" ∷ codes "-c=f" ∷ codes "-y" ∷ []) ≡ Some (record { file = codes "f"; workers = 64; task = task.Check })
+unfolding clap_on_literals asked_of
+all_words = refl
+
+no_words : asked_of [] ≡ None
+unfolding clap_on_literals asked_of
+no_words = refl
+
+too_many_workers : asked_of (codes "-c" ∷ codes "c" ∷ codes "-w" ∷ codes "65" ∷ []) ≡ None
+unfolding clap_on_literals asked_of
+too_many_workers = refl
+
+two_files : asked_of (codes "-c" ∷ codes "a" ∷ codes "-c" ∷ codes "b" ∷ []) ≡ None
+unfolding clap_on_literals asked_of
+two_files = refl
+
+no_file : asked_of (codes "-y" ∷ []) ≡ None
+unfolding clap_on_literals asked_of
 no_file = refl
 
-empty_file : file_word (codes "-c" ∷ [] ∷ []) ≡ None
-empty_file = refl
-
-dash_file : file_word (codes "-c" ∷ codes "-y" ∷ []) ≡ None
-dash_file = refl
-
-more_words : file_word (codes "-c" ∷ codes "a" ∷ codes "-y" ∷ []) ≡ None
-more_words = refl
+other_mode : asked_of (codes "drill" ∷ codes "-c" ∷ codes "c" ∷ []) ≡ None
+unfolding clap_on_literals asked_of
+other_mode = refl
 
 bad_line : trouble_text (codes "c") (trouble.Line 4 fault.BadKind) ≡ codes "c: line 4: bad-kind\n"
 bad_line = let four : decimal 4 ≡ 52 ∷ [] = decimal_digit 4 (lit< tt) in rw four refl

@@ -14,10 +14,12 @@ use Rattle.aprs_conf.specs.Seen.{ConfSeen}
 use Rattle.aprs_conf.specs.Grammar.{conf_of}
 use Rattle.server_core.specs.Meaning.{setting_of}
 use Rattle.aprsc_daemon.specs.Phases.{Finished, Idle}
-use Rattle.aprsc_daemon.specs.Saying.{Grew, listen_failed_text, trouble_text, too_large_text, unread_text, usage_text}
+use Rattle.aprsc_daemon.specs.Saying.{Grew, listen_failed_text, trouble_text, too_large_text, unread_text, usage_text, valid_text}
 use Rattle.aprsc_daemon.specs.Configuring.{IsTrouble}
 use Rattle.aprsc_daemon.specs.declared.configuring.Trouble.{Trouble}
-use Rattle.aprsc_daemon.specs.Words.{file_word}
+use Rattle.aprsc_daemon.specs.Words.{ServerWordsSeen, asked_of}
+use Rattle.aprsc_daemon.specs.declared.words.Task.{Task}
+use Rattle.aprsc_daemon.specs.declared.words.Task.TheVariants as task
 use Rattle.aprsc_daemon.specs.declared.serving.End.{End}
 use Rattle.aprsc_daemon.specs.declared.serving.End.TheVariants as ended
 use Rattle.aprsc_daemon.specs.declared.program.Status.{Status}
@@ -37,19 +39,20 @@ pub record Outside : Type 0 where
 abbrev pub IsUnused : Outside → Type 0
 IsUnused o = o.wire_after.told ≡ o.wire.told
 
--- the words name a file that holds this configuration, as far as the files tell
-pub record HasNamed (words : List (List ℕ)) (told : Option (List MemFile)) (conf : ConfSeen) : Type 0 where
-  pub file : List ℕ
+-- the words ask for this task with a file that holds this configuration, as far as the files tell
+pub record HasNamed (asked_task : Task) (words : List (List ℕ)) (told : Option (List MemFile)) (conf : ConfSeen) : Type 0 where
+  pub asked : ServerWordsSeen
   pub bytes : List ℕ
-  pub named : file_word words ≡ Some file
-  pub holds : Holds told file bytes
+  pub named : asked_of words ≡ Some asked
+  pub is_asked : asked.task ≡ asked_task
+  pub holds : Holds told asked.file bytes
   pub short : length bytes ≤ 65536
   pub reads : conf_of bytes ≡ Ok conf
 
--- what happened on the wire is a run for the named configuration
+-- a run was asked for, and what happened on the wire is one for the named configuration
 pub record IsServed (o : Outside) (P : Setting → History → Type 0) : Type 0 where
   pub conf : ConfSeen
-  pub read : HasNamed o.words o.files.told conf
+  pub read : HasNamed task.Serve o.words o.files.told conf
   pub run : AppendsRun (setting_of conf) o.wire.told o.wire_after.told (P (setting_of conf))
 
 -- ---- what is written
@@ -64,9 +67,16 @@ GrewPart old new text = (k : ℕ) × Grew old new (take k text)
 
 -- ---- the statuses that have a text: their causes but for the writing, and the text
 
+-- 0 with `-y`: the words ask for a check, and the named file holds a configuration
+pub record HasValidFile (o : Outside) (text : List ℕ) : Type 0 where
+  pub conf : ConfSeen
+  pub read : HasNamed task.Check o.words o.files.told conf
+  pub unused : IsUnused o
+  pub line : text ≡ valid_text read.asked.file
+
 -- 1: the words aren't good
 pub record HasBadWords (o : Outside) (text : List ℕ) : Type 0 where
-  pub bad : file_word o.words ≡ None
+  pub bad : asked_of o.words ≡ None
   pub unused : IsUnused o
   pub line : text ≡ usage_text
 
@@ -78,11 +88,11 @@ IsOff file bytes text =
 
 -- the words name a file that holds such bytes, as far as the files tell
 pub record HasRefused (words : List (List ℕ)) (told : Option (List MemFile)) (text : List ℕ) : Type 0 where
-  pub file : List ℕ
+  pub asked : ServerWordsSeen
   pub bytes : List ℕ
-  pub named : file_word words ≡ Some file
-  pub holds : Holds told file bytes
-  pub off : IsOff file bytes text
+  pub named : asked_of words ≡ Some asked
+  pub holds : Holds told asked.file bytes
+  pub off : IsOff asked.file bytes text
 
 -- 2: the words are good, and the named file is too large or off its grammar
 pub record HasBadFile (o : Outside) (text : List ℕ) : Type 0 where
@@ -91,11 +101,11 @@ pub record HasBadFile (o : Outside) (text : List ℕ) : Type 0 where
 
 -- 3: the words are good, and the files failed
 pub record HasUnreadFile (o : Outside) (text : List ℕ) : Type 0 where
-  pub file : List ℕ
-  pub named : file_word o.words ≡ Some file
+  pub asked : ServerWordsSeen
+  pub named : asked_of o.words ≡ Some asked
   pub failed : Rose o.files.faults o.files_after.faults
   pub unused : IsUnused o
-  pub line : text ≡ unread_text file
+  pub line : text ≡ unread_text asked.file
 
 -- so many listeners were opened, and nothing else happened
 abbrev pub OpensOnly : ℕ → History → Type 0
@@ -112,6 +122,7 @@ pub record HasNoListener (o : Outside) (text : List ℕ) : Type 0 where
 -- the status's cause is there but for the writing of this text
 abbrev pub IsDue : Status → Outside → List ℕ → Type 0
 IsDue status.Stopped o text = ⊥
+IsDue status.Checked o text = HasValidFile o text
 IsDue status.BadWords o text = HasBadWords o text
 IsDue status.BadFile o text = HasBadFile o text
 IsDue status.UnreadFile o text = HasUnreadFile o text
@@ -135,7 +146,7 @@ pub record BreaksOff (o : Outside) : Type 0 where
 
 -- ---- the statuses without a text
 
--- 0: a stop was read, and every act that it makes due is done
+-- 0 without `-y`: a stop was read, and every act that it makes due is done
 pub record HasStopped (o : Outside) : Type 0 where
   pub run : IsServed o Finished
   pub silent : IsSilent o
@@ -164,6 +175,7 @@ pub record HasLostSink (o : Outside) : Type 0 where
 
 abbrev pub Cause : Status → Outside → Type 0
 Cause status.Stopped o = HasStopped o
+Cause status.Checked o = Reports status.Checked o
 Cause status.BadWords o = Reports status.BadWords o
 Cause status.BadFile o = Reports status.BadFile o
 Cause status.UnreadFile o = Reports status.UnreadFile o
@@ -174,6 +186,7 @@ Cause status.LostSink o = HasLostSink o
 
 abbrev pub code_of_status : Status → ℕ
 code_of_status status.Stopped = 0
+code_of_status status.Checked = 0
 code_of_status status.BadWords = 1
 code_of_status status.BadFile = 2
 code_of_status status.UnreadFile = 3
@@ -213,13 +226,13 @@ Opening setting more = listens_in more < length setting.listens
 -- ---- completeness
 
 -- the status that the words ask for, and the file where the files tell it: 1 for bad words, 2 for a file that is off, 0 for
--- a configuration
+-- a configuration, whether it is to be served or checked
 abbrev pub Asks : List (List ℕ) → Option (List MemFile) → ℕ → Type 0
-Asks words None code = (code ≡ 1) × (file_word words ≡ None)
+Asks words None code = (code ≡ 1) × (asked_of words ≡ None)
 Asks words (Some files) code =
-    ((code ≡ 1) × (file_word words ≡ None))
+    ((code ≡ 1) × (asked_of words ≡ None))
     ⊎ ((code ≡ 2) × (text : List ℕ) × HasRefused words (Some files) text)
-    ⊎ ((code ≡ 0) × (conf : ConfSeen) × HasNamed words (Some files) conf)
+    ⊎ ((code ≡ 0) × (asked_task : Task) × (conf : ConfSeen) × HasNamed asked_task words (Some files) conf)
 
 -- ---- a text and its status
 

@@ -30,6 +30,9 @@ abbrev pub trouble_text : List ℕ → Trouble → List ℕ
 trouble_text file (trouble.Line line fault) = file ++ (codes ": line " ++ (decimal line ++ (codes ": " ++ (fault_name fault ++ codes "\n"))))
 trouble_text file (trouble.Missing word) = file ++ (codes ": missing " ++ (word_name word ++ codes "\n"))
 
+abbrev pub valid_text : List ℕ → List ℕ
+valid_text file = file ++ codes ": configuration is valid\n"
+
 abbrev pub too_large_text : List ℕ → List ℕ
 too_large_text file = file ++ codes ": too large\n"
 

@@ -29,14 +29,14 @@ pub(crate) const PACKET: &[u8] = b"N0CALL>APRS,WIDE1-1:>hi\r\n";
 
 pub(crate) const SENT_ON: &[u8] = b"N0CALL>APRS,TCPIP*,qAC,T2TEST:>hi\r\n";
 
-/// What goes wrong outside, and what sends take.
+/// The words, what goes wrong outside, and what sends take.
 #[derive(Drop)]
 pub(crate) struct Outside {
     pub takes: Vec<Take>,
     pub fail_listen: Option<u64>,
     pub fail_next: Option<u64>,
     pub fail_sink: Vec<u64>,
-    pub file: &'static str,
+    pub words: &'static [&'static str],
 }
 
 impl Outside {
@@ -46,7 +46,7 @@ impl Outside {
             fail_listen: None,
             fail_next: None,
             fail_sink: Vec::new(alloc),
-            file: "c",
+            words: &["-c", "c"],
         }
     }
 }
@@ -96,7 +96,7 @@ pub(crate) fn said(link: u32, bytes: &[u8]) -> Result<Event, Fail> {
     Ok(Event::Bytes(link, Chunk::new(bytes).ok_or("a chunk")?))
 }
 
-/// Runs `-c c` over a file `c` with these bytes, and these events.
+/// Runs the words over a file `c` with these bytes, and these events.
 pub(crate) fn run_over<R: Threads + Sync + Wait + RandomSource>(
     rt: &R,
     alloc: Global,
@@ -105,8 +105,9 @@ pub(crate) fn run_over<R: Threads + Sync + Wait + RandomSource>(
     outside: Outside,
 ) -> Result<Left, Fail> {
     let mut words = Vec::new(alloc);
-    words.push(String::from_str(alloc, "-c")?)?;
-    words.push(String::from_str(alloc, outside.file)?)?;
+    for word in outside.words {
+        words.push(String::from_str(alloc, word)?)?;
+    }
     let file = MemFile {
         name: Text::copied(alloc, b"c")?,
         bytes: Text::copied(alloc, conf)?,

@@ -11,12 +11,12 @@ ghost use Rattle.aprs_conf.specs.Grammar.{conf_of};
 ghost use Rattle.server_core.specs.Meaning.{listeners, setting_of};
 ghost use Rattle.aprsc_daemon.specs.Causes.{Asks, Cause, Ended, HasCause, HasNamed, KeepsPromise, Opening, OpensOnly, Said, code_of_status, status_of};
 ghost use Rattle.aprsc_daemon.specs.Phases.{Ends, Listening};
-ghost use Rattle.aprsc_daemon.specs.Words.{file_word};
+ghost use Rattle.aprsc_daemon.specs.Words.{ServerWordsSeen, asked_of};
 
 use crate::configuring::{Unfit, listeners, read_conf};
-use crate::saying::{listen_failed, too_large, trouble, unread, usage, write_all};
+use crate::saying::{listen_failed, too_large, trouble, unread, usage, valid, write_all};
 use crate::serving::{End, ListenError, listen_all, serve};
-use crate::words::file_word;
+use crate::words::{ServerWords, Task, WordsError, read_words};
 use aprs_base::{FileError, Files, Memory, Sink, SinkError, Wire};
 use aprs_conf::Conf;
 use server_core::Core;
@@ -33,6 +33,7 @@ const MOST_READ: usize = 65_536;
 #[derive(Clone, Copy, PartialEq, Eq, Debug)]
 pub(crate) enum Status {
     Stopped,
+    Checked,
     BadWords,
     BadFile,
     UnreadFile,
@@ -47,7 +48,7 @@ impl Status {
         ensures { result ≡ code_of_status self }
     {
         match self {
-            Status::Stopped => 0,
+            Status::Stopped | Status::Checked => 0,
             Status::BadWords => 1,
             Status::BadFile => 2,
             Status::UnreadFile => 3,
@@ -64,16 +65,19 @@ fn serve_conf<R: Threads + Sync + Wait, W: Wire>(
     rt: &R,
     alloc: Global,
     conf: Conf,
+    workers: u32,
     wire: &mut W,
     hasher: &RandomState,
 ) -> End
-    requires { IsSound conf }
+    requires sound { IsSound conf }
+    requires some { 1 ≤ workers }
+    requires most { workers ≤ 64 }
     ensures run { (start : Option Told) → AppendsRun (setting_of conf) start (W.shown wire.old).told (Listening (setting_of conf) (length (listeners conf)))
         → AppendsRun (setting_of conf) start (W.shown wire.new).told (Ends (setting_of conf) result) }
     ensures failed { result ≡ End.Failed → Rose (W.shown wire.old).stops (W.shown wire.new).stops }
     ensures stops { (W.shown wire.old).stops ≤ (W.shown wire.new).stops }
 {
-    match Core::new(alloc, hasher, conf, 1) {
+    match Core::new(alloc, hasher, conf, workers) {
         Ok(mut core) => serve(rt, alloc, &mut core, wire),
         Err(Memory) => End::Memory,
     }
@@ -84,10 +88,13 @@ fn open_and_serve<R: Threads + Sync + Wait, W: Wire>(
     rt: &R,
     alloc: Global,
     conf: Conf,
+    workers: u32,
     wire: &mut W,
     hasher: &RandomState,
 ) -> Result<End, ListenError>
-    requires { IsSound conf }
+    requires sound { IsSound conf }
+    requires some { 1 ≤ workers }
+    requires most { workers ≤ 64 }
     ensures run { IfOk result (λ end. AppendsRun (setting_of conf) (W.shown wire.old).told (W.shown wire.new).told (Ends (setting_of conf) end)) }
     ensures failed { IfOk result (λ end. end ≡ End.Failed → Rose (W.shown wire.old).stops (W.shown wire.new).stops) }
     ensures listen { IfErr result (λ e. (n : ℕ) → e ≡ ListenError.Failed n → Rose (W.shown wire.old).stops (W.shown wire.new).stops
@@ -99,7 +106,7 @@ fn open_and_serve<R: Threads + Sync + Wait, W: Wire>(
         return Err(ListenError::Memory);
     };
     listen_all(wire, listens.as_slice())?;
-    Ok(serve_conf(rt, alloc, conf, wire, hasher))
+    Ok(serve_conf(rt, alloc, conf, workers, wire, hasher))
 }
 
 fn ended(end: End) -> Status
@@ -138,12 +145,15 @@ fn run_conf<R: Threads + Sync + Wait, W: Wire, S: Sink>(
     rt: &R,
     alloc: Global,
     conf: Conf,
+    workers: u32,
     wire: &mut W,
     out: &mut S,
     hasher: &RandomState,
 ) -> Status
-    requires { IsSound conf }
-    ensures { (words : List (List ℕ)) (files files_after : FilesShown) → HasNamed words files.told conf
+    requires sound { IsSound conf }
+    requires some { 1 ≤ workers }
+    requires most { workers ≤ 64 }
+    ensures { (words : List (List ℕ)) (files files_after : FilesShown) → HasNamed Task.Serve words files.told conf
         → Cause result (record {
           words = words;
           files = files;
@@ -154,25 +164,28 @@ fn run_conf<R: Threads + Sync + Wait, W: Wire, S: Sink>(
           sink_after = S.shown out.new;
         }) }
 {
-    match open_and_serve(rt, alloc, conf, wire, hasher) {
+    match open_and_serve(rt, alloc, conf, workers, wire, hasher) {
         Ok(end) => ended(end),
         Err(ListenError::Failed(n)) => say_made(out, listen_failed(alloc, n), Status::NoListener),
         Err(ListenError::Memory) => Status::NoMemory,
     }
 }
 
-/// Runs the configuration that a text is.
+/// Runs or checks the configuration that a text is.
 fn run_text<R: Threads + Sync + Wait, W: Wire, S: Sink>(
     rt: &R,
     alloc: Global,
-    file: &str,
+    asked: &ServerWords<'_>,
     text: &[u8],
     wire: &mut W,
     out: &mut S,
     hasher: &RandomState,
 ) -> Status
     requires short { length text.now ≤ 65536 }
-    ensures { (words : List (List ℕ)) (files files_after : FilesShown) → file_word words ≡ Some file.now → Holds files.told file.now text.now
+    requires some { 1 ≤ asked.now.workers }
+    requires most { asked.now.workers ≤ 64 }
+    ensures checks { asked.now.task ≡ Task.Check → wire.new ≡ wire.old }
+    ensures cause { (words : List (List ℕ)) (files files_after : FilesShown) → asked_of words ≡ Some asked.now → Holds files.told asked.now.file text.now
         → Cause result (record {
           words = words;
           files = files;
@@ -184,23 +197,29 @@ fn run_text<R: Threads + Sync + Wait, W: Wire, S: Sink>(
         }) }
 {
     match read_conf(alloc, text) {
-        Ok(conf) => run_conf(rt, alloc, conf, wire, out, hasher),
-        Err(Unfit::Trouble(why)) => say_made(out, trouble(alloc, file, why), Status::BadFile),
+        Ok(conf) => match asked.task {
+            Task::Serve => run_conf(rt, alloc, conf, asked.workers, wire, out, hasher),
+            Task::Check => say_made(out, valid(alloc, asked.file), Status::Checked),
+        },
+        Err(Unfit::Trouble(why)) => say_made(out, trouble(alloc, asked.file, why), Status::BadFile),
         Err(Unfit::Memory) => Status::NoMemory,
     }
 }
 
-/// Runs the configuration that a file holds.
+/// Runs or checks the configuration that a file holds.
 fn run_file<R: Threads + Sync + Wait, F: Files, W: Wire, S: Sink>(
     rt: &R,
     alloc: Global,
-    file: &str,
+    asked: &ServerWords<'_>,
     files: &mut F,
     wire: &mut W,
     out: &mut S,
     hasher: &RandomState,
 ) -> Status
-    ensures { (words : List (List ℕ)) → file_word words ≡ Some file.now
+    requires some { 1 ≤ asked.now.workers }
+    requires most { asked.now.workers ≤ 64 }
+    ensures checks { asked.now.task ≡ Task.Check → wire.new ≡ wire.old }
+    ensures cause { (words : List (List ℕ)) → asked_of words ≡ Some asked.now
         → Cause result (record {
           words = words;
           files = F.shown files.old;
@@ -212,10 +231,10 @@ fn run_file<R: Threads + Sync + Wait, F: Files, W: Wire, S: Sink>(
         }) }
 {
     let mut text = Vec::new(alloc);
-    match files.read(file, MOST_READ, &mut text) {
-        Ok(()) => run_text(rt, alloc, file, text.as_slice(), wire, out, hasher),
-        Err(FileError::Big) => say_made(out, too_large(alloc, file), Status::BadFile),
-        Err(FileError::Failed) => say_made(out, unread(alloc, file), Status::UnreadFile),
+    match files.read(asked.file, MOST_READ, &mut text) {
+        Ok(()) => run_text(rt, alloc, asked, text.as_slice(), wire, out, hasher),
+        Err(FileError::Big) => say_made(out, too_large(alloc, asked.file), Status::BadFile),
+        Err(FileError::Failed) => say_made(out, unread(alloc, asked.file), Status::UnreadFile),
         Err(FileError::Memory) => Status::NoMemory,
     }
 }
@@ -229,7 +248,8 @@ fn run<R: Threads + Sync + Wait, F: Files, W: Wire, S: Sink>(
     out: &mut S,
     hasher: &RandomState,
 ) -> Status
-    ensures { Cause result (record {
+    ensures checks { (asked : ServerWordsSeen) → asked_of (map string_bytes words.now) ≡ Some asked → asked.task ≡ Task.Check → wire.new ≡ wire.old }
+    ensures cause { Cause result (record {
       words = map string_bytes words.now;
       files = F.shown files.old;
       files_after = F.shown files.new;
@@ -239,19 +259,22 @@ fn run<R: Threads + Sync + Wait, F: Files, W: Wire, S: Sink>(
       sink_after = S.shown out.new;
     }) }
 {
-    match file_word(words) {
-        Some(file) => run_file(rt, alloc, file, files, wire, out, hasher),
-        None => say(out, usage(), Status::BadWords),
+    match read_words(alloc, words) {
+        Ok(asked) => run_file(rt, alloc, &asked, files, wire, out, hasher),
+        Err(WordsError::Refused) => say(out, usage(), Status::BadWords),
+        Err(WordsError::Memory) => Status::NoMemory,
     }
 }
 
-/// Runs the server: the words are `-c FILE`, and the file holds the configuration. What happens on the wire is a run for
-/// this configuration, and the bytes that each link takes are a prefix of its defined text. `hasher` is the key of the tables
-/// in memory, on which no text depends.
+/// Runs the server: the words are `-c FILE` and perhaps `-w N`, and the file holds the configuration. N is the most workers,
+/// 1 to 64, and 1 where it isn't given. What happens on the wire is a run for this configuration, and the bytes that each link
+/// takes are a prefix of its defined text. With `-y` beside them the configuration is read and nothing else. `hasher` is the
+/// key of the tables in memory, on which no text depends.
 ///
-/// The status is 0 after a stop, 1 for bad words, 2 for a bad configuration, 3 where its file can't be read, 4 where a
-/// listener failed, 5 where the wire failed, 6 for want of memory, and 7 where the sink failed in the writing of a text for
-/// 1 to 4. A file of more than 65,536 bytes is a bad configuration.
+/// The status is 0 after a stop, or for a valid configuration with `-y`; 1 for words that `clap` refuses, or that call for
+/// another mode by `drill` or `net`; 2 for a bad configuration; 3 where its file can't be read; 4 where a listener failed; 5
+/// where the wire failed; 6 for want of memory; and 7 where the sink failed in the writing of a text for 0 to 4. A file of more
+/// than 65,536 bytes is a bad configuration.
 pub fn aprsc<R: Threads + Sync + Wait, F: Files, W: Wire, S: Sink>(
     rt: &R,
     alloc: Global,
@@ -261,14 +284,17 @@ pub fn aprsc<R: Threads + Sync + Wait, F: Files, W: Wire, S: Sink>(
     out: &mut S,
     hasher: &RandomState,
 ) -> u8
-    // Where the files tell what they hold, the happenings that the call appended are a run for the named configuration.
+    // Where the words ask for a run and the files tell what they hold, the happenings that the call appended are a run for
+    // the named configuration.
     ensures run { (conf : ConfSeen) (told : List MemFile) → (F.shown files.old).told ≡ Some told
-        → HasNamed (map string_bytes words.now) (F.shown files.old).told conf
+        → HasNamed Task.Serve (map string_bytes words.now) (F.shown files.old).told conf
         → AppendsRun (setting_of conf) (W.shown wire.old).told (W.shown wire.new).told (Ended result (setting_of conf)) }
     // So the bytes that each link took are a prefix of its text, and a link was closed only for a reason.
     ensures headline { (conf : ConfSeen) (told : List MemFile) → (F.shown files.old).told ≡ Some told
-        → HasNamed (map string_bytes words.now) (F.shown files.old).told conf
+        → HasNamed Task.Serve (map string_bytes words.now) (F.shown files.old).told conf
         → AppendsRun (setting_of conf) (W.shown wire.old).told (W.shown wire.new).told (KeepsPromise (setting_of conf)) }
+    // Where the words ask for a check, the wire stays as it was.
+    ensures checks { (asked : ServerWordsSeen) → asked_of (map string_bytes words.now) ≡ Some asked → asked.task ≡ Task.Check → wire.new ≡ wire.old }
     // Each status has its cause, and its text stands on the sink.
     ensures cause { HasCause result (record {
       words = map string_bytes words.now;
@@ -285,9 +311,9 @@ pub fn aprsc<R: Threads + Sync + Wait, F: Files, W: Wire, S: Sink>(
         → ¬ Rose (W.shown wire.old).stops (W.shown wire.new).stops
         → ¬ Rose (S.shown out.old).faults (S.shown out.new).faults
         → (result ≡ code) ⊎ (result ≡ 6) }
-    // Once the file was read, the sink is lost only before every listener is open.
+    // Once the file of a run was read, the sink is lost only before every listener is open.
     ensures early { (conf : ConfSeen) (told : List MemFile) → (F.shown files.old).told ≡ Some told
-        → HasNamed (map string_bytes words.now) (F.shown files.old).told conf
+        → HasNamed Task.Serve (map string_bytes words.now) (F.shown files.old).told conf
         → ¬ Rose (F.shown files.old).faults (F.shown files.new).faults
         → result ≡ 7
         → AppendsRun (setting_of conf) (W.shown wire.old).told (W.shown wire.new).told (Opening (setting_of conf)) }

@@ -249,9 +249,9 @@ fn closes_no_link_that_is_gone(rt: HostRuntime) -> Result<(), Fail> {
 fn names_what_failed(rt: HostRuntime) -> Result<(), Fail> {
     let alloc = rt.alloc();
     let mut no_file = Outside::well(alloc);
-    no_file.file = "d";
+    no_file.words = &["-c", "d"];
     let mut no_words = Outside::well(alloc);
-    no_words.file = "-y";
+    no_words.words = &["-c", "-y"];
     let mut no_listener = Outside::well(alloc);
     no_listener.fail_listen = Some(0);
     let mut no_event = Outside::well(alloc);
@@ -273,6 +273,31 @@ fn names_what_failed(rt: HostRuntime) -> Result<(), Fail> {
         let left = run_over(&rt, alloc, conf, only_stop(alloc)?, outside)?;
         assert!(rt; left.status == status);
         assert!(rt; left.text.as_slice() == text);
+    }
+    Ok(())
+}
+
+#[test]
+fn checks_a_configuration_and_nothing_else(rt: HostRuntime) -> Result<(), Fail> {
+    let alloc = rt.alloc();
+    let bad_kind = joined(alloc, &[CONF, b"Listen \"x\" fullfed tcp 0.0.0.0 1\n"])?;
+    let mut no_sink = Outside::well(alloc);
+    no_sink.fail_sink.push(0)?;
+    let mut no_listener = Outside::well(alloc);
+    no_listener.fail_listen = Some(0);
+    let cases: [(Outside, &[u8], u8, &[u8]); 5] = [
+        (Outside::well(alloc), CONF, 0, b"c: configuration is valid\n"),
+        (Outside::well(alloc), bad_kind.as_slice(), 2, b"c: line 4: bad-kind\n"),
+        (Outside::well(alloc), b"", 2, b"c: missing ServerId\n"),
+        (no_listener, CONF, 0, b"c: configuration is valid\n"),
+        (no_sink, CONF, 7, b""),
+    ];
+    for (mut outside, conf, status, text) in cases {
+        outside.words = &["-c", "c", "-w", "8", "-y"];
+        let left = run_over(&rt, alloc, conf, only_stop(alloc)?, outside)?;
+        assert!(rt; left.status == status);
+        assert!(rt; left.text.as_slice() == text);
+        assert!(rt; left.done.is_empty());
     }
     Ok(())
 }

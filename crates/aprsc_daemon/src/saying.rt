@@ -1,7 +1,7 @@
 //! What the program writes on its standard output.
 ghost use Rattle.std.specs.Prelude.{◌≡◌, IfOk};
 ghost use Rattle.aprsc_daemon.specs.Configuring.{fault_name, word_name};
-ghost use Rattle.aprsc_daemon.specs.Saying.{AfterSaying, listen_failed_text, trouble_text, too_large_text, unread_text, usage_text};
+ghost use Rattle.aprsc_daemon.specs.Saying.{AfterSaying, listen_failed_text, trouble_text, too_large_text, unread_text, usage_text, valid_text};
 
 use crate::configuring::Trouble;
 use aprs_base::{Memory, Sink, SinkError};
@@ -81,6 +81,13 @@ pub(crate) fn trouble(alloc: Global, file: &str, trouble: Trouble) -> Result<Vec
         Trouble::Line(line, fault) => bad_line(alloc, file, line, fault),
         Trouble::Missing(word) => missing_word(alloc, file, word),
     }
+}
+
+/// The line that says that the configuration is valid.
+pub(crate) fn valid(alloc: Global, file: &str) -> Result<Vec<u8>, Memory>
+    ensures { IfOk result (λ t. t.items ≡ valid_text file.now) }
+{
+    Ok(format!(in alloc; "{file}: configuration is valid\n")?.into_bytes())
 }
 
 /// The line that says that the configuration is too large.

@@ -1,6 +1,6 @@
 //! What the program writes, over sinks that take little or fail, and over the files and the output of the system.
 use crate::configuring::Trouble;
-use crate::saying::{listen_failed, too_large, trouble, unread, usage, write_all};
+use crate::saying::{listen_failed, too_large, trouble, unread, usage, valid, write_all};
 use crate::{RealFiles, RealSink};
 use aprs_base::{FileError, Files, MemSink, Sink, SinkError};
 use aprs_conf::{ConfFault, ConfWord};
@@ -50,6 +50,8 @@ fn makes_the_texts(rt: HostRuntime) {
         let line = trouble(rt.alloc(), "c", why).expect(&rt, "memory");
         assert!(rt; line.as_slice() == text);
     }
+    let valid = valid(rt.alloc(), "a.conf").expect(&rt, "memory");
+    assert!(rt; valid.as_slice() == b"a.conf: configuration is valid\n".as_slice());
     let large = too_large(rt.alloc(), "a.conf").expect(&rt, "memory");
     assert!(rt; large.as_slice() == b"a.conf: too large\n".as_slice());
     let unread = unread(rt.alloc(), "a.conf").expect(&rt, "memory");

@@ -1,24 +1,66 @@
 //! The words that the program takes, written out.
-use crate::words::file_word;
+use crate::words::{Task, WordsError, read_words};
+use std::alloc::Global;
 use std::test::Fail;
 
+fn words_of(alloc: Global, texts: &[&str]) -> Result<Vec<String>, Fail> {
+    let mut words = Vec::new(alloc);
+    for text in texts {
+        words.push(String::from_str(alloc, text)?)?;
+    }
+    Ok(words)
+}
+
 #[test]
-fn takes_the_words_of_one_file(rt: HostRuntime) -> Result<(), Fail> {
-    let cases: [(&[&str], Option<&str>); 7] = [
-        (&["-c", "aprsc.conf"], Some("aprsc.conf")),
-        (&["-c", "a -b"], Some("a -b")),
-        (&["-c"], None),
-        (&["-c", ""], None),
-        (&["-c", "-x"], None),
-        (&["-c", "a", "-y"], None),
-        (&["-C", "a"], None),
+fn takes_the_words_of_a_run_and_of_a_check(rt: HostRuntime) -> Result<(), Fail> {
+    let cases: [(&[&str], &str, u32, Task); 9] = [
+        (&["-c", "aprsc.conf"], "aprsc.conf", 1, Task::Serve),
+        (&["-c", "a -b"], "a -b", 1, Task::Serve),
+        (&["-cFILE"], "FILE", 1, Task::Serve),
+        (&["-c=FILE"], "FILE", 1, Task::Serve),
+        (&["-c", "f", "-w", "64"], "f", 64, Task::Serve),
+        (&["-w", "64", "-c", "f", "-y"], "f", 64, Task::Check),
+        (&["-y", "-w", "8", "-c", "f"], "f", 8, Task::Check),
+        (&["-yw1", "-cf"], "f", 1, Task::Check),
+        (&["-c", "f", "-y", "--"], "f", 1, Task::Check),
     ];
-    for (texts, want) in cases {
-        let mut words = Vec::new(rt.alloc());
-        for text in texts {
-            words.push(String::from_str(rt.alloc(), text)?)?;
-        }
-        assert!(rt; file_word(words.as_slice()) == want);
+    for (texts, file, workers, task) in cases {
+        let words = words_of(rt.alloc(), texts)?;
+        let asked = read_words(rt.alloc(), words.as_slice()).ok().ok_or("good words")?;
+        assert!(rt; asked.file == file);
+        assert!(rt; asked.workers == workers);
+        assert!(rt; asked.task == task);
+    }
+    Ok(())
+}
+
+#[test]
+fn refuses_other_words(rt: HostRuntime) -> Result<(), Fail> {
+    let cases: [&[&str]; 16] = [
+        &[],
+        &["-c"],
+        &["-y"],
+        &["-c", "-y"],
+        &["c"],
+        &["-c", "c", "d"],
+        &["-c", "c", "-w", "65"],
+        &["-c", "c", "-w", "0"],
+        &["-c", "c", "-w", "x"],
+        &["-c", "a", "-c", "b"],
+        &["-y", "-c", "c", "-y"],
+        &["-C", "c"],
+        &["--help"],
+        &["drill", "1", "1", "1"],
+        &["drill", "x", "1", "2"],
+        &["net", "script"],
+    ];
+    for texts in cases {
+        let words = words_of(rt.alloc(), texts)?;
+        let refused = matches!(
+            read_words(rt.alloc(), words.as_slice()),
+            Err(WordsError::Refused)
+        );
+        assert!(rt; refused);
     }
     Ok(())
 }

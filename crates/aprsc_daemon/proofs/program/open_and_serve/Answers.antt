@@ -9,7 +9,7 @@ use Rattle.aprsc_daemon.proofs.ServeLemmas.{few_listeners}
 use Rattle.aprsc_daemon.proofs.program.open_and_serve.Goals as goal
 
 pub listen_all-requires : goal.listen_all-requires
-listen_all-requires g c = subst (λ specs. length specs ≤ 17) (sym (c.as_slice.ensures.value ∙ c.in-Ok.ensures)) (few_listeners c.args.conf c.requires)
+listen_all-requires g c = subst (λ specs. length specs ≤ 17) (sym (c.as_slice.ensures.value ∙ c.in-Ok.ensures)) (few_listeners c.args.conf c.requires.sound)
 
 pub returns-in_err-listen_all-clause-listen : goal.returns-in_err-listen_all-clause-listen
 returns-in_err-listen_all-clause-listen g c =

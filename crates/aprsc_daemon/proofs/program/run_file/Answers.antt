@@ -3,15 +3,15 @@ use Rattle.aprsc_daemon.specs.Saying.{too_large_text, unread_text}
 use Rattle.aprsc_daemon.proofs.CauseLemmas.{memory_cause, off_cause, unread_cause}
 use Rattle.aprsc_daemon.proofs.program.run_file.Goals as goal
 
-pub returns-in-Err-Big : goal.returns-in-Err-Big
-returns-in-Err-Big g c = λ words named.
+pub returns-in-Err-Big-clause-cause : goal.returns-in-Err-Big-clause-cause
+returns-in-Err-Big-clause-cause g c = λ words named.
     let big = c.in-Err-Big.ensures.big (ap Err c.in-Err-Big.field-0-is) in
-    let text = too_large_text c.args.file.now in
-    off_cause _ c.args.file.now big.0 text c.say_made.result named big.1 (inl (big.2, refl)) refl (c.say_made.ensures text c.too_large.ensures)
+    let text = too_large_text c.args.asked.now.file in
+    off_cause _ c.args.asked.now big.0 text c.say_made.result named big.1 (inl (big.2, refl)) refl (c.say_made.ensures text c.too_large.ensures)
 
-pub returns-in-Err-Failed : goal.returns-in-Err-Failed
-returns-in-Err-Failed g c = λ words named.
-    unread_cause _ c.args.file.now c.say_made-in-Err-Failed.result named (c.in-Err-Failed.ensures.failed (ap Err c.in-Err-Failed.field-0-is)) refl (c.say_made-in-Err-Failed.ensures (unread_text c.args.file.now) c.unread.ensures)
+pub returns-in-Err-Failed-clause-cause : goal.returns-in-Err-Failed-clause-cause
+returns-in-Err-Failed-clause-cause g c = λ words named.
+    unread_cause _ c.args.asked.now c.say_made-in-Err-Failed.result named (c.in-Err-Failed.ensures.failed (ap Err c.in-Err-Failed.field-0-is)) refl (c.say_made-in-Err-Failed.ensures (unread_text c.args.asked.now.file) c.unread.ensures)
 
-pub returns : goal.returns
-returns g c = λ words named. memory_cause _ refl (inl refl)
+pub returns-clause-cause : goal.returns-clause-cause
+returns-clause-cause g c = λ words named. memory_cause _ refl (inl refl)

@@ -6,7 +6,7 @@ use Rattle.aprsc_daemon.proofs.ServeLemmas.{listening_rests, numbered_short}
 use Rattle.aprsc_daemon.proofs.program.serve_conf.Goals as goal
 
 pub new-requires-clause-listens : goal.new-requires-clause-listens
-new-requires-clause-listens g c = let few = c.requires.listens.1 in let short = numbered_short c.args.conf.listens in omega arith
+new-requires-clause-listens g c = let few = c.requires.sound.listens.1 in let short = numbered_short c.args.conf.listens in omega arith
 
 pub returns-in-Ok-clause-run : goal.returns-in-Ok-clause-run
 returns-in-Ok-clause-run g c = λ start run.
