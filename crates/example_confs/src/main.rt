@@ -1,5 +1,5 @@
-//! Reads each configuration of the folder that it runs in, and says what it holds. The examples of the repository stand in
-//! data/ of this crate, so that the gate runs it on them.
+//! Reads each configuration of the folder that it runs in, and says what it holds. The gate runs it on data/, which has
+//! copies of the repository's examples/, made by tools/copy_examples.
 #![tactic(auto)]
 
 use aprs_conf::{Conf, read};
