@@ -14,7 +14,7 @@ Listen \"dup\" dupefeed tcp 0.0.0.0 20152
 Listen \"only\" clientonly tcp 0.0.0.0 14579
 ";
 
-/// The text of examples/aprsc.conf.
+/// A line of nearly every kind.
 const EXAMPLE: &str =
     "# The configuration of a server of APRS-IS. A line that begins with a # is a remark; so are empty lines.
 # Words are parted by blanks or tabs, and a word with blanks stands between quotes.
