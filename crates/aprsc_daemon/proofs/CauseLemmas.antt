@@ -11,6 +11,7 @@ use Rattle.aprs_history.specs.History.{History, trace_of}
 use Rattle.aprs_history.specs.Acts.{IsRun}
 use Rattle.aprs_history.specs.Headline.{HasFreshLinks}
 use Rattle.aprs_history.specs.Runs.{AppendsRun, are_listens}
+use Rattle.aprs_history.proofs.EndLemmas.{links_end_by_rules}
 use Rattle.aprs_history.proofs.HeadlineLemmas.{closes_have_reasons, links_take_prefixes, none_hear_themselves}
 use Rattle.server_core.specs.Meaning.{setting_of}
 use Rattle.aprs_conf.specs.Seen.{ConfSeen}
@@ -254,6 +255,7 @@ keeps_promise s (Some told) now code run = (
   record {
     takes = links_take_prefixes s run.0 run.2 run.3.fresh;
     others = none_hear_themselves s (trace_of s run.0);
+    ends = links_end_by_rules s run.0;
     closes = λ later earlier link is. closes_have_reasons s later earlier link (subst (IsRun s) is run.2);
   },
 )

@@ -8,7 +8,10 @@ use Rattle.aprs_base.specs.declared.files.MemFile.{MemFile}
 use Rattle.aprs_history.specs.Setting.{Setting}
 use Rattle.aprs_history.specs.Texts.{text_to}
 use Rattle.aprs_history.specs.History.{History, trace_of}
-use Rattle.aprs_history.specs.Headline.{HasEnded, HasFreshLinks, IsOfAnother, TakesPrefix}
+use Rattle.aprs_history.specs.declared.verdicts.EndReason.{EndReason}
+use Rattle.aprs_history.specs.Trace.{Trace}
+use Rattle.aprs_history.specs.Trace as trace
+use Rattle.aprs_history.specs.Headline.{EndsBy, HasEnded, HasFreshLinks, IsOfAnother, TakesPrefix}
 use Rattle.aprs_history.specs.Runs.{AppendsRun, are_listens, listens_in}
 use Rattle.aprs_conf.specs.Seen.{ConfSeen}
 use Rattle.aprs_conf.specs.Grammar.{conf_of}
@@ -213,10 +216,11 @@ pub record Ended (code : ℕ) (setting : Setting) (more : History) : Type 0 wher
   pub lost : code ≡ 5 → Idle setting more
 
 -- what a run keeps: the bytes that each link took are a prefix of its text, no line of a text is a packet that the link sent
--- itself, and a link was closed only where it had ended by a reason that closes
+-- itself, a link ended only by the rule of its reason, and it was closed only where it had ended by a reason that closes
 pub record KeepsPromise (setting : Setting) (more : History) : Type 0 where
   pub takes : (link : ℕ) → TakesPrefix setting more link
   pub others : (link : ℕ) → All (IsOfAnother link) (text_to setting (trace_of setting more) link).lines
+  pub ends : (later earlier : Trace) (link : ℕ) (reason : EndReason) → trace_of setting more ≡ later ++ trace.Ended link reason ∷ earlier → EndsBy setting more earlier link reason
   pub closes : (later earlier : History) (link : ℕ) → more ≡ later ++ did.Closed link ∷ earlier → HasEnded (trace_of setting earlier) link
 
 -- before every listener is open
