@@ -35,7 +35,7 @@ use Rattle.aprs_conf.specs.Seen.{ConfSeen}
 use Rattle.server_core.specs.Meaning.{CoreMeaning, setting_of, timeouts_of}
 use Rattle.server_core.specs.Kept.{IsKept}
 use Rattle.server_core.specs.Steps.{SameRest, Walks, carried_at, scene_at, with_verdict}
-use Rattle.server_core.proofs.LinkLemmas.{changed_none, rises_to, rises_push}
+use Rattle.server_core.proofs.LinkLemmas.{changed_none, rises_at, rises_filter, rises_to, rises_push}
 use Rattle.server_core.proofs.FollowLemmas.{picked_missing, picked_seen}
 use Rattle.server_core.proofs.HeardLemmas.{remembers_no_end}
 use Rattle.server_core.proofs.WalkLemmas.{with_ends, with_links, with_reach, filter_seen, follows_began, follows_dated, follows_gone, follows_late, follows_looked, follows_turned_away, follows_unasked, follows_unjoined, follows_refused_links, going_after, late_goes, refused_goes, follows_said, follows_roomed, follows_ticked, follows_brought, follows_opened, follows_unserved, follows_ended, follows_stopped}
@@ -351,6 +351,26 @@ kept_pushed core k link links kept above small is new =
       station = kept.station;
       group = kept.group;
     }
+
+-- some links leave
+pub kept_left : (core : CoreMeaning) (keep : LinkSeen → Bool) (links : List LinkSeen) (heard : HeardSeen) (reach : ReachSeen) (turned closing : List ℕ) → links ≡ filter keep core.seen.links → IsKept core
+    → IsKept (record core { seen = record core.seen { links = links; heard = heard; reach = reach; turned = turned; closing = closing } })
+kept_left core keep links heard reach turned closing left kept = record {
+  rising = subst (λ ls. Rises 0 (numbers ls) core.seen.greatest) (sym left) (rises_filter keep 0 core.seen.greatest core.seen.links kept.rising);
+  small = kept.small;
+  station = kept.station;
+  group = kept.group;
+}
+
+-- one link changes
+pub kept_at : (core : CoreMeaning) (number : ℕ) (step : LinkSeen → LinkSeen) (links : List LinkSeen) → ((link : LinkSeen) → (step link).link ≡ link.link) → links ≡ map (at_link number step) core.seen.links → IsKept core
+    → IsKept (record core { seen = record core.seen { links = links } })
+kept_at core number step links same changed kept = record {
+  rising = rises_at number step same core.seen.greatest core.seen.links links changed kept.rising;
+  small = kept.small;
+  station = kept.station;
+  group = kept.group;
+}
 
 -- ---- links end
 

@@ -34,6 +34,8 @@ use Rattle.aprs_history.specs.declared.verdicts.Admission.TheVariants.{Served}
 use Rattle.aprs_history.specs.Trace.{is_from, is_member, last_moment, moment_of, Trace, Door, RoundBegan, Dated, Looked, Ticked, Opened, Brought, Said, Roomed, Took, Lost, Unjoined, is_live}
 use Rattle.aprs_history.specs.Links.{Opening, brought_by, filter_after, filter_by, filter_of, is_client_link, is_client_of, is_submitted, taken_by, session_of, opening_of}
 use Rattle.link_queue.specs.Lines.{Queued, queued, text_bytes, ended_line}
+use Rattle.link_queue.specs.Queues.{QueueSeen}
+use Rattle.link_queue.specs.Queues.{with_line as pushed}
 use Rattle.aprs_history.specs.Texts.{Text, TextLine, comment_line, first_line, is_shown, most_waiting, lines_of, opening_wants, plain, plain_line, refused_lines, relayed, reply_of, shown, shows_duplicates, text_to, waiting_lines, with_text_line, with_text_lines, wants, filter_reply, login_filter_reply, login_reply, refusal_reply, reply_lines}
 use Rattle.aprs_history.specs.Stands.{LinkSeen, link_seen, TookNoMore}
 use Rattle.server_core.specs.Pending.{with_line, pending_bytes}
@@ -173,6 +175,10 @@ text_number line link =
     (cases_Bool link.over)
 
 -- what a line more is where the link is overfull, where it becomes so, and where the line fits
+-- a queue without its limit
+abbrev pub plain_queue : QueueSeen → Queued
+plain_queue queue = record { lines = queue.lines; offset = queue.offset }
+
 pub text_after : (line : List ℕ) (link : LinkSeen) → link.over ≡ true → link ≡ with_text line link
 unfolding with_text
 text_after line link over = rw over refl
@@ -188,6 +194,23 @@ unfolding with_text
 text_fits line link open' room =
     let has_room : (length link.queue.lines == most_waiting) ≡ false = false_from_ne_true _ (λ full. room (eqb-true (length link.queue.lines) most_waiting full)) in
     rw (open', has_room) refl
+
+-- a link takes a line into its queue, where it fits, and else is overfull
+pub pushed_fits : (line : List ℕ) (link now : LinkSeen) (before after : QueueSeen) → link ≡ now → plain_queue before ≡ link.queue → after ≡ pushed line before → link.over ≡ false
+    → (length before.lines ≡ most_waiting → ⊥) → record link { queue = plain_queue after } ≡ with_text line now
+pushed_fits line link now before after is queue pushed open' room =
+    ap (λ (q : QueueSeen). record link { queue = plain_queue q }) pushed
+    ∙ ap (λ (q : Queued). record link { queue = with_line q line }) queue
+    ∙ text_fits line link open' (λ full. room (ap (λ (q : Queued). length q.lines) queue ∙ full))
+    ∙ ap (with_text line) is
+
+pub pushed_over : (line : List ℕ) (link now : LinkSeen) (before after : QueueSeen) → link ≡ now → plain_queue before ≡ link.queue → after ≡ before → link.over ≡ false
+    → length before.lines ≡ most_waiting → record link { queue = plain_queue after; over = true } ≡ with_text line now
+pushed_over line link now before after is queue same open' full =
+    ap (λ (q : QueueSeen). record link { queue = plain_queue q; over = true }) same
+    ∙ ap (λ (q : Queued). record link { queue = q; over = true }) queue
+    ∙ text_over line link open' (sym (ap (λ (q : Queued). length q.lines) queue) ∙ full)
+    ∙ ap (with_text line) is
 
 -- another filter and a line more, in either order
 filter_then_text : (terms : List TermSeen) (friends : List (Option Seen)) (line : List ℕ) (link : LinkSeen)

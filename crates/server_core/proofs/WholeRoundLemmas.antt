@@ -64,6 +64,12 @@ pub record WholeRound (old mid walked new : CoreMeaning) (events : List Event) :
   pub finished : (t : Trace) → Walks walked t → Follows (setting_of walked.conf) new.seen (end_round (setting_of walked.conf) walked.seen.stopped t)
   pub kept : SameRest walked new
 
+pub whole_round : (old mid walked new : CoreMeaning) (events : List Event) → is_whole 0 events ≡ true → old.seen.stopped ≡ false → ((t : Trace) → Walks old t → Walks mid (begin_round t)) → SameRest old mid
+    → Walking mid events walked [] → ((t : Trace) → Walks mid t → Traced mid t events walked [] (events_trace (setting_of mid.conf) events t))
+    → ((t : Trace) → Walks walked t → Follows (setting_of walked.conf) new.seen (end_round (setting_of walked.conf) walked.seen.stopped t)) → SameRest walked new → WholeRound old mid walked new events
+whole_round old mid walked new events whole going begun rest walking traced finished kept =
+    record { whole = whole; going = going; begun = begun; rest = rest; walking = walking; traced = traced; finished = finished; kept = kept }
+
 module _ (old mid walked new : CoreMeaning) (events : List Event) (round : WholeRound old mid walked new events) (h : History) (stands : Stands old h) where
   walked_conf : walked.conf ≡ old.conf
   walked_conf = round.walking.conf ∙ round.rest.conf

@@ -1,18 +1,12 @@
 use Rattle.std.proofs.Common.{◌≡◌, [], None, ap, filter, subst, sym, ◌∙◌}
 use Rattle.aprs_history.specs.Stands.{ReachSeen}
-use Rattle.server_core.specs.LinkSteps.{ended_all, Rises, forgotten_all, is_lost, numbers, is_there}
+use Rattle.server_core.specs.LinkSteps.{ended_all, forgotten_all, is_lost, numbers, is_there}
 use Rattle.server_core.specs.Steps.{Walks}
-use Rattle.server_core.proofs.LinkLemmas.{rises_filter}
-use Rattle.server_core.proofs.CoreLemmas.{walks_begun}
+use Rattle.server_core.proofs.CoreLemmas.{kept_left, walks_begun}
 use Rattle.server_core.proofs.server.Core.begin.Goals as goal
 
 pub invariant_of-self : goal.invariant_of-self
-invariant_of-self c = record {
-  rising = subst (λ links. Rises 0 (numbers links) c.self.inside.greatest) (sym c.drop_gone.ensures) (rises_filter is_there 0 c.self.inside.greatest c.self.inside.links.items c.self.invariant.rising);
-  small = c.self.invariant.small;
-  station = c.self.invariant.station;
-  group = c.self.invariant.group;
-}
+invariant_of-self c = kept_left _ is_there c.drop_gone.new.links.items c.forget_lost.new.heard c.end_lost.new.self c.clear.new.self.items c.clear-2.new.self.items c.drop_gone.ensures c.self.invariant
 
 pub returns-clause-walks : goal.returns-clause-walks
 returns-clause-walks c = λ t walks.

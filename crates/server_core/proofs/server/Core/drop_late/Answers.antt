@@ -2,21 +2,16 @@ use Rattle.std.proofs.Common.{subst, sym, ap, ◌∙◌, filter}
 use Rattle.std.proofs.lemmas.Result.{on_ok_weaker}
 use Rattle.server_core.specs.declared.link.Timeouts.{Timeouts}
 use Rattle.server_core.specs.Meaning.{timeouts_of}
-use Rattle.server_core.specs.LinkSteps.{Rises, is_in_time, is_late_link, numbers}
+use Rattle.server_core.specs.LinkSteps.{is_in_time, is_late_link, numbers}
 use Rattle.server_core.specs.Meaning.{CoreMeaning}
 use Rattle.server_core.specs.Steps.{Walks}
-use Rattle.server_core.proofs.LinkLemmas.{rises_filter}
-use Rattle.server_core.proofs.CoreLemmas.{walks_late}
+use Rattle.server_core.proofs.CoreLemmas.{kept_left, walks_late}
 use Rattle.server_core.proofs.server.Core.drop_late.Goals as goal
 
 pub invariant_of-self : goal.invariant_of-self
-invariant_of-self c = record {
-  rising = subst (λ links. Rises 0 (numbers links) c.self.inside.greatest) (sym (c.drop_late.ensures ∙ ap (λ (given : Timeouts). filter (is_in_time given c.self.inside.moment) c.self.inside.links.items) c.timeouts-timeouts.ensures))
-      (rises_filter (is_in_time (timeouts_of c.self.inside.conf) c.self.inside.moment) 0 c.self.inside.greatest c.self.inside.links.items c.self.invariant.rising);
-  small = c.self.invariant.small;
-  station = c.self.invariant.station;
-  group = c.self.invariant.group;
-}
+invariant_of-self c =
+    kept_left _ (is_in_time (timeouts_of c.self.inside.conf) c.self.inside.moment) c.drop_late.new.links.items c.forget_all.new.heard c.end_all.new.self c.self.inside.turned.items c.place_all.new.numbers.items 
+    (c.drop_late.ensures ∙ ap (λ (given : Timeouts). filter (is_in_time given c.self.inside.moment) c.self.inside.links.items) c.timeouts-timeouts.ensures) c.self.invariant
 
 pub returns-clause-walks : goal.returns-clause-walks
 returns-clause-walks c = λ t walks ends.

@@ -1,21 +1,14 @@
 use Rattle.std.proofs.Common.{subst, sym, ap, ◌∙◌, filter}
 use Rattle.std.proofs.lemmas.Result.{on_ok_weaker}
 use Rattle.aprs_history.specs.Trace.{placed_all}
-use Rattle.server_core.specs.LinkSteps.{Rises, is_none_of, is_overfull, numbers}
+use Rattle.server_core.specs.LinkSteps.{is_none_of, is_overfull, numbers}
 use Rattle.server_core.specs.Meaning.{CoreMeaning}
 use Rattle.server_core.specs.Steps.{Walks}
-use Rattle.server_core.proofs.LinkLemmas.{rises_filter}
-use Rattle.server_core.proofs.CoreLemmas.{walks_refused}
+use Rattle.server_core.proofs.CoreLemmas.{kept_left, walks_refused}
 use Rattle.server_core.proofs.server.Core.drop_refused.Goals as goal
 
 pub invariant_of-self : goal.invariant_of-self
-invariant_of-self c = record {
-  rising = subst (λ links. Rises 0 (numbers links) c.self.inside.greatest) (sym c.drop_these.ensures)
-      (rises_filter (is_none_of c.args.ends.now) 0 c.self.inside.greatest c.self.inside.links.items c.self.invariant.rising);
-  small = c.self.invariant.small;
-  station = c.self.invariant.station;
-  group = c.self.invariant.group;
-}
+invariant_of-self c = kept_left _ (is_none_of c.args.ends.now) c.drop_these.new.links.items c.forget_all.new.heard c.end_all.new.self c.self.inside.turned.items c.place_all.new.numbers.items c.drop_these.ensures c.self.invariant
 
 pub returns-clause-walks : goal.returns-clause-walks
 returns-clause-walks c = λ t walks ends.

@@ -5,20 +5,13 @@ use Rattle.std.proofs.Common.{◌≡◌, ◌∙◌, ℕ, List, ap, if◌then◌e
 use Rattle.aprs_history.specs.Stands.{LinkSeen, ReachSeen}
 use Rattle.uplinks_peers.specs.declared.uplinks.UpEvent.TheVariants as up
 use Rattle.uplinks_peers.specs.Uplinks.{uplinks_after}
-use Rattle.server_core.specs.LinkSteps.{has_number}
-use Rattle.server_core.specs.LinkSteps.{Rises, numbers, is_another}
+use Rattle.server_core.specs.LinkSteps.{has_number, is_another}
 use Rattle.server_core.specs.Steps.{Walks}
-use Rattle.server_core.proofs.LinkLemmas.{rises_filter}
-use Rattle.server_core.proofs.CoreLemmas.{walks_ended, walks_no_end}
+use Rattle.server_core.proofs.CoreLemmas.{kept_left, walks_ended, walks_no_end}
 use Rattle.server_core.proofs.server.Core.end.Goals as goal
 
 pub invariant_of-self : goal.invariant_of-self
-invariant_of-self c = record {
-  rising = subst (λ links. Rises 0 (numbers links) c.self.inside.greatest) (sym c.drop_link.ensures) (rises_filter (is_another c.args.number) 0 c.self.inside.greatest c.self.inside.links.items c.self.invariant.rising);
-  small = c.self.invariant.small;
-  station = c.self.invariant.station;
-  group = c.self.invariant.group;
-}
+invariant_of-self c = kept_left _ (is_another c.args.number) c.drop_link.new.links.items c.forget.new.self c.end_at.new.self c.self.inside.turned.items c.self.inside.closing.items c.drop_link.ensures c.self.invariant
 
 reach_ended : (number : ℕ) (links old : List LinkSeen) (now : ℕ) (reach new : ReachSeen) → links ≡ old
     → new ≡ (if has_number number links then record reach { uplinks = uplinks_after (up.Ended number) now reach.uplinks } else reach)

@@ -1,7 +1,8 @@
 use Rattle.std.proofs.Common.{◌^◌, subst, sym, ap, ◌∙◌, arith, refl}
 use Rattle.server_core.specs.LinkSteps.{numbers, at_link, when_gone}
 use Rattle.server_core.specs.Meaning.{CoreMeaning, Stands}
-use Rattle.server_core.proofs.LinkLemmas.{rises_to, rises_at, numbers_kept, at_keeps}
+use Rattle.server_core.proofs.LinkLemmas.{rises_to, numbers_kept, at_keeps}
+use Rattle.server_core.proofs.CoreLemmas.{kept_at}
 use Rattle.server_core.proofs.SendLemmas.{stands_gone}
 use Rattle.server_core.proofs.server.Core.gone.Goals as goal
 
@@ -9,12 +10,7 @@ pub lose-requires : goal.lose-requires
 lose-requires c = rises_to 0 c.self.inside.greatest (2 ^ 32) _ c.self.invariant.rising (let small = c.self.invariant.small in omega arith)
 
 pub invariant_of-self : goal.invariant_of-self
-invariant_of-self c = record {
-  rising = rises_at c.args.link when_gone (λ link. refl) c.self.inside.greatest c.self.inside.links.items c.lose.new.links.items c.lose.ensures c.self.invariant.rising;
-  small = c.self.invariant.small;
-  station = c.self.invariant.station;
-  group = c.self.invariant.group;
-}
+invariant_of-self c = kept_at _ c.args.link when_gone c.lose.new.links.items (λ link. refl) c.lose.ensures c.self.invariant
 
 pub returns-clause-stands : goal.returns-clause-stands
 returns-clause-stands c = λ h bytes stands.

@@ -1,20 +1,15 @@
 use Rattle.std.proofs.Common.{◌^◌, subst, sym, arith, refl}
 use Rattle.server_core.specs.LinkSteps.{with_room}
 use Rattle.server_core.specs.Steps.{Walks}
-use Rattle.server_core.proofs.LinkLemmas.{rises_to, rises_at}
-use Rattle.server_core.proofs.CoreLemmas.{walks_roomed, walks_no_room}
+use Rattle.server_core.proofs.LinkLemmas.{rises_to}
+use Rattle.server_core.proofs.CoreLemmas.{kept_at, walks_roomed, walks_no_room}
 use Rattle.server_core.proofs.server.Core.room.Goals as goal
 
 pub give_room-requires : goal.give_room-requires
 give_room-requires c = rises_to 0 c.self.inside.greatest (2 ^ 32) _ c.self.invariant.rising (let small = c.self.invariant.small in omega arith)
 
 pub invariant_of-self : goal.invariant_of-self
-invariant_of-self c = record {
-  rising = rises_at c.args.number with_room (λ link. refl) c.self.inside.greatest c.self.inside.links.items c.give_room.new.links.items c.give_room.ensures c.self.invariant.rising;
-  small = c.self.invariant.small;
-  station = c.self.invariant.station;
-  group = c.self.invariant.group;
-}
+invariant_of-self c = kept_at _ c.args.number with_room c.give_room.new.links.items (λ link. refl) c.give_room.ensures c.self.invariant
 
 pub returns-clause-live : goal.returns-clause-live
 returns-clause-live c = λ t walks live. walks_roomed _ t (subst (λ core. Walks core t) (sym c.self.view_is) walks) c.args.number c.give_room.new.links.items c.give_room.ensures

@@ -1,7 +1,8 @@
 use Rattle.std.proofs.Common.{◌^◌, ◌≤◌, length, subst, sym, ap, ◌∙◌, arith, refl}
 use Rattle.server_core.specs.LinkSteps.{numbers, at_link, with_taken, pending_at}
 use Rattle.server_core.specs.Meaning.{CoreMeaning, Stands}
-use Rattle.server_core.proofs.LinkLemmas.{rises_to, rises_at, numbers_kept, at_keeps}
+use Rattle.server_core.proofs.LinkLemmas.{rises_to, numbers_kept, at_keeps}
+use Rattle.server_core.proofs.CoreLemmas.{kept_at}
 use Rattle.server_core.proofs.SendLemmas.{stands_took}
 use Rattle.server_core.proofs.server.Core.took.Goals as goal
 
@@ -9,12 +10,7 @@ pub take-requires-clause-rises : goal.take-requires-clause-rises
 take-requires-clause-rises c = rises_to 0 c.self.inside.greatest (2 ^ 32) _ c.self.invariant.rising (let small = c.self.invariant.small in omega arith)
 
 pub invariant_of-self : goal.invariant_of-self
-invariant_of-self c = record {
-  rising = rises_at c.args.link (with_taken c.args.offered c.args.n) (λ link. refl) c.self.inside.greatest c.self.inside.links.items c.take.new.links.items c.take.ensures c.self.invariant.rising;
-  small = c.self.invariant.small;
-  station = c.self.invariant.station;
-  group = c.self.invariant.group;
-}
+invariant_of-self c = kept_at _ c.args.link (with_taken c.args.offered c.args.n) c.take.new.links.items (λ link. refl) c.take.ensures c.self.invariant
 
 pub returns-clause-stands : goal.returns-clause-stands
 returns-clause-stands c = λ h bytes size stands.

@@ -1,7 +1,7 @@
 use Rattle.std.proofs.Common.{◌∙◌, ◌++◌, ◌∷◌, [], ap, sym}
 use Rattle.aprs_base.specs.Cuts.{cuts_by}
 use Rattle.aprs_base.proofs.CutLemmas.{cuts_of-append}
-use Rattle.server_core.proofs.server.cut_datagram.Goals as goal
+use Rattle.server_core.proofs.server.datagrams.cut_datagram.Goals as goal
 
 pub returns : goal.returns
 returns c =

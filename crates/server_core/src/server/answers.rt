@@ -1,0 +1,129 @@
+//! What a verdict that accepts no packet comes to: refusals, logins and filters.
+ghost use Rattle.std.specs.Prelude.{◌≡◌, ◌≤◌, ◌<◌, IsTrue, OnOk, length, Some, None, filter, map, take};
+ghost use Rattle.aprs_base.specs.Bytes.{is_station};
+ghost use Rattle.aprs_base.specs.declared.packets.Source.TheVariants as Source;
+ghost use Rattle.line_verdict.specs.Fit.{all_few, has_few};
+ghost use Rattle.aprs_history.specs.declared.verdicts.FilterAnswer.{FilterAnswer};
+ghost use Rattle.aprs_history.specs.declared.verdicts.Verdict.{Verdict};
+ghost use Rattle.server_core.specs.LinkSteps.{after_login, with_reply, with_shown};
+ghost use Rattle.server_core.specs.Steps.{with_verdict};
+
+use super::Core;
+use crate::conf::server_of;
+use crate::link::Link;
+use crate::links::{log_in, reply, set_filter, show_all, take};
+use crate::places::friends_found;
+use aprs_base::{Line, Memory, Source};
+use aprs_history::{FilterAnswer, Refusal, Session, Verdict};
+use filter_lang::FilterSet;
+use line_verdict::{denied_line, login_line, refusal_line};
+use std::alloc::Global;
+use std::sync::Arc;
+
+impl Core {
+    /// A duplicate is refused: the links that are shown such take it.
+    fn show(&mut self, alloc: Global, from: &Source, line: Line) -> Result<(), Memory>
+        ensures { OnOk result (self.new ≡ record self.old { seen = record self.old.seen { links = map (with_shown from.now line) self.old.seen.links } }) }
+    {
+        let line = Arc::new(alloc, line)?;
+        show_all(&mut self.links, from, &line)
+    }
+
+    /// A line for the link whose line was read, where it was a link's.
+    fn reply(&mut self, alloc: Global, from: &Source, line: Line) -> Result<(), Memory>
+        ensures { OnOk result (self.new ≡ record self.old { seen = record self.old.seen { links = with_reply from.now (Some line) self.old.seen.links } }) }
+    {
+        match from {
+            Source::Link(number) => {
+                reply(&mut self.links, *number, Arc::new(alloc, line)?);
+                Ok(())
+            }
+            Source::Submit(_) | Source::Peer(_) => Ok(()),
+        }
+    }
+
+    /// A line that came from there is refused: its link is told so where it tried to log in.
+    pub(super) fn refuse(
+        &mut self,
+        alloc: Global,
+        from: &Source,
+        refusal: Refusal,
+    ) -> Result<(), Memory>
+        ensures { OnOk result (self.new ≡ with_verdict from.now (Verdict.Refused refusal) self.old) }
+    {
+        match refusal {
+            Refusal::Duplicate(_parts, line) => self.show(alloc, from, line),
+            other => match refusal_line(&other) {
+                Some(line) => self.reply(alloc, from, line),
+                None => Ok(()),
+            },
+        }
+    }
+
+    /// The link of that number has logged in, and is told so.
+    fn open_session(&mut self, alloc: Global, number: u32, session: Session) -> Result<(), Memory>
+        requires { IsTrue (is_station session.call) }
+        ensures { OnOk result (self.new ≡ record self.old { seen = after_login self.old.conf.server (Source.Link number) session self.old.seen }) }
+    {
+        let mine = self.stations.place_of(&session.call, self.moment);
+        let line = Arc::new(alloc, login_line(server_of(&self.conf), &session))?;
+        log_in(&mut self.links, number, session, mine, line);
+        Ok(())
+    }
+
+    /// The link of that number has another filter, and is told so.
+    fn set_filter(
+        &mut self,
+        alloc: Global,
+        number: u32,
+        filter: FilterSet,
+        line: Line,
+    ) -> Result<(), Memory>
+        requires { length filter ≤ 64 }
+        ensures { OnOk result (self.new ≡ with_verdict (Source.Link number) (Verdict.Filtered (FilterAnswer.Active filter line)) self.old) }
+    {
+        let friends = friends_found(&self.stations, self.moment, &filter);
+        let line = Arc::new(alloc, line)?;
+        set_filter(&mut self.links, number, filter, friends, line);
+        Ok(())
+    }
+
+    /// The answer to a filter.
+    pub(super) fn answer(
+        &mut self,
+        alloc: Global,
+        number: u32,
+        answer: FilterAnswer,
+    ) -> Result<(), Memory>
+        requires { IsTrue (has_few answer) }
+        ensures { OnOk result (self.new ≡ with_verdict (Source.Link number) (Verdict.Filtered answer) self.old) }
+    {
+        match answer {
+            FilterAnswer::Active(filter, line) => self.set_filter(alloc, number, filter, line),
+            FilterAnswer::Denied(fault) => {
+                let line = Arc::new(alloc, denied_line(alloc, fault)?)?;
+                reply(&mut self.links, number, line);
+                Ok(())
+            }
+        }
+    }
+
+    /// The link of that number has logged in, perhaps with a filter.
+    pub(super) fn log_in(
+        &mut self,
+        alloc: Global,
+        number: u32,
+        session: Session,
+        answer: Option<FilterAnswer>,
+    ) -> Result<(), Memory>
+        requires station { IsTrue (is_station session.call) }
+        requires few { IsTrue (all_few answer) }
+        ensures { OnOk result (self.new ≡ with_verdict (Source.Link number) (Verdict.LoggedIn session answer) self.old) }
+    {
+        self.open_session(alloc, number, session)?;
+        match answer {
+            Some(answer) => self.answer(alloc, number, answer),
+            None => Ok(()),
+        }
+    }
+}

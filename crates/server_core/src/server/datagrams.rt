@@ -1,0 +1,182 @@
+//! Datagrams: those that stations submit, and those of the peer group.
+ghost use Rattle.std.specs.Prelude.{◌≡◌, ◌∷◌, ◌<◌, ℕ, IsTrue, IfOk, OnOk, IfSome, IsNone, List, Some, None, map};
+ghost use Rattle.aprs_history.specs.Trace.{Trace, Said};
+ghost use Rattle.aprs_history.specs.Setting.{kind_at, peer_from};
+ghost use Rattle.aprs_base.specs.declared.cutting.Cut.{Cut};
+ghost use Rattle.q_construct.specs.Rule.{has_station};
+ghost use Rattle.q_construct.specs.declared.origins.Origin.TheVariants as Origin;
+ghost use Rattle.aprs_history.specs.Scenes.{datagram_scene};
+ghost use Rattle.aprs_history.specs.Verdicts.{submitter_of, verdict_of};
+ghost use Rattle.aprs_history.specs.declared.verdicts.Verdict.{Verdict};
+ghost use Rattle.aprs_history.specs.History.{datagram_cuts, refuse_datagram, relay, say_all, submit, with_lines};
+ghost use Rattle.server_core.specs.LinkSteps.{IsDatagram};
+ghost use Rattle.server_core.specs.Meaning.{peer_of, setting_of};
+ghost use Rattle.server_core.specs.Steps.{SameRest, Walks, carried_at, with_verdict};
+
+use super::Core;
+use crate::conf::{peer_from, peers_of, served_by, server_of};
+use aprs_base::{Addr, Cut, Cutter, Memory, PortKind, Source, copy_call};
+use aprs_history::{Refusal, Verdict};
+use line_verdict::submitter_of;
+use q_construct::Origin;
+use std::alloc::Global;
+
+/// The lines of a datagram, whose end ends the last one.
+fn cut_datagram(alloc: Global, bytes: &[u8]) -> Result<Vec<Cut>, Memory>
+    ensures { IfOk result (λ cuts. cuts.items ≡ datagram_cuts bytes.now) }
+{
+    let mut cuts = Vec::new(alloc);
+    let mut cutter = Cutter::new();
+    cutter.feed(alloc, bytes, &mut cuts)?;
+    cutter.feed(alloc, b"\n", &mut cuts)?;
+    Ok(cuts)
+}
+
+impl Core {
+    /// What a line of a datagram said.
+    fn take_carried(
+        &mut self,
+        alloc: Global,
+        from: Source,
+        origin: &Origin,
+        cut: &Cut,
+    ) -> Result<(), Memory>
+        requires station { IsTrue (has_station origin.now) }
+        requires datagram { IsDatagram from }
+        ensures { OnOk result (self.new ≡ with_verdict from (verdict_of (carried_at origin.now self.old) cut.now) self.old) }
+    {
+        match self.judge_carried(alloc, origin, cut)? {
+            Verdict::Refused(refusal) => self.refuse(alloc, &from, refusal),
+            Verdict::Accepted(parts, line) => self.accept(alloc, from, parts, line),
+            Verdict::PassedOver => Ok(()),
+            Verdict::LoggedIn(_session, _answer) => Ok(()),
+            Verdict::Filtered(_answer) => Ok(()),
+        }
+    }
+
+    /// A line of a datagram, as the trace goes on by it.
+    fn carry(
+        &mut self,
+        alloc: Global,
+        from: Source,
+        origin: &Origin,
+        cut: &Cut,
+    ) -> Result<(), Memory>
+        requires station { IsTrue (has_station origin.now) }
+        requires datagram { IsDatagram from }
+        ensures walks { (t : Trace) → Walks self.old t
+            → OnOk result (Walks self.new (Said from cut.now (verdict_of (datagram_scene (setting_of self.old.conf) origin.now t) cut.now) ∷ t)) }
+        ensures rest { OnOk result (SameRest self.old self.new) }
+    {
+        self.take_carried(alloc, from, origin, cut)
+    }
+
+    /// The same for several lines, one after another.
+    fn carry_all(
+        &mut self,
+        alloc: Global,
+        from: Source,
+        origin: &Origin,
+        cuts: &[Cut],
+    ) -> Result<(), Memory>
+        requires station { IsTrue (has_station origin.now) }
+        requires datagram { IsDatagram from }
+        ensures walks { (t : Trace) → Walks self.old t
+            → OnOk result (Walks self.new (say_all (datagram_scene (setting_of self.old.conf) origin.now) from cuts.now t)) }
+        ensures rest { OnOk result (SameRest self.old self.new) }
+    {
+        for cut in cuts {
+            self.carry(alloc, from, origin, cut)?;
+        }
+        Ok(())
+    }
+
+    /// A datagram is refused whole, for what its first line is.
+    fn refuse_datagram(
+        &mut self,
+        alloc: Global,
+        listener: u16,
+        refusal: Refusal,
+    ) -> Result<(), Memory>
+        ensures walks { (t : Trace) (cut : Cut) → Walks self.old t → OnOk result (Walks self.new (refuse_datagram listener cut refusal t)) }
+        ensures rest { OnOk result (SameRest self.old self.new) }
+    {
+        self.refuse(alloc, &Source::Submit(listener), refusal)
+    }
+
+    /// A station submits a datagram: after its login come its packets.
+    fn submit(
+        &mut self,
+        alloc: Global,
+        listener: u16,
+        first: &Cut,
+        cuts: &[Cut],
+    ) -> Result<(), Memory>
+        ensures walks { (t : Trace) → Walks self.old t
+            → OnOk result (Walks self.new (submit (setting_of self.old.conf) listener first.now cuts.now (submitter_of self.old.conf.server first.now) t)) }
+        ensures rest { OnOk result (SameRest self.old self.new) }
+    {
+        match submitter_of(server_of(&self.conf), first) {
+            Ok(login) => self.carry_all(
+                alloc,
+                Source::Submit(listener),
+                &Origin::Udp { login },
+                cuts,
+            ),
+            Err(refusal) => self.refuse_datagram(alloc, listener, refusal),
+        }
+    }
+
+    /// The peer that has that address: its number, and where what it sends comes from.
+    fn peer_at(&self, at: Addr) -> Option<(u16, Origin)>
+        ensures none { IsNone result → peer_from 0 (map peer_of self.now.conf.peers) at ≡ None }
+        ensures some { IfSome result (λ peer. (call : List ℕ) × (peer.1 ≡ Origin.Peer call) × (peer_from 0 (map peer_of self.now.conf.peers) at ≡ Some (peer.0, call))) }
+        ensures station { IfSome result (λ peer. IsTrue (has_station peer.1)) }
+    {
+        match peer_from(peers_of(&self.conf), at) {
+            Some((number, call)) => Some((number, Origin::Peer(copy_call(call)))),
+            None => None,
+        }
+    }
+
+    /// A datagram came to the peer group: where it is a peer's, its lines are packets.
+    fn relay(
+        &mut self,
+        alloc: Global,
+        listener: u16,
+        from: Addr,
+        cuts: &[Cut],
+    ) -> Result<(), Memory>
+        ensures walks { (t : Trace) (first : Cut) (more : List Cut) → cuts.now ≡ first ∷ more → Walks self.old t
+            → OnOk result (Walks self.new (relay (setting_of self.old.conf) listener first more (peer_from 0 (map peer_of self.old.conf.peers) from) t)) }
+        ensures rest { OnOk result (SameRest self.old self.new) }
+    {
+        match self.peer_at(from) {
+            Some((peer, origin)) => self.carry_all(alloc, Source::Peer(peer), &origin, cuts),
+            None => self.refuse_datagram(alloc, listener, Refusal::Stranger),
+        }
+    }
+
+    /// A datagram came.
+    pub(super) fn take_datagram(
+        &mut self,
+        alloc: Global,
+        listener: u16,
+        from: Addr,
+        bytes: &[u8],
+    ) -> Result<(), Memory>
+        ensures walks { (t : Trace) → Walks self.old t
+            → OnOk result (Walks self.new (with_lines (setting_of self.old.conf) (kind_at (setting_of self.old.conf) listener) listener from (datagram_cuts bytes.now) t)) }
+        ensures rest { OnOk result (SameRest self.old self.new) }
+    {
+        let cuts = cut_datagram(alloc, bytes)?;
+        let Some((first, more)) = cuts.split_first() else {
+            return Ok(());
+        };
+        match served_by(&self.conf, listener) {
+            Some(PortKind::Submit) => self.submit(alloc, listener, first, more),
+            Some(PortKind::Core) => self.relay(alloc, listener, from, cuts.as_slice()),
+            _ => Ok(()),
+        }
+    }
+}

@@ -1,0 +1,139 @@
+//! Links that end.
+ghost use Rattle.std.specs.Prelude.{◌≡◌, ◌∷◌, ◌<◌, IsTrue, IfOk, OnOk, false, true, filter, take};
+ghost use Rattle.aprs_history.specs.Trace.{Trace, ByPeer, Ended, is_live, placed_all};
+ghost use Rattle.aprs_history.specs.Links.{late_links, late_reason};
+ghost use Rattle.aprs_history.specs.Stands.{Follows};
+ghost use Rattle.aprs_history.specs.History.{end_each, end_stopped, refused_links, refused_reason};
+ghost use Rattle.server_core.specs.LinkSteps.{is_late_link, is_overfull, numbers};
+ghost use Rattle.server_core.specs.Meaning.{setting_of, timeouts_of};
+ghost use Rattle.server_core.specs.Steps.{SameRest, Walks};
+
+use super::Core;
+use crate::conf::{client_timeout, uplink_timeout};
+use crate::link::Timeouts;
+use crate::links::{all, drop_late, drop_link, drop_these, late, overfull, place_all, take};
+use crate::messages::forget_all;
+use aprs_base::Memory;
+use aprs_conf::Conf;
+use std::alloc::Global;
+
+/// After how many seconds without bytes links end.
+fn timeouts(conf: &Conf) -> Timeouts
+    ensures { result ≡ timeouts_of conf.now }
+{
+    Timeouts {
+        client: client_timeout(conf),
+        uplink: uplink_timeout(conf),
+    }
+}
+
+impl Core {
+    /// A link was ended by its peer.
+    pub(super) fn end(&mut self, number: u32)
+        ensures live { (t : Trace) → Walks self.old t → IsTrue (is_live t number) → Walks self.new (Ended number ByPeer ∷ t) }
+        ensures dead { (t : Trace) → Walks self.old t → is_live t number ≡ false → Walks self.new t }
+        ensures rest { SameRest self.old self.new }
+    {
+        self.reach
+            .end_at(self.links.as_slice(), number, self.moment);
+        self.heard.forget(number);
+        drop_link(&mut self.links, number);
+    }
+
+    /// The links that are late end.
+    pub(super) fn end_late(&mut self, alloc: Global) -> Result<(), Memory>
+        ensures walks { (t : Trace) → Walks self.old t
+            → OnOk result (Walks self.new (end_each (late_reason t) (late_links (setting_of self.old.conf) t) t)) }
+        ensures rest { OnOk result (SameRest self.old self.new) }
+    {
+        let ends = self.late(alloc)?;
+        self.drop_late(ends.as_slice())
+    }
+
+    /// The numbers of the links that are late.
+    fn late(&self, alloc: Global) -> Result<Vec<u32>, Memory>
+        ensures { IfOk result (λ v. v.items ≡ numbers (filter (is_late_link (timeouts_of self.now.conf) self.now.seen.moment) self.now.seen.links)) }
+    {
+        late(
+            alloc,
+            self.links.as_slice(),
+            timeouts(&self.conf),
+            self.moment,
+        )
+    }
+
+    /// The links that are late leave, and are to be closed.
+    fn drop_late(&mut self, ends: &[u32]) -> Result<(), Memory>
+        ensures walks { (t : Trace) → Walks self.old t → ends.now ≡ numbers (filter (is_late_link (timeouts_of self.old.conf) self.old.seen.moment) self.old.seen.links)
+            → OnOk result (Walks self.new (end_each (late_reason t) (late_links (setting_of self.old.conf) t) t)) }
+        ensures rest { OnOk result (SameRest self.old self.new) }
+    {
+        let timeouts = timeouts(&self.conf);
+        self.reach.end_all(ends, self.moment);
+        forget_all(&mut self.heard, ends);
+        drop_late(&mut self.links, timeouts, self.moment);
+        place_all(&mut self.closing, ends)
+    }
+
+    /// The links that are overfull end, and those that were turned away.
+    pub(super) fn end_refused(&mut self, alloc: Global) -> Result<(), Memory>
+        ensures walks { (t : Trace) → Walks self.old t
+            → OnOk result (Walks self.new (end_each (refused_reason t) (refused_links (setting_of self.old.conf) t) t)) }
+        ensures rest { OnOk result (SameRest self.old self.new) }
+    {
+        let ends = self.refused(alloc)?;
+        self.drop_refused(ends.as_slice())
+    }
+
+    /// The numbers of the links that are overfull or were turned away, rising.
+    fn refused(&self, alloc: Global) -> Result<Vec<u32>, Memory>
+        ensures { IfOk result (λ v. v.items ≡ placed_all self.now.seen.turned (numbers (filter is_overfull self.now.seen.links))) }
+    {
+        let mut ends = overfull(alloc, self.links.as_slice())?;
+        place_all(&mut ends, self.turned.as_slice())?;
+        Ok(ends)
+    }
+
+    /// These links leave, and are to be closed.
+    fn drop_refused(&mut self, ends: &[u32]) -> Result<(), Memory>
+        ensures walks { (t : Trace) → Walks self.old t → ends.now ≡ placed_all self.old.seen.turned (numbers (filter is_overfull self.old.seen.links))
+            → OnOk result (Walks self.new (end_each (refused_reason t) (refused_links (setting_of self.old.conf) t) t)) }
+        ensures rest { OnOk result (SameRest self.old self.new) }
+    {
+        self.reach.end_all(ends, self.moment);
+        forget_all(&mut self.heard, ends);
+        drop_these(&mut self.links, ends);
+        place_all(&mut self.closing, ends)
+    }
+
+    /// After a stop all links end, and keep what they have still to take.
+    pub(super) fn end_stopped(&mut self, alloc: Global) -> Result<(), Memory>
+        ensures follows { (t : Trace) → Walks self.old t
+            → OnOk result (Follows (setting_of self.old.conf) self.new.seen (end_stopped self.old.seen.stopped t)) }
+        ensures rest { OnOk result (SameRest self.old self.new) }
+    {
+        if self.stopped {
+            let ends = self.all(alloc)?;
+            self.close_all(ends.as_slice())?;
+        }
+        Ok(())
+    }
+
+    /// The numbers of all links.
+    fn all(&self, alloc: Global) -> Result<Vec<u32>, Memory>
+        ensures { IfOk result (λ v. v.items ≡ numbers self.now.seen.links) }
+    {
+        all(alloc, self.links.as_slice())
+    }
+
+    /// All links are to be closed, and are forgotten.
+    fn close_all(&mut self, ends: &[u32]) -> Result<(), Memory>
+        ensures follows { (t : Trace) → Walks self.old t → ends.now ≡ numbers self.old.seen.links
+            → OnOk result (Follows (setting_of self.old.conf) self.new.seen (end_stopped true t)) }
+        ensures rest { OnOk result (SameRest self.old self.new) }
+    {
+        self.reach.end_all(ends, self.moment);
+        forget_all(&mut self.heard, ends);
+        place_all(&mut self.closing, ends)
+    }
+}

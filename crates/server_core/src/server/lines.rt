@@ -1,0 +1,87 @@
+//! The bytes that links bring, and their lines.
+ghost use Rattle.std.specs.Prelude.{◌≡◌, ◌∷◌, [], ◌<◌, IsTrue, IfOk, OnOk, false};
+ghost use Rattle.aprs_history.specs.Trace.{Trace, Brought, Said, is_live};
+ghost use Rattle.aprs_history.specs.Links.{brought_by};
+ghost use Rattle.aprs_base.specs.Cuts.{cuts_by};
+ghost use Rattle.aprs_base.specs.declared.cutting.Cut.{Cut};
+ghost use Rattle.aprs_base.specs.declared.packets.Source.TheVariants as Source;
+ghost use Rattle.aprs_history.specs.Scenes.{scene_of};
+ghost use Rattle.aprs_history.specs.Verdicts.{verdict_of};
+ghost use Rattle.aprs_history.specs.declared.verdicts.Verdict.{Verdict};
+ghost use Rattle.aprs_history.specs.History.{say_all, with_bytes_of};
+ghost use Rattle.server_core.specs.Meaning.{setting_of};
+ghost use Rattle.server_core.specs.Steps.{SameRest, Walks, scene_at, with_verdict};
+
+use super::Core;
+use crate::link::Link;
+use crate::links::{bring, log_in};
+use aprs_base::{Cut, Memory, Source};
+use aprs_history::Verdict;
+use std::alloc::Global;
+
+impl Core {
+    /// What the link of that number said: it is judged, and what comes of it is done.
+    fn take_line(&mut self, alloc: Global, number: u32, cut: &Cut) -> Result<(), Memory>
+        ensures { OnOk result (self.new ≡ with_verdict (Source.Link number) (verdict_of (scene_at self.old number) cut.now) self.old) }
+    {
+        let from = Source::Link(number);
+        match self.judge(alloc, number, cut)? {
+            Verdict::PassedOver => Ok(()),
+            Verdict::Refused(refusal) => self.refuse(alloc, &from, refusal),
+            Verdict::LoggedIn(session, answer) => self.log_in(alloc, number, session, answer),
+            Verdict::Filtered(answer) => self.answer(alloc, number, answer),
+            Verdict::Accepted(parts, line) => self.accept(alloc, from, parts, line),
+        }
+    }
+
+    /// The same, as the trace goes on by the line.
+    fn hear(&mut self, alloc: Global, number: u32, cut: &Cut) -> Result<(), Memory>
+        ensures walks { (t : Trace) → Walks self.old t → IsTrue (is_live t number)
+            → OnOk result (Walks self.new (Said (Source.Link number) cut.now (verdict_of (scene_of (setting_of self.old.conf) t number) cut.now) ∷ t)) }
+        ensures rest { OnOk result (SameRest self.old self.new) }
+    {
+        self.take_line(alloc, number, cut)
+    }
+
+    /// The same for several lines, one after another.
+    fn hear_all(&mut self, alloc: Global, number: u32, cuts: &[Cut]) -> Result<(), Memory>
+        ensures walks { (t : Trace) → Walks self.old t → IsTrue (is_live t number)
+            → OnOk result (Walks self.new (say_all (λ now. scene_of (setting_of self.old.conf) now number) (Source.Link number) cuts.now t)) }
+        ensures rest { OnOk result (SameRest self.old self.new) }
+    {
+        for cut in cuts {
+            self.hear(alloc, number, cut)?;
+        }
+        Ok(())
+    }
+
+    /// Bytes came on a link.
+    fn bring(&mut self, alloc: Global, number: u32, bytes: &[u8]) -> Result<Vec<Cut>, Memory>
+        ensures live { (t : Trace) → Walks self.old t → IsTrue (is_live t number) → OnOk result (Walks self.new (Brought number bytes.now ∷ t)) }
+        ensures cuts { (t : Trace) → Walks self.old t → IsTrue (is_live t number) → IfOk result (λ cuts. cuts.items ≡ cuts_by (brought_by t number) bytes.now) }
+        ensures dead { (t : Trace) → Walks self.old t → is_live t number ≡ false → IfOk result (λ cuts. (cuts.items ≡ []) × Walks self.new t) }
+        ensures rest { OnOk result (SameRest self.old self.new) }
+    {
+        self.reach
+            .hear_at(self.links.as_slice(), number, self.moment);
+        bring(alloc, &mut self.links, number, self.moment, bytes)
+    }
+
+    /// Bytes came on a link: they are cut, and each line is heard.
+    pub(super) fn take_bytes(
+        &mut self,
+        alloc: Global,
+        number: u32,
+        bytes: &[u8],
+    ) -> Result<(), Memory>
+        ensures walks { (t : Trace) → Walks self.old t → OnOk result (Walks self.new (with_bytes_of (setting_of self.old.conf) number bytes.now t)) }
+        ensures rest { OnOk result (SameRest self.old self.new) }
+    {
+        let cuts = self.bring(alloc, number, bytes)?;
+        if cuts.is_empty() {
+            return Ok(());
+        }
+        self.hear_all(alloc, number, cuts.as_slice())?;
+        Ok(())
+    }
+}

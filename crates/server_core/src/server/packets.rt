@@ -1,0 +1,138 @@
+//! What an accepted packet comes to.
+ghost use Rattle.std.specs.Prelude.{◌≡◌, ◌<◌, IfOk, OnOk, map};
+ghost use Rattle.std.specs.Arc.{arc_value};
+ghost use Rattle.aprs_history.specs.Scenes.{packet_of};
+ghost use Rattle.aprs_history.specs.declared.verdicts.Verdict.{Verdict};
+ghost use Rattle.server_core.specs.LinkSteps.{after_packet, cast_with, noted_from, owed_in, promised_all, source_found, spent, submitted_from};
+ghost use Rattle.server_core.specs.Meaning.{peer_of};
+ghost use Rattle.server_core.specs.Steps.{with_verdict};
+
+use super::Core;
+use crate::conf::peers_of;
+use crate::link::SourcePlace;
+use crate::links::{is_submitted, share};
+use crate::messages::{hearers_of, is_position, note_from, owed_to, promise_all, receiver_of};
+use aprs_base::{Line, Memory, Packet, Parts, Source};
+use aprs_body::classify;
+use aprs_history::Verdict;
+use std::alloc::Global;
+use std::sync::Arc;
+
+/// The packet that came from there, with what its body says.
+fn packet_from(from: Source, moment: u64, parts: Parts, line: Arc<Line>) -> Packet
+    ensures { result ≡ packet_of from moment parts (arc_value line) }
+{
+    let body = classify(&parts.dest, parts.body.as_slice());
+    Packet {
+        from,
+        moment,
+        parts,
+        body,
+        line,
+    }
+}
+
+impl Core {
+    /// Where a packet's source was last seen, whether it is a gate, and whether the packet was submitted here.
+    fn source_of(&self, packet: &Packet) -> SourcePlace
+        ensures { result ≡ source_found self.now.seen packet.now.from packet.now.parts.source }
+    {
+        SourcePlace {
+            place: self.stations.place_of(&packet.parts.source, self.moment),
+            gate: self.stations.is_gate(&packet.parts.source, self.moment),
+            submitted: is_submitted(self.links.as_slice(), &packet.from),
+        }
+    }
+
+    /// The links that are owed a position, whose promises are spent; none for other packets.
+    fn spend(&mut self, alloc: Global, packet: &Packet) -> Result<Vec<u32>, Memory>
+        ensures owed { IfOk result (λ links. links.items ≡ owed_in self.old.seen packet.now) }
+        ensures spent { OnOk result (self.new ≡ record self.old { seen = record self.old.seen { heard = spent packet.now self.old.seen.heard } }) }
+    {
+        if is_position(packet) {
+            owed_to(alloc, &mut self.heard, self.moment, &packet.parts.source)
+        } else {
+            Ok(Vec::new(alloc))
+        }
+    }
+
+    /// The links that heard a message's receiver are promised its sender's next position, and a client has heard its source.
+    fn promise(&mut self, alloc: Global, packet: &Packet, hearers: &[u32]) -> Result<(), Memory>
+        ensures { OnOk result (self.new ≡ record self.old {
+          seen = record self.old.seen {
+            heard = noted_from self.old.seen.links packet.now.from packet.now.parts.source self.old.seen.moment
+                (promised_all self.old.seen.links packet.now.from packet.now.parts.source self.old.seen.moment hearers.now self.old.seen.heard);
+          };
+        }) }
+    {
+        let links = self.links.as_slice();
+        let sender = &packet.parts.source;
+        promise_all(
+            alloc,
+            &mut self.heard,
+            links,
+            &packet.from,
+            sender,
+            self.moment,
+            hearers,
+        )?;
+        note_from(
+            alloc,
+            &mut self.heard,
+            links,
+            &packet.from,
+            sender,
+            self.moment,
+        )
+    }
+
+    /// A packet that was submitted here is for the peers.
+    fn cast(&mut self, packet: &Packet, submitted: bool) -> Result<(), Memory>
+        requires { submitted ≡ submitted_from packet.now.from self.old.seen.links }
+        ensures { OnOk result (self.new ≡ record self.old {
+          seen = record self.old.seen { reach = record self.old.seen.reach { casts = cast_with (map peer_of self.old.conf.peers) packet.now self.old.seen } };
+        }) }
+    {
+        if submitted {
+            self.reach.cast(peers_of(&self.conf), &packet.line)?;
+        }
+        Ok(())
+    }
+
+    /// An accepted packet goes to the links that want it and to the peers, tells where its source is, and is kept.
+    fn keep(&mut self, alloc: Global, packet: Packet) -> Result<(), Memory>
+        ensures { OnOk result (self.new ≡ record self.old { seen = after_packet (map peer_of self.old.conf.peers) packet self.old.seen }) }
+    {
+        let source = self.source_of(&packet);
+        let to = receiver_of(&packet);
+        let hearers = hearers_of(alloc, &self.heard, self.moment, &to)?;
+        let owed = self.spend(alloc, &packet)?;
+        self.promise(alloc, &packet, hearers.as_slice())?;
+        self.cast(&packet, source.submitted)?;
+        share(
+            &mut self.links,
+            &packet,
+            &source,
+            hearers.as_slice(),
+            owed.as_slice(),
+        )?;
+        self.stations.note(alloc, &packet)?;
+        self.accepted.push(packet)?;
+        Ok(())
+    }
+
+    /// A packet that came from there is accepted.
+    pub(super) fn accept(
+        &mut self,
+        alloc: Global,
+        from: Source,
+        parts: Parts,
+        line: Line,
+    ) -> Result<(), Memory>
+        ensures { OnOk result (self.new ≡ with_verdict from (Verdict.Accepted parts line) self.old) }
+    {
+        let line = Arc::new(alloc, line)?;
+        let packet = packet_from(from, self.moment, parts, line);
+        self.keep(alloc, packet)
+    }
+}

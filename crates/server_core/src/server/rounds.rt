@@ -1,0 +1,125 @@
+//! The parts of a round: its begin, its events, its end, and what is to be done after it.
+ghost use Rattle.std.specs.Prelude.{◌≡◌, ◌∷◌, [], ◌<◌, IsTrue, IfOk, OnOk, IfSome, false, true, filter, map, if◌then◌else◌};
+ghost use Rattle.aprs_base.specs.Outside.{new_link};
+ghost use Rattle.aprs_history.specs.Trace.{Trace, Ended, Opened, Roomed, Unjoined, is_live};
+ghost use Rattle.aprs_history.specs.Stands.{Follows};
+ghost use Rattle.aprs_history.specs.History.{begin_round, end_round, end_stopped, with_event};
+ghost use Rattle.aprs_history.specs.Rounds.{AreFresh, events_trace, is_whole};
+ghost use Rattle.server_core.specs.LinkSteps.{AreServed, Rises, is_ready, number_of};
+ghost use Rattle.server_core.specs.Meaning.{setting_of};
+ghost use Rattle.server_core.specs.RoundWalk.{Traced, Walking};
+ghost use Rattle.server_core.specs.Steps.{AfterEvent, SameRest, Walks};
+
+use super::Core;
+use crate::acts::Acts;
+use crate::links::{drop_gone, give_room, ready};
+use crate::messages::forget_lost;
+use aprs_base::{Event, Memory};
+use std::alloc::Global;
+
+impl Core {
+    /// A round begins: the links that a send found gone end.
+    pub(super) fn begin(&mut self)
+        ensures walks { (t : Trace) → Walks self.old t → Walks self.new (begin_round t) }
+        ensures rest { SameRest self.old self.new }
+    {
+        self.turned.clear();
+        self.closing.clear();
+        self.reach.begin();
+        self.reach.end_lost(self.links.as_slice(), self.moment);
+        forget_lost(&mut self.heard, self.links.as_slice());
+        drop_gone(&mut self.links);
+    }
+
+    /// A link has room again.
+    fn room(&mut self, number: u32)
+        ensures live { (t : Trace) → Walks self.old t → IsTrue (is_live t number) → Walks self.new (Roomed number ∷ t) }
+        ensures dead { (t : Trace) → Walks self.old t → is_live t number ≡ false → Walks self.new t }
+        ensures rest { SameRest self.old self.new }
+    {
+        give_room(&mut self.links, number);
+    }
+
+    /// The server is to stop.
+    fn stop(&mut self)
+        ensures walks { (t : Trace) → Walks self.old t → Walks self.new t }
+        ensures conf { self.new.conf ≡ self.old.conf }
+        ensures greatest { self.new.seen.greatest ≡ self.old.seen.greatest }
+        ensures stopped { self.new.seen.stopped ≡ true }
+    {
+        self.stopped = true;
+    }
+
+    /// One event of a round.
+    fn take_event(&mut self, alloc: Global, event: &Event) -> Result<(), Memory>
+        requires { IfSome (new_link event.now) (λ link. self.old.seen.greatest < link) }
+        ensures walks { (t : Trace) → Walks self.old t → OnOk result (Walks self.new (with_event (setting_of self.old.conf) event.now t)) }
+        ensures rest { OnOk result (AfterEvent self.old self.new event.now) }
+    {
+        match event {
+            Event::Tick(moment) => self.tick(alloc, *moment)?,
+            Event::Opened {
+                listener,
+                link,
+                from,
+            } => self.open(alloc, *listener, *link, *from)?,
+            Event::Joined { uplink, link, at } => self.join(alloc, *uplink, *link, *at)?,
+            Event::Unjoined(uplink) => self.unjoin(*uplink),
+            Event::Bytes(link, chunk) => self.take_bytes(alloc, *link, chunk.bytes())?,
+            Event::Ended(link) => self.end(*link),
+            Event::Room(link) => self.room(*link),
+            Event::Stop => self.stop(),
+            Event::Datagram {
+                listener,
+                from,
+                bytes,
+            } => self.take_datagram(alloc, *listener, *from, bytes.bytes())?,
+        }
+        Ok(())
+    }
+
+    /// The events of a round, one after another.
+    pub(super) fn walk(&mut self, alloc: Global, events: &[Event]) -> Result<(), Memory>
+        requires whole { is_whole 0 events.now ≡ true }
+        requires fresh { AreFresh self.old.seen.greatest events.now }
+        requires going { self.old.seen.stopped ≡ false }
+        ensures walking { OnOk result (Walking self.old events.now self.new []) }
+        ensures traced { (t : Trace) → Walks self.old t → OnOk result (Traced self.old t events.now self.new [] (events_trace (setting_of self.old.conf) events.now t)) }
+    {
+        for event in events {
+            self.take_event(alloc, event)?;
+        }
+        Ok(())
+    }
+
+    /// A round ends.
+    pub(super) fn finish(&mut self, alloc: Global) -> Result<(), Memory>
+        ensures follows { (t : Trace) → Walks self.old t
+            → OnOk result (Follows (setting_of self.old.conf) self.new.seen (end_round (setting_of self.old.conf) self.old.seen.stopped t)) }
+        ensures rest { OnOk result (SameRest self.old self.new) }
+    {
+        self.end_refused(alloc)?;
+        self.end_stopped(alloc)
+    }
+
+    /// What is to be done now: the dial, the casts, the offers, and then the closes.
+    pub(super) fn acts(&self, alloc: Global) -> Result<Acts, Memory>
+        ensures offers { IfOk result (λ acts. acts.offers ≡ map number_of (filter is_ready self.now.seen.links)) }
+        ensures closes { IfOk result (λ acts. acts.closes ≡ self.now.seen.closing) }
+        ensures done { IfOk result (λ acts. acts.done ≡ self.now.seen.stopped) }
+        ensures rising { IfOk result (λ acts. Rises 0 acts.offers self.now.seen.greatest) }
+        ensures served { IfOk result (λ acts. AreServed acts.offers self.now.seen.links) }
+        ensures dial { IfOk result (λ acts. acts.dial ≡ self.now.seen.reach.dial) }
+        ensures casts { IfOk result (λ acts. acts.casts ≡ self.now.seen.reach.casts) }
+    {
+        let offers = ready(alloc, self.links.as_slice())?;
+        let closes = self.closing.clone()?;
+        Ok(Acts {
+            dial: self.reach.dial(),
+            casts: self.reach.casts(alloc)?,
+            offers,
+            closes,
+            done: self.stopped,
+        })
+    }
+}

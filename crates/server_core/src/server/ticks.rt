@@ -1,0 +1,64 @@
+//! What a tick brings: the moment, the date, a dial.
+ghost use Rattle.std.specs.Prelude.{◌∷◌, ◌<◌, OnOk, min};
+ghost use Rattle.aprs_history.specs.Trace.{Trace, Looked, Ticked};
+ghost use Rattle.aprs_history.specs.History.{dated, with_tick};
+ghost use Rattle.server_core.specs.Meaning.{setting_of};
+ghost use Rattle.server_core.specs.Steps.{SameRest, Walks};
+
+use super::Core;
+use crate::conf::server_of;
+use crate::links::{forget_places, late, tell_all};
+use aprs_base::Memory;
+use line_verdict::comment_of;
+use std::alloc::Global;
+use std::sync::Arc;
+
+/// The greatest moment: the last second of the year 9999.
+const LAST_MOMENT: u64 = 253_402_300_799;
+
+/// The seconds between two comment lines.
+const COMMENT_SECONDS: u64 = 20;
+
+impl Core {
+    /// The moment goes on.
+    fn go_on(&mut self, moment: u64)
+        ensures walks { (t : Trace) → Walks self.old t → Walks self.new (Ticked moment ∷ t) }
+        ensures rest { SameRest self.old self.new }
+    {
+        self.moment = moment.min(LAST_MOMENT).max(self.moment);
+        forget_places(&mut self.links, self.moment);
+    }
+
+    /// The clients are told the date, where the moment has passed a border since.
+    fn tell_date(&mut self, alloc: Global, before: u64) -> Result<(), Memory>
+        ensures walks { (t : Trace) → Walks self.old t → OnOk result (Walks self.new (dated before t)) }
+        ensures rest { OnOk result (SameRest self.old self.new) }
+    {
+        if before / COMMENT_SECONDS < self.moment / COMMENT_SECONDS {
+            let line = Arc::new(alloc, comment_of(server_of(&self.conf), self.moment))?;
+            tell_all(&mut self.links, &line)?;
+        }
+        Ok(())
+    }
+
+    /// The time has come to look whether an uplink is to be dialled.
+    fn look(&mut self)
+        ensures walks { (t : Trace) → Walks self.old t → Walks self.new (Looked ∷ t) }
+        ensures rest { SameRest self.old self.new }
+    {
+        self.reach.look(self.moment);
+    }
+
+    /// The moment goes on, the links that are late end, the clients are told the date, and an uplink may be dialled.
+    pub(super) fn tick(&mut self, alloc: Global, moment: u64) -> Result<(), Memory>
+        ensures walks { (t : Trace) → Walks self.old t → OnOk result (Walks self.new (with_tick (setting_of self.old.conf) moment t)) }
+        ensures rest { OnOk result (SameRest self.old self.new) }
+    {
+        let before = self.moment;
+        self.go_on(moment);
+        self.end_late(alloc)?;
+        self.tell_date(alloc, before)?;
+        self.look();
+        Ok(())
+    }
+}
