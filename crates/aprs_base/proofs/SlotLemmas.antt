@@ -9,7 +9,7 @@ use Rattle.std.specs.declared.alloc.Global.{Global}
 use Rattle.std.proofs.lemmas.List.{append_assoc, append-nil}
 use Rattle.aprs_base.specs.Outside.{one_more}
 use Rattle.aprs_base.specs.Journals.{HasTaken, JournalLineSeen, JournalShown, due_to, journal_text}
-use Rattle.aprs_base.specs.Slots.{FallsShort, HasTried, HasTriedAll, TakesDue, TakesLines}
+use Rattle.aprs_base.specs.Slots.{FallsShort, HasTried, HasTriedAll, TakesDue, TakesLines, shown_by}
 use Rattle.aprs_base.specs.declared.journals.Slot.{Slot}
 use Rattle.aprs_base.specs.declared.journals.Slot.TheVariants.{Live, Dead}
 
@@ -46,7 +46,7 @@ pub counted_is : (k n : ℕ) → n ≤ 2 ^ 64 - 1 → iterate one_more k n ≡ m
 counted_is zero n within = grind arith
 counted_is (suc k) n within = counted_is k (one_more n) (grind arith) ∙ grind arith
 
-module _ {V : Type 0} {X : V → Type 0} (journal : DynBox V Global X → JournalShown) where
+module _ {V : Type 0} {X : V → Type 0} (journal : (v : V) × X v → JournalShown) where
   -- lines that come in two lots
   pub takes-append : (a b : List JournalLineSeen) (old between new : Slot V X) → TakesLines journal a old between → TakesLines journal b between new → TakesLines journal (a ++ b) old new
   takes-append [] b old between new none more = rw none more
@@ -65,7 +65,7 @@ module _ {V : Type 0} {X : V → Type 0} (journal : DynBox V Global X → Journa
   each_takes-none [] = tt
   each_takes-none (slot ∷ slots) = (refl, each_takes-none slots)
 
-  same_dues : (old between : DynBox V Global X) (line : JournalLineSeen) (lines : List JournalLineSeen) → HasTaken (journal old) (journal between) (line ∷ []) → due_to (journal between) lines ≡ due_to (journal old) lines
+  same_dues : (old between : DynBox V Global X) (line : JournalLineSeen) (lines : List JournalLineSeen) → HasTaken (shown_by journal old) (shown_by journal between) (line ∷ []) → due_to (shown_by journal between) lines ≡ due_to (shown_by journal old) lines
   same_dues old between line lines first = ap (λ wants. filter (λ line. wants line.kind) lines) first.wants
 
   -- a journal that falls short of the rest falls short of the whole
@@ -81,16 +81,16 @@ module _ {V : Type 0} {X : V → Type 0} (journal : DynBox V Global X → Journa
       spent_more None h = tt
       spent_more (Some l) h = omega (arith, h)
 
-  goes_on : (line : JournalLineSeen) (due : List JournalLineSeen) (old between : DynBox V Global X) (n m : ℕ) (new : Slot V X) → HasTaken (journal old) (journal between) (line ∷ []) → m ≡ one_more n → HasTriedAll journal due between m new → HasTriedAll journal (line ∷ due) old n new
-  goes_on line due old between n m (Live new k) first counted rest = (taken_more (journal old) (journal between) (journal new) line due first rest.0, rest.1 ∙ ap (iterate one_more (length due)) counted)
-  goes_on line due old between n m (Dead k) first counted rest = short_more (journal old).left (journal between).left (length due) n m k first.left counted rest
+  goes_on : (line : JournalLineSeen) (due : List JournalLineSeen) (old between : DynBox V Global X) (n m : ℕ) (new : Slot V X) → HasTaken (shown_by journal old) (shown_by journal between) (line ∷ []) → m ≡ one_more n → HasTriedAll journal due between m new → HasTriedAll journal (line ∷ due) old n new
+  goes_on line due old between n m (Live new k) first counted rest = (taken_more (shown_by journal old) (shown_by journal between) (shown_by journal new) line due first rest.0, rest.1 ∙ ap (iterate one_more (length due)) counted)
+  goes_on line due old between n m (Dead k) first counted rest = short_more (shown_by journal old).left (shown_by journal between).left (length due) n m k first.left counted rest
 
-  wanted : (line : JournalLineSeen) (lines : List JournalLineSeen) (old : DynBox V Global X) (n : ℕ) (between new : Slot V X) → HasTried journal line old n between → TakesDue journal lines between new → HasTriedAll journal (line ∷ due_to (journal old) lines) old n new
-  wanted line lines old n (Live between m) new first rest = goes_on line (due_to (journal old) lines) old between n m new first.0 first.1 (rw (sym (same_dues old between line lines first.0)) rest)
+  wanted : (line : JournalLineSeen) (lines : List JournalLineSeen) (old : DynBox V Global X) (n : ℕ) (between new : Slot V X) → HasTried journal line old n between → TakesDue journal lines between new → HasTriedAll journal (line ∷ due_to (shown_by journal old) lines) old n new
+  wanted line lines old n (Live between m) new first rest = goes_on line (due_to (shown_by journal old) lines) old between n m new first.0 first.1 (rw (sym (same_dues old between line lines first.0)) rest)
   wanted line lines old n (Dead m) new first rest = rw rest (record { taken = 0; short = omega arith; counted = first.1; spent = first.0 })
 
   stays : (old : Slot V X) → TakesDue journal [] old old
-  stays (Live old n) = (taken_none (journal old), refl)
+  stays (Live old n) = (taken_none (shown_by journal old), refl)
   stays (Dead n) = refl
 
   -- line by line, a slot takes all that are due to it, or some
@@ -98,7 +98,7 @@ module _ {V : Type 0} {X : V → Type 0} (journal : DynBox V Global X → Journa
   takes_due [] old new none = rw (sym none) (stays old)
   takes_due (line ∷ lines) (Dead n) new h = takes_due lines (Dead n) new (rw (sym h.1) h.2)
   takes_due (line ∷ lines) (Live old n) new h =
-      elim ((journal old).wants line.kind) as (λ w. (journal old).wants line.kind ≡ w → HasTriedAll journal (cond w (line ∷ due_to (journal old) lines) (due_to (journal old) lines)) old n new) [
+      elim ((shown_by journal old).wants line.kind) as (λ w. (shown_by journal old).wants line.kind ≡ w → HasTriedAll journal (cond w (line ∷ due_to (shown_by journal old) lines) (due_to (shown_by journal old) lines)) old n new) [
         | true ↦ λ e. wanted line lines old n h.0 new (h.1.0 e) (takes_due lines h.0 new h.2)
         | false ↦ λ e. takes_due lines (Live old n) new (rw (sym (h.1.1 e)) h.2)
       ] refl
@@ -110,14 +110,14 @@ module _ {V : Type 0} {X : V → Type 0} (journal : DynBox V Global X → Journa
   each_takes_due lines (x ∷ xs) (y ∷ ys) h = (takes_due lines x y h.0, each_takes_due lines xs ys h.1)
 
   -- where a journal tells how many lines are left, its slot lives just where these are enough
-  pub lives_within : (due : List JournalLineSeen) (old new : DynBox V Global X) (n m left : ℕ) → (journal old).left ≡ Some left → HasTriedAll journal due old n (Live new m) → (length due ≤ left) × ((journal new).left ≡ Some (left - length due))
-  lives_within due old new n m left told tried = enough (journal new).left (tried.0.left ∙ told)
+  pub lives_within : (due : List JournalLineSeen) (old new : DynBox V Global X) (n m left : ℕ) → (shown_by journal old).left ≡ Some left → HasTriedAll journal due old n (Live new m) → (length due ≤ left) × ((shown_by journal new).left ≡ Some (left - length due))
+  lives_within due old new n m left told tried = enough (shown_by journal new).left (tried.0.left ∙ told)
     where
       enough : (rest : Option ℕ) → option_map (λ k. k + length due) rest ≡ Some left → (length due ≤ left) × (rest ≡ Some (left - length due))
       enough None h = absurd (cc)
       enough (Some k) h = let sum : k + length due ≡ left = ap (λ o. unwrap_or o 0) h in (omega (arith, sum), ap Some (omega (arith, sum)))
 
-  pub dies_beyond : (due : List JournalLineSeen) (old : DynBox V Global X) (n m left : ℕ) → (journal old).left ≡ Some left → HasTriedAll journal due old n (Dead m) → (left < length due) × (m ≡ iterate one_more left n)
+  pub dies_beyond : (due : List JournalLineSeen) (old : DynBox V Global X) (n m left : ℕ) → (shown_by journal old).left ≡ Some left → HasTriedAll journal due old n (Dead m) → (left < length due) × (m ≡ iterate one_more left n)
   dies_beyond due old n m left told short =
       let same : left ≡ short.taken = rw told at short.spent in
       (rw same short.short, rw same short.counted)

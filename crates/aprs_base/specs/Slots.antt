@@ -20,29 +20,34 @@ pub record FallsShort (left : Option ℕ) (due n m : ℕ) : Type 0 where
   pub counted : m ≡ iterate one_more taken n
   pub spent : IfSome left (λ n. n ≡ taken)
 
+-- A boxed journal is a method table of V and an object of the type that X gives for it; `journal` says what these show.
 module _ {V : Type 0} {X : V → Type 0} where
+  -- what the journal in a box shows
+  abbrev pub shown_by : ((v : V) × X v → JournalShown) → DynBox V Global X → JournalShown
+  shown_by journal box = journal (box.vtable, box.value)
+
   -- a live slot after a line that its journal wants: it took the line and counted it, or it failed and the slot is dead
-  abbrev pub HasTried : (DynBox V Global X → JournalShown) → JournalLineSeen → DynBox V Global X → ℕ → Slot V X → Type 0
-  HasTried journal line old n (Live new m) = HasTaken (journal old) (journal new) (line ∷ []) × (m ≡ one_more n)
-  HasTried journal line old n (Dead m) = IsSpent (journal old).left × (m ≡ n)
+  abbrev pub HasTried : ((v : V) × X v → JournalShown) → JournalLineSeen → DynBox V Global X → ℕ → Slot V X → Type 0
+  HasTried journal line old n (Live new m) = HasTaken (shown_by journal old) (shown_by journal new) (line ∷ []) × (m ≡ one_more n)
+  HasTried journal line old n (Dead m) = IsSpent (shown_by journal old).left × (m ≡ n)
 
   -- a slot after a line
-  abbrev pub TakesLine : (DynBox V Global X → JournalShown) → Slot V X → JournalLineSeen → Slot V X → Type 0
+  abbrev pub TakesLine : ((v : V) × X v → JournalShown) → Slot V X → JournalLineSeen → Slot V X → Type 0
   TakesLine journal (Live old n) line new =
-      (IsTrue ((journal old).wants line.kind) → HasTried journal line old n new)
-      × (IsFalse ((journal old).wants line.kind) → new ≡ Live old n)
+      (IsTrue ((shown_by journal old).wants line.kind) → HasTried journal line old n new)
+      × (IsFalse ((shown_by journal old).wants line.kind) → new ≡ Live old n)
   TakesLine journal (Dead n) line new = new ≡ Dead n
 
   -- a slot after lines, one by one
-  abbrev pub TakesLines : (DynBox V Global X → JournalShown) → List JournalLineSeen → Slot V X → Slot V X → Type 0
+  abbrev pub TakesLines : ((v : V) × X v → JournalShown) → List JournalLineSeen → Slot V X → Slot V X → Type 0
   TakesLines journal lines old new = FoldsTo (TakesLine journal) old lines new
 
   -- a live slot after the lines that are due to it: it took them all and counted them, or it is dead and took some of them
-  abbrev pub HasTriedAll : (DynBox V Global X → JournalShown) → List JournalLineSeen → DynBox V Global X → ℕ → Slot V X → Type 0
-  HasTriedAll journal due old n (Live new m) = HasTaken (journal old) (journal new) due × (m ≡ iterate one_more (length due) n)
-  HasTriedAll journal due old n (Dead m) = FallsShort (journal old).left (length due) n m
+  abbrev pub HasTriedAll : ((v : V) × X v → JournalShown) → List JournalLineSeen → DynBox V Global X → ℕ → Slot V X → Type 0
+  HasTriedAll journal due old n (Live new m) = HasTaken (shown_by journal old) (shown_by journal new) due × (m ≡ iterate one_more (length due) n)
+  HasTriedAll journal due old n (Dead m) = FallsShort (shown_by journal old).left (length due) n m
 
   -- a slot after lines, as a whole
-  abbrev pub TakesDue : (DynBox V Global X → JournalShown) → List JournalLineSeen → Slot V X → Slot V X → Type 0
-  TakesDue journal lines (Live old n) new = HasTriedAll journal (due_to (journal old) lines) old n new
+  abbrev pub TakesDue : ((v : V) × X v → JournalShown) → List JournalLineSeen → Slot V X → Slot V X → Type 0
+  TakesDue journal lines (Live old n) new = HasTriedAll journal (due_to (shown_by journal old) lines) old n new
   TakesDue journal lines (Dead n) new = new ≡ Dead n
