@@ -18,7 +18,8 @@ use Rattle.aprs_history.specs.declared.verdicts.Refusal.{Refusal}
 use Rattle.aprs_history.specs.Setting.{Setting, kind_at, peer_from}
 use Rattle.aprs_history.specs.Scenes.{datagram_scene, scene_of}
 use Rattle.aprs_history.specs.Verdicts.{Scene, submitter_of, verdict_of}
-use Rattle.aprs_history.specs.Trace.{Trace, Dated, FoundGone, RoundBegan, Said, Ticked, Brought, Roomed, Ended, ByPeer, moment_of, stopped_links, served_links, is_live}
+use Rattle.aprs_history.specs.Trace.{Trace, Dated, RoundBegan, Said, Ticked, Brought, Roomed, Ended, moment_of, stopped_links, served_links, is_live}
+use Rattle.aprs_history.specs.declared.verdicts.EndReason.TheVariants.{FoundGone, ByPeer}
 use Rattle.aprs_history.specs.Links.{brought_by, gone_links, is_blocked, late_links, late_reason, taken_by}
 use Rattle.link_queue.specs.Lines.{text_bytes}
 use Rattle.aprs_history.specs.Texts.{lines_of}

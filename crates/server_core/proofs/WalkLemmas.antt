@@ -23,7 +23,9 @@ use Rattle.aprs_history.specs.declared.verdicts.Verdict.TheVariants.{PassedOver,
 use Rattle.aprs_history.specs.Setting.{Setting}
 use Rattle.aprs_history.specs.declared.verdicts.Admission.{Admission}
 use Rattle.aprs_history.specs.declared.verdicts.Admission.TheVariants.{NoPort, NotAsked, TurnedAway, Served}
-use Rattle.aprs_history.specs.Trace.{Trace, Door, RoundBegan, Dated, Looked, Unjoined, Ticked, Opened, Brought, Said, Roomed, Took, Lost, Ended, EndReason, FoundGone, ByPeer, ByStop, Full, NoLogin, Overfull, Silent, Unasked, closed_links, is_closing, live_links, opened_link, placed, placed_all, stopped_link, stopped_links, served_links, turned_links, is_from, is_unasked, is_live, is_member, is_other, moment_of, last_moment}
+use Rattle.aprs_history.specs.Trace.{Trace, Door, RoundBegan, Dated, Looked, Unjoined, Ticked, Opened, Brought, Said, Roomed, Took, Lost, Ended, closed_links, is_closing, live_links, opened_link, placed, placed_all, stopped_link, stopped_links, served_links, turned_links, is_from, is_unasked, is_live, is_member, is_other, moment_of, last_moment}
+use Rattle.aprs_history.specs.declared.verdicts.EndReason.{EndReason}
+use Rattle.aprs_history.specs.declared.verdicts.EndReason.TheVariants.{FoundGone, ByPeer, ByStop, Full, NoLogin, Overfull, Silent, Unasked}
 use Rattle.aprs_history.specs.Links.{brought_by, has_filters, is_client, is_client_link, is_submitted, opening_of, taken_by, is_gone, gone_links, is_late, is_nameless, late_links, late_reason}
 use Rattle.aprs_history.specs.Scenes.{accepted_of, packet_of}
 use Rattle.aprs_history.specs.Messages.{heard_of, promise_of}

@@ -1,6 +1,7 @@
 //! Links that end.
 ghost use Rattle.std.specs.Prelude.{◌≡◌, ◌∷◌, ◌<◌, IsTrue, IfOk, OnOk, false, true, filter, take};
-ghost use Rattle.aprs_history.specs.Trace.{Trace, ByPeer, Ended, is_live, placed_all};
+ghost use Rattle.aprs_history.specs.Trace.{Trace, Ended, is_live, placed_all};
+ghost use Rattle.aprs_history.specs.declared.verdicts.EndReason.TheVariants.{ByPeer};
 ghost use Rattle.aprs_history.specs.Links.{late_links, late_reason};
 ghost use Rattle.aprs_history.specs.Stands.{Follows};
 ghost use Rattle.aprs_history.specs.History.{end_each, end_stopped, refused_links, refused_reason};
