@@ -1,12 +1,12 @@
 -- What becomes of slots by lines: piece by piece, and as a whole.
-use Rattle.std.proofs.Common.{◌≡◌, ℕ, zero, suc, ◌+◌, ◌≤◌, ◌<◌, ◌^◌, ◌-◌, min, true, false, Option, Some, None, List, [], ◌∷◌, ◌++◌, length, refl, ap, sym, cond, arith, ◌∙◌}
+use Rattle.std.proofs.Common.{◌≡◌, ℕ, zero, suc, ◌+◌, ◌≤◌, ◌<◌, ◌^◌, ◌-◌, min, true, false, Option, Some, None, List, [], ◌∷◌, ◌++◌, length, refl, ap, sym, cond, get_or, slice_set, take, drop, add-one, arith, ◌∙◌}
 use Rattle.std.specs.Prelude.{IfSome}
 use Rattle.std.specs.Fn.{iterate}
 use Rattle.std.specs.List.{AllZip, filter, flat_map}
 use Rattle.std.specs.Option.{option_map, unwrap_or}
 use Rattle.std.specs.declared.dyn_box.DynBox.{DynBox}
 use Rattle.std.specs.declared.alloc.Global.{Global}
-use Rattle.std.proofs.lemmas.List.{append_assoc, append-nil}
+use Rattle.std.proofs.lemmas.List.{append_assoc, append-nil, drop_all, take_all}
 use Rattle.aprs_base.specs.Outside.{one_more}
 use Rattle.aprs_base.specs.Journals.{HasTaken, JournalLineSeen, JournalShown, due_to, journal_text}
 use Rattle.aprs_base.specs.Slots.{FallsShort, HasTried, HasTriedAll, TakesDue, TakesLines, shown_by}
@@ -121,3 +121,34 @@ module _ {V : Type 0} {X : V → Type 0} (journal : (v : V) × X v → JournalSh
   dies_beyond due old n m left told short =
       let same : left ≡ short.taken = rw told at short.spent in
       (rw same short.short, rw same short.counted)
+
+-- in a list, the first n have gone on by a step, and the others are as before
+abbrev pub AreOnBy : {S : Type 0} → (S → S → Type 0) → ℕ → List S → List S → Type 0
+AreOnBy Step zero olds news = news ≡ olds
+AreOnBy Step (suc n) [] news = ⊥
+AreOnBy Step (suc n) (old ∷ olds) [] = ⊥
+AreOnBy Step (suc n) (old ∷ olds) (new ∷ news) = Step old new × AreOnBy Step n olds news
+
+pub one_more_on : {S : Type 0} (Step : S → S → Type 0) (n : ℕ) (olds news : List S) (new d : S) → n < length olds → AreOnBy Step n olds news → Step (get_or news n d) new → AreOnBy Step (n + 1) olds (slice_set news n new)
+one_more_on {S} Step n olds news new d within on step = rw add-one (next n olds news within on step)
+  where
+    next : (n : ℕ) (olds news : List S) → n < length olds → AreOnBy Step n olds news → Step (get_or news n d) new → AreOnBy Step (suc n) olds (slice_set news n new)
+    next zero [] news within on step = absurd (omega arith)
+    next zero (old ∷ olds) news within on step = rw on (rw on at step, refl)
+    next (suc n) [] news within on step = absurd (omega arith)
+    next (suc n) (old ∷ olds) [] within on step = elim on [ ]
+    next (suc n) (old ∷ olds) (y ∷ news) within on step = (on.0, next n olds news (omega arith) on.1 step)
+
+pub all_on : {S : Type 0} (Step : S → S → Type 0) (olds news : List S) → AreOnBy Step (length olds) olds news → AllZip Step olds news
+all_on Step [] news on = rw on tt
+all_on Step (old ∷ olds) [] on = elim on [ ]
+all_on Step (old ∷ olds) (new ∷ news) on = (on.0, all_on Step olds news on.1)
+
+-- what a vector holds after a step of each of its values, made in its slice
+pub all_written : {S : Type 0} (Step : S → S → Type 0) (len n : ℕ) (old given new : List S) → given ≡ old → len ≡ length old → length new ≡ length given → length given ≤ n → n ≤ length given → AreOnBy Step n given new → AllZip Step old (take len (new ++ drop (length new) old))
+all_written Step len n old given new same long size high low on =
+    let length_same : length given ≡ length old = ap length same in
+    let end : length given ≡ n = omega (arith, high, low) in
+    let none : drop (length new) old ≡ [] = drop_all (length new) old (omega (arith, size, length_same)) in
+    let back : take len (new ++ drop (length new) old) ≡ new = ap (λ more. take len (new ++ more)) none ∙ ap (take len) (append-nil new) ∙ take_all len new (omega (arith, size, length_same, long)) in
+    rw back (rw (sym same) (all_on Step given new (rw end on)))
