@@ -40,7 +40,7 @@ pub(crate) struct Outside {
 }
 
 impl Outside {
-    pub fn well(alloc: Global) -> Outside {
+    pub(crate) fn well(alloc: Global) -> Outside {
         Outside {
             takes: Vec::new(alloc),
             fail_listen: None,
@@ -64,7 +64,7 @@ pub(crate) struct Left {
 
 impl Left {
     /// All that a link took.
-    pub fn taken(&self, alloc: Global, number: u32) -> Result<Vec<u8>, Fail> {
+    pub(crate) fn taken(&self, alloc: Global, number: u32) -> Result<Vec<u8>, Fail> {
         let mut all = Vec::new(alloc);
         for happening in &self.done {
             if let Happening::Sent(link, bytes, Sent::Took(count)) = happening {
