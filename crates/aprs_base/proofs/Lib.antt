@@ -1,3 +1,4 @@
 pub mod CallLemmas
 pub mod CutLemmas
 pub mod PlaceLemmas
+pub mod SlotLemmas

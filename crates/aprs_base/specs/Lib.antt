@@ -1,10 +1,13 @@
 pub mod Bytes
 pub mod Cuts
 pub mod Held
+pub mod Journals
+pub mod MemJournals
 pub mod MemStores
 pub mod Outside
 pub mod PacketSeen
 pub mod PartsSeen
+pub mod Slots
 pub mod Stores
 pub mod UplinkSeen
 pub mod WireScript

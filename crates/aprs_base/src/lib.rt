@@ -4,16 +4,21 @@
 mod cutting;
 mod events;
 mod files;
+#[cfg(test)]
+mod journal_tests;
+mod journals;
 mod packets;
 mod sinks;
 #[cfg(test)]
 mod tests;
 mod texts;
+mod totals;
 mod wire;
 
 pub use cutting::{Cut, Cutter};
 pub use events::{Event, Happening, Sent, WireError, copy_event};
 pub use files::{FileError, Files, MemFile, MemFiles};
+pub use journals::{CountJournal, Journal, JournalLine, Kind, MemJournal, Slot};
 pub use packets::{
     Body, ListenSpec, Packet, Parts, Place, PortKind, Shared, Source, UplinkSpec, Via, copy_via,
 };
@@ -21,4 +26,5 @@ pub use sinks::{MemSink, Sink, SinkError};
 pub use texts::{
     Addr, Call, Chunk, Failed, Line, Memory, Text, Word9, copy_call, first_place, is_construct_text,
 };
+pub use totals::Totals;
 pub use wire::{MemWire, Take, Wire, WrongNumbers};

@@ -12,7 +12,8 @@ use Rattle.aprs_base.specs.declared.events.Happening.TheVariants as did
 use Rattle.aprs_history.specs.Setting.{Setting}
 use Rattle.aprs_history.specs.declared.verdicts.Admission.{Admission}
 use Rattle.aprs_history.specs.declared.verdicts.Admission.TheVariants.{NoPort, NotAsked, TurnedAway, Served}
-use Rattle.aprs_history.specs.Trace.{Trace, Entry, RoundBegan, Dated, Looked, Unjoined, Ticked, Opened, Brought, Said, Roomed, Took, Lost, Ended, ByStop, closed_links, is_member, is_other, live_links, opened_link, stopped_link, served_links, stopped_links}
+use Rattle.aprs_history.specs.Trace.{Trace, Entry, RoundBegan, Dated, Looked, Unjoined, Ticked, Opened, Brought, Said, Roomed, Took, Lost, Ended, closed_links, is_member, is_other, live_links, opened_link, stopped_link, served_links, stopped_links}
+use Rattle.aprs_history.specs.declared.verdicts.EndReason.TheVariants.{ByStop}
 use Rattle.aprs_history.specs.Dials.{CastSeen, casts_of, dial_of}
 use Rattle.aprs_history.specs.Texts.{untaken}
 use Rattle.aprs_history.specs.History.{History, admission, begun, end_all, end_each, end_stopped, ended, ends_round, greater_link, greatest_link, is_stop, is_stopped, joined_admission, open_events, refused_links, refused_reason, trace_of, with_event}

@@ -11,7 +11,9 @@ use Rattle.q_construct.specs.Rule.{process_of, given_drops, built_drops, built_r
 use Rattle.tnc2_line.specs.Packet.{parts_of, text_of, via_of, head_of}
 use Rattle.aprs_history.specs.Dates.{comment_text}
 use Rattle.aprs_history.specs.Setting.{Setting}
-use Rattle.aprs_history.specs.Trace.{Trace, Ended, EndReason, NoLogin, Silent, Overfull, Full, ByPeer, live_links}
+use Rattle.aprs_history.specs.Trace.{Trace, Ended, live_links}
+use Rattle.aprs_history.specs.declared.verdicts.EndReason.{EndReason}
+use Rattle.aprs_history.specs.declared.verdicts.EndReason.TheVariants.{NoLogin, Silent, Overfull, Full, ByPeer}
 use Rattle.aprs_history.specs.History.{History, trace_of}
 use Rattle.aprs_history.specs.Acts.{Closes, Offers, due}
 use Rattle.aprs_history.specs.Texts.{banner, lines_of}

@@ -21,7 +21,8 @@ use Rattle.aprs_history.specs.declared.verdicts.Verdict.TheVariants.{PassedOver,
 use Rattle.aprs_history.specs.Setting.{Setting}
 use Rattle.aprs_history.specs.declared.verdicts.Admission.{Admission}
 use Rattle.aprs_history.specs.declared.verdicts.Admission.TheVariants.{NoPort, NotAsked, TurnedAway, Served}
-use Rattle.aprs_history.specs.Trace.{Trace, Door, Entry, AtListener, ByUplink, RoundBegan, Dated, Looked, Unjoined, Ticked, Opened, Brought, Said, Roomed, Took, Lost, Ended, ByStop, is_from, is_member, is_other, live_links, moment_of, opened_link}
+use Rattle.aprs_history.specs.Trace.{Trace, Door, Entry, AtListener, ByUplink, RoundBegan, Dated, Looked, Unjoined, Ticked, Opened, Brought, Said, Roomed, Took, Lost, Ended, is_from, is_member, is_other, live_links, moment_of, opened_link}
+use Rattle.aprs_history.specs.declared.verdicts.EndReason.TheVariants.{ByStop}
 use Rattle.aprs_history.specs.Scenes.{accepted_of, packet_of}
 use Rattle.aprs_history.specs.Messages.{heard_after, heard_of}
 use Rattle.aprs_history.specs.History.{History, admission, begun, ends_round, greater_link, greatest_link, joined_admission, open_events, trace_of, with_event}

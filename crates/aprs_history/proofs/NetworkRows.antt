@@ -24,7 +24,8 @@ use Rattle.aprs_history.specs.declared.verdicts.Refusal.{Refusal}
 use Rattle.aprs_history.specs.declared.verdicts.Refusal.TheVariants as refusal
 use Rattle.aprs_history.specs.declared.verdicts.Verdict.TheVariants.{Refused}
 use Rattle.aprs_history.specs.Setting.{Setting}
-use Rattle.aprs_history.specs.Trace.{Trace, Said, Silent, Unasked, live_links}
+use Rattle.aprs_history.specs.Trace.{Trace, Said, live_links}
+use Rattle.aprs_history.specs.declared.verdicts.EndReason.TheVariants.{Silent, Unasked}
 use Rattle.aprs_history.specs.Dials.{CastSeen, casts_of}
 use Rattle.aprs_history.specs.History.{History, trace_of}
 use Rattle.aprs_history.specs.Acts.{Casts, Closes, Dials, IsRun, Listens, Offers, due}

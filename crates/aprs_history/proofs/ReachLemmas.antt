@@ -38,7 +38,8 @@ use Rattle.aprs_history.specs.declared.verdicts.Session.{Session}
 use Rattle.aprs_history.specs.declared.verdicts.Verdict.{Verdict}
 use Rattle.aprs_history.specs.declared.verdicts.Verdict.TheVariants.{PassedOver, Refused, LoggedIn, Filtered, Accepted}
 use Rattle.aprs_history.specs.Setting.{Peer, Setting}
-use Rattle.aprs_history.specs.Trace.{Trace, AtListener, ByUplink, Door, Entry, RoundBegan, Dated, Looked, Unjoined, Ticked, Opened, Brought, Said, Roomed, Took, Lost, Ended, ByStop, closed_links, is_from, is_live, moment_of}
+use Rattle.aprs_history.specs.Trace.{Trace, AtListener, ByUplink, Door, Entry, RoundBegan, Dated, Looked, Unjoined, Ticked, Opened, Brought, Said, Roomed, Took, Lost, Ended, closed_links, is_from, is_live, moment_of}
+use Rattle.aprs_history.specs.declared.verdicts.EndReason.TheVariants.{ByStop}
 use Rattle.aprs_history.specs.Links.{Opening, is_client, is_client_link, is_client_of, is_submitted, opening_by, opening_of, session_of, taken_by}
 use Rattle.aprs_history.specs.Verdicts.{Carrier, Scene, carried_verdict, is_comment, is_duplicate, packet_verdict, read_and_routed, routed, verdict_of}
 use Rattle.aprs_history.specs.Scenes.{packet_of, scene_of, speaker_by, speaker_of}

@@ -14,7 +14,9 @@ use Rattle.aprs_base.specs.declared.events.Happening.TheVariants as did
 use Rattle.aprs_history.specs.declared.verdicts.LinkKind.TheVariants.{Uplink}
 use Rattle.aprs_history.specs.declared.verdicts.Verdict.TheVariants.{Accepted}
 use Rattle.aprs_history.specs.Setting.{Setting}
-use Rattle.aprs_history.specs.Trace.{Trace, Entry, EndReason, ByPeer, FoundGone, NoLogin, Silent, Overfull, Full, Unasked, ByStop, RoundBegan, Said, Ended, is_closing, is_member, is_unasked, moment_of, turned_links}
+use Rattle.aprs_history.specs.Trace.{Trace, Entry, RoundBegan, Said, Ended, is_closing, is_member, is_unasked, moment_of, turned_links}
+use Rattle.aprs_history.specs.declared.verdicts.EndReason.{EndReason}
+use Rattle.aprs_history.specs.declared.verdicts.EndReason.TheVariants.{ByPeer, FoundGone, NoLogin, Silent, Overfull, Full, Unasked, ByStop}
 use Rattle.aprs_history.specs.Links.{is_gone, is_nameless, is_silent, is_submitted, opening_of}
 use Rattle.aprs_history.specs.Scenes.{packet_of}
 use Rattle.link_queue.specs.Lines.{ended_line, text_bytes}

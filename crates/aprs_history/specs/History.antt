@@ -25,7 +25,9 @@ use Rattle.aprs_history.specs.declared.verdicts.LinkKind.TheVariants.{Client, Up
 use Rattle.aprs_history.specs.declared.verdicts.Refusal.{Refusal}
 use Rattle.aprs_history.specs.declared.verdicts.Refusal.TheVariants as refusal
 use Rattle.aprs_history.specs.declared.verdicts.Verdict.TheVariants.{Refused}
-use Rattle.aprs_history.specs.Trace.{Trace, Entry, EndReason, ByPeer, FoundGone, Overfull, Full, Unasked, ByStop, AtListener, ByUplink, RoundBegan, Dated, Looked, Unjoined, Ticked, Opened, Brought, Said, Roomed, Took, Lost, Ended, live_links, is_live, is_member, is_unasked, moment_of, placed_all, turned_links}
+use Rattle.aprs_history.specs.Trace.{Trace, Entry, AtListener, ByUplink, RoundBegan, Dated, Looked, Unjoined, Ticked, Opened, Brought, Said, Roomed, Took, Lost, Ended, live_links, is_live, is_member, is_unasked, moment_of, placed_all, turned_links}
+use Rattle.aprs_history.specs.declared.verdicts.EndReason.{EndReason}
+use Rattle.aprs_history.specs.declared.verdicts.EndReason.TheVariants.{ByPeer, FoundGone, Overfull, Full, Unasked, ByStop}
 use Rattle.aprs_history.specs.Links.{brought_by, client_links, gone_links, late_links, late_reason}
 use Rattle.aprs_history.specs.Scenes.{datagram_scene, scene_of}
 use Rattle.aprs_history.specs.Dials.{uplinks_of}

@@ -2,6 +2,7 @@ pub mod Acts
 pub mod Dates
 pub mod Headline
 pub mod History
+pub mod Journal
 pub mod Keys
 pub mod Links
 pub mod MessageRule

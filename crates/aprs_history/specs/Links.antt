@@ -14,7 +14,9 @@ use Rattle.aprs_history.specs.declared.verdicts.Admission.TheVariants.{NoPort, N
 use Rattle.aprs_history.specs.declared.verdicts.LinkKind.{LinkKind}
 use Rattle.aprs_history.specs.declared.verdicts.LinkKind.TheVariants.{Client, Uplink}
 use Rattle.aprs_history.specs.Setting.{Setting, is_filter_kind}
-use Rattle.aprs_history.specs.Trace.{Trace, Opened, Brought, Said, Roomed, Took, Lost, EndReason, NoLogin, Silent, moment_of, is_from, is_live, live_links}
+use Rattle.aprs_history.specs.Trace.{Trace, Opened, Brought, Said, Roomed, Took, Lost, moment_of, is_from, is_live, live_links}
+use Rattle.aprs_history.specs.declared.verdicts.EndReason.{EndReason}
+use Rattle.aprs_history.specs.declared.verdicts.EndReason.TheVariants.{NoLogin, Silent}
 
 -- a link's opening: what it is, where it came from, and when
 pub record Opening : Type 0 where

@@ -7,21 +7,9 @@ use Rattle.aprs_base.specs.declared.packets.Source.{Source}
 use Rattle.aprs_base.specs.declared.packets.Source.TheVariants as source
 use Rattle.aprs_history.specs.declared.verdicts.Admission.{Admission}
 use Rattle.aprs_history.specs.declared.verdicts.Admission.TheVariants.{NoPort, NotAsked, Served, TurnedAway}
+use Rattle.aprs_history.specs.declared.verdicts.EndReason.{EndReason}
+use Rattle.aprs_history.specs.declared.verdicts.EndReason.TheVariants.{ByPeer, FoundGone, NoLogin, Silent, Overfull, Full, Unasked, ByStop}
 use Rattle.aprs_history.specs.declared.verdicts.Verdict.{Verdict}
-
--- why a link ended
-pub data EndReason : Type 0 where
-  ByPeer : EndReason
-  FoundGone : EndReason
-  -- it hasn't logged in for too long, or brought no bytes
-  NoLogin : EndReason
-  Silent : EndReason
-  -- it takes its text too slowly
-  Overfull : EndReason
-  -- it was turned away, or nobody had asked for it
-  Full : EndReason
-  Unasked : EndReason
-  ByStop : EndReason
 
 -- where a link comes from: it was opened at a listener, or an uplink has joined
 pub data Door : Type 0 where

@@ -35,6 +35,26 @@ pub enum Admission {
     Served(LinkKind),
 }
 
+/// Why a link ended.
+#[derive(Clone, Copy, PartialEq, Eq, Debug)]
+pub enum EndReason {
+    /// The other side ended it.
+    ByPeer,
+    /// A send found it gone.
+    FoundGone,
+    /// It has not logged in for too long.
+    NoLogin,
+    /// It has brought no bytes for too long.
+    Silent,
+    /// It takes its text too slowly.
+    Overfull,
+    /// It was turned away, as many clients as may were there.
+    Full,
+    /// Nobody had asked for it.
+    Unasked,
+    ByStop,
+}
+
 /// Why a line is refused.
 #[derive(Clone, PartialEq, Eq, Debug, Drop)]
 pub enum Refusal {

@@ -1,0 +1,12 @@
+//! The lines of the journal: one for each refusal, each loop, and each step of a session.
+#![tactic(auto)]
+
+mod lines;
+mod names;
+#[cfg(test)]
+mod tests;
+mod writing;
+
+pub use lines::{
+    end_line, filter_line, join_line, login_line, open_line, refusal_line, unjoined_line,
+};
