@@ -24,7 +24,8 @@ use Rattle.aprs_history.specs.Scenes.{datagram_scene, logins_of, others_of, scen
 use Rattle.aprs_history.specs.Verdicts.{Visitor, verdict_of}
 use Rattle.aprs_history.specs.declared.verdicts.Admission.{Admission}
 use Rattle.aprs_history.specs.declared.verdicts.Admission.TheVariants.{NoPort, NotAsked, Served, TurnedAway}
-use Rattle.aprs_history.specs.Trace.{Trace, AtListener, ByUplink, Dated, Looked, Unjoined, FoundGone, RoundBegan, Ticked, Opened, Brought, Said, Roomed, Ended, ByPeer, is_live, is_member, is_other, live_links, moment_of, placed_all, stopped_links, last_moment}
+use Rattle.aprs_history.specs.Trace.{Trace, AtListener, ByUplink, Dated, Looked, Unjoined, RoundBegan, Ticked, Opened, Brought, Said, Roomed, Ended, is_live, is_member, is_other, live_links, moment_of, placed_all, stopped_links, last_moment}
+use Rattle.aprs_history.specs.declared.verdicts.EndReason.TheVariants.{FoundGone, ByPeer}
 use Rattle.aprs_history.specs.Links.{client_links, is_client_link, session_of, opening_of, brought_by, gone_links, late_links, late_reason}
 use Rattle.aprs_history.specs.Dates.{comment_text}
 use Rattle.aprs_history.specs.History.{admission, admitted, joined_admission, refuse_datagram, begin_round, comment_seconds, dated, end_each, end_stopped, refused_links, refused_reason}
@@ -111,7 +112,7 @@ module _ (core : CoreMeaning) (t : Trace) (walks : Walks core t) where
   others_now number = ap (others_at number) live_now ∙ others_seen (setting_of core.conf) t number (live_links t)
 
   -- a line of a link that lives meets what the trace says
-  scene_now : (number : ℕ) → is_live t number ≡ true → scene_at core number ≡ scene_of (setting_of core.conf) t number
+  pub scene_now : (number : ℕ) → is_live t number ≡ true → scene_at core number ≡ scene_of (setting_of core.conf) t number
   scene_now number live =
       ap (λ speaker. record (scene_at core number) { speaker = speaker }) (speaker_now number live)
       ∙ ap (λ others. record (scene_of (setting_of core.conf) t number) { others = others; moment = core.seen.moment; accepted = core.seen.accepted }) (others_now number)
@@ -119,7 +120,7 @@ module _ (core : CoreMeaning) (t : Trace) (walks : Walks core t) where
       ∙ ap (λ accepted. record (scene_of (setting_of core.conf) t number) { accepted = accepted }) walks.follows.tables.accepted
 
   -- and so does a line of a datagram
-  carried_now : (origin : Origin) → carried_at origin core ≡ datagram_scene (setting_of core.conf) origin t
+  pub carried_now : (origin : Origin) → carried_at origin core ≡ datagram_scene (setting_of core.conf) origin t
   carried_now origin =
       ap (λ others. record (carried_at origin core) { others = others }) (ap logins_at live_now ∙ logins_seen (setting_of core.conf) t (live_links t))
       ∙ ap (λ moment. record (datagram_scene (setting_of core.conf) origin t) { moment = moment; accepted = core.seen.accepted }) walks.follows.moment
@@ -333,10 +334,10 @@ walks_ticked core t walks m moment links is new =
 
 -- a core stays sound as a link comes
 pub kept_above : (core : CoreMeaning) (k : ℕ) → IsKept core → core.seen.greatest < k → k < 2 ^ 32 → IsKept (record core { seen = record core.seen { greatest = k } })
-kept_above core k kept above small = record { rising = rises_to 0 core.seen.greatest k (numbers core.seen.links) kept.rising (omega arith); small = small; station = kept.station; group = kept.group }
+kept_above core k kept above small = record { rising = rises_to 0 core.seen.greatest k (numbers core.seen.links) kept.rising (omega arith); small = small; station = kept.station; group = kept.group; few = kept.few }
 
 pub kept_turned : (core : CoreMeaning) (turned : List ℕ) → IsKept core → IsKept (record core { seen = record core.seen { turned = turned } })
-kept_turned core turned kept = record { rising = kept.rising; small = kept.small; station = kept.station; group = kept.group }
+kept_turned core turned kept = record { rising = kept.rising; small = kept.small; station = kept.station; group = kept.group; few = kept.few }
 
 pub kept_links : (core : CoreMeaning) (links : List LinkSeen) → links ≡ core.seen.links → IsKept core → IsKept (record core { seen = record core.seen { links = links } })
 kept_links core links same kept = subst (λ ls. IsKept (record core { seen = record core.seen { links = ls } })) (sym same) kept
@@ -350,6 +351,7 @@ kept_pushed core k link links kept above small is new =
       small = small;
       station = kept.station;
       group = kept.group;
+      few = kept.few;
     }
 
 -- some links leave
@@ -360,6 +362,7 @@ kept_left core keep links heard reach turned closing left kept = record {
   small = kept.small;
   station = kept.station;
   group = kept.group;
+  few = kept.few;
 }
 
 -- one link changes
@@ -370,6 +373,7 @@ kept_at core number step links same changed kept = record {
   small = kept.small;
   station = kept.station;
   group = kept.group;
+  few = kept.few;
 }
 
 -- ---- links end

@@ -20,7 +20,8 @@ use Rattle.aprs_history.specs.declared.verdicts.LinkKind.{LinkKind}
 use Rattle.aprs_history.specs.declared.verdicts.LinkKind.TheVariants.{Client, Uplink}
 use Rattle.aprs_history.specs.declared.verdicts.Admission.{Admission}
 use Rattle.aprs_history.specs.declared.verdicts.Admission.TheVariants.{Served}
-use Rattle.aprs_history.specs.Trace.{Door, EndReason, Ended, Opened, Said, opened_link, Trace, is_from, is_live, is_member, is_other, live_links, moment_of}
+use Rattle.aprs_history.specs.Trace.{Door, Ended, Opened, Said, opened_link, Trace, is_from, is_live, is_member, is_other, live_links, moment_of}
+use Rattle.aprs_history.specs.declared.verdicts.EndReason.{EndReason}
 use Rattle.aprs_history.specs.Links.{Opening, has_filters, is_client, is_client_link, is_client_of, is_filter_of, opening_by, opening_of}
 use Rattle.aprs_history.specs.Scenes.{packet_of}
 use Rattle.aprs_history.specs.Messages.{has_heard, heard_of, is_message, is_owed, is_position, is_to_heard, promise_after, promise_of, promises}
