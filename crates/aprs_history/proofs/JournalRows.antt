@@ -12,11 +12,8 @@ use Rattle.aprs_base.specs.declared.packets.PortKind.TheVariants as port
 use Rattle.aprs_body.specs.Bodies.{body_of}
 use Rattle.login_pass.specs.Login.{login_of}
 use Rattle.login_pass.specs.Passcode.{passcode_of}
-use Rattle.login_pass.specs.declared.login_line.LoginFault.TheVariants as login_fault
 use Rattle.q_construct.specs.Rule.{process_of, given_drops, built_drops, built_row, rows}
-use Rattle.q_construct.specs.declared.drops.QDrop.TheVariants as drop_for
 use Rattle.tnc2_line.specs.Packet.{parts_of, text_of, via_of, head_of}
-use Rattle.tnc2_line.specs.declared.reading.LineFault.TheVariants as line_fault
 use Rattle.aprs_history.specs.Setting.{Setting}
 use Rattle.aprs_history.specs.History.{History, trace_of}
 use Rattle.aprs_history.specs.Journal.{journal_of, line_of}
@@ -71,7 +68,7 @@ sessions_of_two = refl
 
 -- a round that isn't finished has no lines yet
 unfinished : journal_of setting two_clients ≡ []
-unfolding setting two_clients listening
+unfolding trace_of setting two_clients listening
 unfinished = refl
 
 -- a link that a send found gone ends as the next round begins, before its tick
@@ -134,10 +131,10 @@ unjoined : journal_of setting (at_moment 1001 ∷ did.Event (event.Unjoined 0) �
 unfolding trace_of setting dialling listening digits
 unjoined = refl
 
--- nobody had asked for the link
-unasked : journal_of setting (at_moment 1001 ∷ did.Event (event.Joined 0 1 uplink) ∷ at_moment 1000 ∷ listening)
-    ≡ step 1000 (codes "join 1 0") ∷ step 1001 (codes "end 1 unasked") ∷ []
-unfolding trace_of setting listening digits
+-- nobody had asked for the link: another uplink is being dialled
+unasked : journal_of setting (at_moment 1001 ∷ did.Event (event.Joined 1 1 uplink) ∷ dialling)
+    ≡ step 1000 (codes "join 1 1") ∷ step 1001 (codes "end 1 unasked") ∷ []
+unfolding trace_of setting dialling listening digits
 unasked = refl
 
 -- ---- datagrams

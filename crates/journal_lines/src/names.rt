@@ -3,6 +3,7 @@ ghost use Rattle.std.specs.Prelude.{◌≡◌, ◌++◌, ◌+◌, ◌≤◌, len
 ghost use Rattle.aprs_history.specs.Journal.{login_name, mark_name, packet_name, path_name, reason_name};
 
 use crate::writing::{append, append_number};
+use aprs_base::Call;
 use aprs_history::EndReason;
 use arrayvec::ArrayVec;
 use login_pass::LoginFault;
@@ -66,6 +67,15 @@ pub(crate) fn append_packet_name(text: &mut ArrayVec<u8, 48>, fault: LineFault)
     }
 }
 
+/// A name that ends in a call.
+fn append_call_name(text: &mut ArrayVec<u8, 48>, word: &[u8], call: &Call)
+    requires { length text.old.items + length word.now ≤ 39 }
+    ensures { text.new.items ≡ text.old.items ++ (word.now ++ call.now) }
+{
+    append(text, word);
+    append(text, call.bytes());
+}
+
 pub(crate) fn append_path_name(text: &mut ArrayVec<u8, 48>, why: &QDrop)
     requires { length text.old.items ≤ 25 }
     ensures { text.new.items ≡ text.old.items ++ path_name why.now }
@@ -77,14 +87,8 @@ pub(crate) fn append_path_name(text: &mut ArrayVec<u8, 48>, why: &QDrop)
         QDrop::Query => append(text, b"query"),
         QDrop::QAZ => append(text, b"qaz"),
         QDrop::NamesServer => append(text, b"names-server"),
-        QDrop::Twice(call) => {
-            append(text, b"twice ");
-            append(text, call.bytes());
-        }
-        QDrop::OtherLogin(call) => {
-            append(text, b"other-login ");
-            append(text, call.bytes());
-        }
+        QDrop::Twice(call) => append_call_name(text, b"twice ", call),
+        QDrop::OtherLogin(call) => append_call_name(text, b"other-login ", call),
         QDrop::LoginNotLast => append(text, b"login-not-last"),
         QDrop::Long => append(text, b"too-long"),
     }

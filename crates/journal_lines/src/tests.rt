@@ -1,7 +1,5 @@
 //! The lines as operators read them.
-use crate::{
-    end_line, filter_line, join_line, login_line, open_line, refusal_line, unjoined_line,
-};
+use crate::{end_line, filter_line, join_line, login_line, open_line, refusal_line, unjoined_line};
 use aprs_base::{Call, JournalLine, Kind, Source};
 use aprs_history::{EndReason, Refusal, Session};
 use login_pass::LoginFault;
@@ -65,51 +63,51 @@ fn refusals<R: Abort>(rt: &R) -> [(Refusal, Kind, &'static [u8]); 9] {
 }
 
 #[test]
-fn refusals_have_their_names<R: Abort>(rt: &R) {
-    for (refusal, kind, text) in refusals(rt) {
+fn refusals_have_their_names(rt: HostRuntime) {
+    for (refusal, kind, text) in refusals(&rt) {
         let line = refusal_line(3, &Source::Link(7), 1000, &refusal);
-        tells(rt, &line, kind, text);
+        tells(&rt, &line, kind, text);
     }
 }
 
 #[test]
-fn datagrams_have_their_listener<R: Abort>(rt: &R) {
+fn datagrams_have_their_listener(rt: HostRuntime) {
     let submitted = refusal_line(3, &Source::Submit(2), 1000, &Refusal::OwnName);
-    tells(rt, &submitted, Kind::Refusal, b"refused u2 own-name");
+    tells(&rt, &submitted, Kind::Refusal, b"refused u2 own-name");
     let peer = refusal_line(3, &Source::Peer(0), 1000, &Refusal::Path(QDrop::NoGate));
-    tells(rt, &peer, Kind::Refusal, b"refused u3 no-gate");
+    tells(&rt, &peer, Kind::Refusal, b"refused u3 no-gate");
 }
 
 #[test]
-fn sessions_have_their_steps<R: Abort>(rt: &R) {
+fn sessions_have_their_steps(rt: HostRuntime) {
     let last = u32::MAX;
     let from = Source::Link(last);
     let session = Session {
-        call: call(rt, b"OH7LZB-10"),
+        call: call(&rt, b"OH7LZB-10"),
         verified: false,
     };
     tells(
-        rt,
+        &rt,
         &login_line(3, &from, 1000, &session),
         Kind::Session,
         b"login 4294967295 OH7LZB-10 unverified",
     );
     tells(
-        rt,
+        &rt,
         &filter_line(3, &from, 1000),
         Kind::Refusal,
         b"refused 4294967295 filter",
     );
     tells(
-        rt,
+        &rt,
         &open_line(1000, last, 65_535),
         Kind::Session,
         b"open 4294967295 65535",
     );
-    tells(rt, &join_line(1000, 1, 0), Kind::Session, b"join 1 0");
-    tells(rt, &unjoined_line(1000, 7), Kind::Session, b"unjoined 7");
+    tells(&rt, &join_line(1000, 1, 0), Kind::Session, b"join 1 0");
+    tells(&rt, &unjoined_line(1000, 7), Kind::Session, b"unjoined 7");
     tells(
-        rt,
+        &rt,
         &end_line(1000, 2, EndReason::Overfull),
         Kind::Session,
         b"end 2 overfull",

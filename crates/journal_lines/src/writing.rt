@@ -7,7 +7,6 @@ use aprs_base::Source;
 use arrayvec::ArrayVec;
 use itoa::Buffer;
 
-
 pub(crate) fn append(text: &mut ArrayVec<u8, 48>, bytes: &[u8])
     requires { length text.old.items + length bytes.now ≤ 48 }
     ensures { text.new.items ≡ text.old.items ++ bytes.now }
