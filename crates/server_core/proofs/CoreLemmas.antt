@@ -10,6 +10,7 @@ use Rattle.aprs_base.specs.declared.packets.PortKind.TheVariants as port
 use Rattle.aprs_base.specs.declared.packets.Source.{Source}
 use Rattle.aprs_base.specs.declared.packets.Source.TheVariants as source
 use Rattle.q_construct.specs.declared.origins.Origin.{Origin}
+use Rattle.q_construct.specs.declared.origins.Origin.TheVariants as sender
 use Rattle.uplinks_peers.specs.declared.uplinks.UpEvent.TheVariants as up
 use Rattle.uplinks_peers.specs.Uplinks.{acts_at, uplinks_after}
 use Rattle.aprs_history.specs.Dials.{uplinks_of}
@@ -28,7 +29,7 @@ use Rattle.aprs_history.specs.Trace.{Trace, AtListener, ByUplink, Dated, Looked,
 use Rattle.aprs_history.specs.declared.verdicts.EndReason.TheVariants.{FoundGone, ByPeer}
 use Rattle.aprs_history.specs.Links.{client_links, is_client_link, session_of, opening_of, brought_by, gone_links, late_links, late_reason}
 use Rattle.aprs_history.specs.Dates.{comment_text}
-use Rattle.aprs_history.specs.History.{admission, admitted, joined_admission, refuse_datagram, begin_round, comment_seconds, dated, end_each, end_stopped, refused_links, refused_reason}
+use Rattle.aprs_history.specs.History.{admission, admitted, joined_admission, refuse_datagram, begin_round, comment_seconds, dated, end_each, end_stopped, refused_links, refused_reason, relay, say_all}
 use Rattle.aprs_history.specs.Stands.{LinkSeen, CoreSeen, ReachSeen, link_seen, Follows}
 use Rattle.server_core.specs.LinkSteps.{at_link, has_that, has_number, is_in_time, is_late_link, is_none_of, is_overfull, is_there, is_another, with_room, with_bytes, numbers, Rises, IsDatagram, admitted_in, joined_outcome, client_kept, clients_in, ended_all, held_at, held_kept, logins_at, speaker_at, speaker_kept, with_date, others_at, at_moment, forgotten_all, is_lost}
 use Rattle.heard_routing.specs.Heard.{HeardSeen, without_link}
@@ -209,6 +210,14 @@ walks_carried core t walks from origin cut datagram =
     let same : verdict ≡ verdict_of (datagram_scene (setting_of core.conf) origin t) cut = ap (λ scene. verdict_of scene cut) (carried_now core t walks origin) in
     subst (λ judged. Walks (with_verdict from verdict core) (Said from cut judged ∷ t)) same
     (record { follows = follows_said (setting_of core.conf) core.seen t walks.follows walks.going from cut verdict (said_by t from datagram); going = walks.going })
+
+-- the lines of a peer's datagram
+pub relayed_as : (s : Setting) (listener : ℕ) (first : Cut) (more cuts : List Cut) (peer : ℕ) (call : List ℕ) (origin : Origin) (found : Option (ℕ × List ℕ)) (t : Trace)
+    → cuts ≡ first ∷ more → origin ≡ sender.Peer call → found ≡ Some (peer, call) → say_all (datagram_scene s origin) (source.Peer peer) cuts t ≡ relay s listener first more found t
+relayed_as s listener first more cuts peer call origin found t are from is =
+    ap (λ cs. say_all (datagram_scene s origin) (source.Peer peer) cs t) are
+    ∙ ap (λ (o : Origin). say_all (datagram_scene s o) (source.Peer peer) (first ∷ more) t) from
+    ∙ ap (λ (f : Option (ℕ × List ℕ)). relay s listener first more f t) (sym is)
 
 -- a datagram that is refused whole
 pub walks_unread : (core : CoreMeaning) (t : Trace) → Walks core t → (listener : ℕ) (cut : Cut) (why : Refusal)

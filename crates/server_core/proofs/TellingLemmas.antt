@@ -1,5 +1,5 @@
 -- What a round tells the journals, and the lines of its trace.
-use Rattle.std.proofs.Common.{◌≡◌, ℕ, ◌/◌, Bool, true, false, nat_lt, List, [], ◌∷◌, ◌++◌, map, filter, refl, sym, ap, ◌∙◌, None, subst, append-nil, append_assoc, ⊎_elim, if◌then◌else◌}
+use Rattle.std.proofs.Common.{◌≡◌, ℕ, ◌/◌, Bool, true, false, nat_lt, List, [], ◌∷◌, ◌++◌, map, filter, refl, sym, ap, ◌∙◌, Option, None, subst, append-nil, append_assoc, ⊎_elim, if◌then◌else◌}
 use Rattle.std.proofs.lemmas.Bool.{cases_Bool}
 use Rattle.aprs_base.specs.Cuts.{cuts_by}
 use Rattle.aprs_base.specs.Journals.{JournalLineSeen}
@@ -9,6 +9,7 @@ use Rattle.aprs_base.specs.declared.packets.Source.{Source}
 use Rattle.aprs_base.specs.declared.packets.Source.TheVariants as source
 use Rattle.aprs_base.specs.declared.texts.Addr.{Addr}
 use Rattle.q_construct.specs.declared.origins.Origin.{Origin}
+use Rattle.uplinks_peers.specs.Uplinks.{is_dialled}
 use Rattle.aprs_history.specs.declared.verdicts.Admission.{Admission}
 use Rattle.aprs_history.specs.declared.verdicts.EndReason.{EndReason}
 use Rattle.aprs_history.specs.declared.verdicts.EndReason.TheVariants.{ByPeer, FoundGone, Overfull, Full, Unasked, ByStop}
@@ -21,7 +22,7 @@ use Rattle.aprs_history.specs.Links.{brought_by, gone_links, is_gone, is_late, l
 use Rattle.aprs_history.specs.Scenes.{datagram_scene, scene_of}
 use Rattle.aprs_history.specs.Verdicts.{verdict_of}
 use Rattle.aprs_history.specs.History.{admission, admitted, begin_round, bring, comment_seconds, dated, end_each, end_stopped, joined_admission, refuse_datagram, refused_links, refused_reason, say_all, with_bytes_of, with_tick}
-use Rattle.aprs_history.specs.Journal.{end_line, entry_lines, group_of, join_line, label, opening_lines, round_lines, unjoined_lines, verdict_lines}
+use Rattle.aprs_history.specs.Journal.{end_line, entry_lines, group_of, join_line, label, opening_lines, round_lines, unjoined_line, unjoined_lines, verdict_lines}
 use Rattle.aprs_history.specs.Stands.{ReachSeen, link_seen}
 use Rattle.server_core.specs.LinkSteps.{clients_in, has_number, is_late_link, is_lost, is_overfull, numbers}
 use Rattle.aprs_history.specs.Trace.{placed_all}
@@ -73,6 +74,10 @@ tells_tick s moment t old new told =
     let last = dated (moment_of t) ends in
     tells_then s t now (Looked ∷ last) old old new (tells_ticked s moment t old)
     (tells_then s now ends (Looked ∷ last) old new new told (tells_then s ends last (Looked ∷ last) new new new (tells_dated s (moment_of t) ends new) (tells_looked s last new)))
+
+-- the line of a dial that came to nothing
+pub dialled_lines : (dialled : Option ℕ) (m uplink : ℕ) → is_dialled uplink dialled ≡ true → unjoined_line m uplink ∷ [] ≡ unjoined_lines dialled m uplink
+dialled_lines dialled m uplink is = ap (λ b. if b then unjoined_line m uplink ∷ [] else []) (sym is)
 
 -- ---- links end
 
