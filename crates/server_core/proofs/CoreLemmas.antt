@@ -10,6 +10,7 @@ use Rattle.aprs_base.specs.declared.packets.PortKind.TheVariants as port
 use Rattle.aprs_base.specs.declared.packets.Source.{Source}
 use Rattle.aprs_base.specs.declared.packets.Source.TheVariants as source
 use Rattle.q_construct.specs.declared.origins.Origin.{Origin}
+use Rattle.q_construct.specs.declared.origins.Origin.TheVariants as sender
 use Rattle.uplinks_peers.specs.declared.uplinks.UpEvent.TheVariants as up
 use Rattle.uplinks_peers.specs.Uplinks.{acts_at, uplinks_after}
 use Rattle.aprs_history.specs.Dials.{uplinks_of}
@@ -28,7 +29,7 @@ use Rattle.aprs_history.specs.Trace.{Trace, AtListener, ByUplink, Dated, Looked,
 use Rattle.aprs_history.specs.declared.verdicts.EndReason.TheVariants.{FoundGone, ByPeer}
 use Rattle.aprs_history.specs.Links.{client_links, is_client_link, session_of, opening_of, brought_by, gone_links, late_links, late_reason}
 use Rattle.aprs_history.specs.Dates.{comment_text}
-use Rattle.aprs_history.specs.History.{admission, admitted, joined_admission, refuse_datagram, begin_round, comment_seconds, dated, end_each, end_stopped, refused_links, refused_reason}
+use Rattle.aprs_history.specs.History.{admission, admitted, joined_admission, refuse_datagram, begin_round, comment_seconds, dated, end_each, end_stopped, refused_links, refused_reason, relay, say_all}
 use Rattle.aprs_history.specs.Stands.{LinkSeen, CoreSeen, ReachSeen, link_seen, Follows}
 use Rattle.server_core.specs.LinkSteps.{at_link, has_that, has_number, is_in_time, is_late_link, is_none_of, is_overfull, is_there, is_another, with_room, with_bytes, numbers, Rises, IsDatagram, admitted_in, joined_outcome, client_kept, clients_in, ended_all, held_at, held_kept, logins_at, speaker_at, speaker_kept, with_date, others_at, at_moment, forgotten_all, is_lost}
 use Rattle.heard_routing.specs.Heard.{HeardSeen, without_link}
@@ -112,7 +113,7 @@ module _ (core : CoreMeaning) (t : Trace) (walks : Walks core t) where
   others_now number = ap (others_at number) live_now ∙ others_seen (setting_of core.conf) t number (live_links t)
 
   -- a line of a link that lives meets what the trace says
-  scene_now : (number : ℕ) → is_live t number ≡ true → scene_at core number ≡ scene_of (setting_of core.conf) t number
+  pub scene_now : (number : ℕ) → is_live t number ≡ true → scene_at core number ≡ scene_of (setting_of core.conf) t number
   scene_now number live =
       ap (λ speaker. record (scene_at core number) { speaker = speaker }) (speaker_now number live)
       ∙ ap (λ others. record (scene_of (setting_of core.conf) t number) { others = others; moment = core.seen.moment; accepted = core.seen.accepted }) (others_now number)
@@ -120,7 +121,7 @@ module _ (core : CoreMeaning) (t : Trace) (walks : Walks core t) where
       ∙ ap (λ accepted. record (scene_of (setting_of core.conf) t number) { accepted = accepted }) walks.follows.tables.accepted
 
   -- and so does a line of a datagram
-  carried_now : (origin : Origin) → carried_at origin core ≡ datagram_scene (setting_of core.conf) origin t
+  pub carried_now : (origin : Origin) → carried_at origin core ≡ datagram_scene (setting_of core.conf) origin t
   carried_now origin =
       ap (λ others. record (carried_at origin core) { others = others }) (ap logins_at live_now ∙ logins_seen (setting_of core.conf) t (live_links t))
       ∙ ap (λ moment. record (datagram_scene (setting_of core.conf) origin t) { moment = moment; accepted = core.seen.accepted }) walks.follows.moment
@@ -209,6 +210,14 @@ walks_carried core t walks from origin cut datagram =
     let same : verdict ≡ verdict_of (datagram_scene (setting_of core.conf) origin t) cut = ap (λ scene. verdict_of scene cut) (carried_now core t walks origin) in
     subst (λ judged. Walks (with_verdict from verdict core) (Said from cut judged ∷ t)) same
     (record { follows = follows_said (setting_of core.conf) core.seen t walks.follows walks.going from cut verdict (said_by t from datagram); going = walks.going })
+
+-- the lines of a peer's datagram
+pub relayed_as : (s : Setting) (listener : ℕ) (first : Cut) (more cuts : List Cut) (peer : ℕ) (call : List ℕ) (origin : Origin) (found : Option (ℕ × List ℕ)) (t : Trace)
+    → cuts ≡ first ∷ more → origin ≡ sender.Peer call → found ≡ Some (peer, call) → say_all (datagram_scene s origin) (source.Peer peer) cuts t ≡ relay s listener first more found t
+relayed_as s listener first more cuts peer call origin found t are from is =
+    ap (λ cs. say_all (datagram_scene s origin) (source.Peer peer) cs t) are
+    ∙ ap (λ (o : Origin). say_all (datagram_scene s o) (source.Peer peer) (first ∷ more) t) from
+    ∙ ap (λ (f : Option (ℕ × List ℕ)). relay s listener first more f t) (sym is)
 
 -- a datagram that is refused whole
 pub walks_unread : (core : CoreMeaning) (t : Trace) → Walks core t → (listener : ℕ) (cut : Cut) (why : Refusal)
@@ -334,10 +343,10 @@ walks_ticked core t walks m moment links is new =
 
 -- a core stays sound as a link comes
 pub kept_above : (core : CoreMeaning) (k : ℕ) → IsKept core → core.seen.greatest < k → k < 2 ^ 32 → IsKept (record core { seen = record core.seen { greatest = k } })
-kept_above core k kept above small = record { rising = rises_to 0 core.seen.greatest k (numbers core.seen.links) kept.rising (omega arith); small = small; station = kept.station; group = kept.group }
+kept_above core k kept above small = record { rising = rises_to 0 core.seen.greatest k (numbers core.seen.links) kept.rising (omega arith); small = small; station = kept.station; group = kept.group; few = kept.few }
 
 pub kept_turned : (core : CoreMeaning) (turned : List ℕ) → IsKept core → IsKept (record core { seen = record core.seen { turned = turned } })
-kept_turned core turned kept = record { rising = kept.rising; small = kept.small; station = kept.station; group = kept.group }
+kept_turned core turned kept = record { rising = kept.rising; small = kept.small; station = kept.station; group = kept.group; few = kept.few }
 
 pub kept_links : (core : CoreMeaning) (links : List LinkSeen) → links ≡ core.seen.links → IsKept core → IsKept (record core { seen = record core.seen { links = links } })
 kept_links core links same kept = subst (λ ls. IsKept (record core { seen = record core.seen { links = ls } })) (sym same) kept
@@ -351,6 +360,7 @@ kept_pushed core k link links kept above small is new =
       small = small;
       station = kept.station;
       group = kept.group;
+      few = kept.few;
     }
 
 -- some links leave
@@ -361,6 +371,7 @@ kept_left core keep links heard reach turned closing left kept = record {
   small = kept.small;
   station = kept.station;
   group = kept.group;
+  few = kept.few;
 }
 
 -- one link changes
@@ -371,6 +382,7 @@ kept_at core number step links same changed kept = record {
   small = kept.small;
   station = kept.station;
   group = kept.group;
+  few = kept.few;
 }
 
 -- ---- links end

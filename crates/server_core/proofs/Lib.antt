@@ -7,5 +7,7 @@ pub mod PlaceLemmas
 pub mod RoundLemmas
 pub mod SendLemmas
 pub mod SightLemmas
+pub mod TellingLemmas
+pub mod TurnedLemmas
 pub mod WalkLemmas
 pub mod WholeRoundLemmas

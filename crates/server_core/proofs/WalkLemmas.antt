@@ -612,7 +612,7 @@ live_after reason [] t = refl
 live_after reason (k ∷ ks) t = live_after reason ks (Ended k (reason k) ∷ t)
 
 -- one point of a trace that the end of a link leaves as it is
-same_after : {X : Type 0} (f : Trace → X) → ((k : ℕ) (why : EndReason) (t : Trace) → f (Ended k why ∷ t) ≡ f t) → (reason : ℕ → EndReason) (ks : List ℕ) (t : Trace)
+pub same_after : {X : Type 0} (f : Trace → X) → ((k : ℕ) (why : EndReason) (t : Trace) → f (Ended k why ∷ t) ≡ f t) → (reason : ℕ → EndReason) (ks : List ℕ) (t : Trace)
     → f (end_each reason ks t) ≡ f t
 same_after f same reason [] t = refl
 same_after f same reason (k ∷ ks) t = same_after f same reason ks (Ended k (reason k) ∷ t) ∙ same k (reason k) t
@@ -631,7 +631,7 @@ reach_after s reason ks t =
     ∙ ap (λ dial. record (reach_of s (end_each reason ks t)) { uplinks = ended_all ks (moment_of t) (uplinks_of s t); dial = dial }) (same_after (dial_of s) (λ k why t. refl) reason ks t)
     ∙ ap (λ casts. record (reach_of s t) { uplinks = ended_all ks (moment_of t) (uplinks_of s t); casts = casts }) (same_after (casts_of s) (λ k why t. refl) reason ks t)
 
-turned_after : (reason : ℕ → EndReason) (ks : List ℕ) (t : Trace) → turned_links (end_each reason ks t) ≡ turned_links t
+pub turned_after : (reason : ℕ → EndReason) (ks : List ℕ) (t : Trace) → turned_links (end_each reason ks t) ≡ turned_links t
 turned_after = same_after turned_links (λ k why t. refl)
 
 accepted_after : (reason : ℕ → EndReason) (ks : List ℕ) (t : Trace) → accepted_of (end_each reason ks t) ≡ accepted_of t
@@ -756,14 +756,14 @@ module _ (s : Setting) (core : CoreSeen) (t : Trace) (follows : Follows s core t
   unfolding link_seen
   there_seen j = refl
 
-  lost_seen_as : (j : ℕ) → is_lost (link_seen s t j) ≡ is_gone t j
+  pub lost_seen_as : (j : ℕ) → is_lost (link_seen s t j) ≡ is_gone t j
   unfolding link_seen
   lost_seen_as j = refl
 
   abbrev pub timeouts : Timeouts
   timeouts = record { client = s.client_timeout; uplink = s.up_timeout }
 
-  late_seen : (j : ℕ) → is_late_link timeouts (moment_of t) (link_seen s t j) ≡ is_late s t j
+  pub late_seen : (j : ℕ) → is_late_link timeouts (moment_of t) (link_seen s t j) ≡ is_late s t j
   unfolding link_seen
   late_seen j = refl
 
@@ -778,7 +778,7 @@ module _ (s : Setting) (core : CoreSeen) (t : Trace) (follows : Follows s core t
   unfolding link_seen
   none_seen ks j = refl
 
-  links_live : core.links ≡ map (link_seen s t) (live_links t)
+  pub links_live : core.links ≡ map (link_seen s t) (live_links t)
   links_live = follows.links ∙ ap (λ stopped. map (link_seen s t) (stopped ++ live_links t)) going
 
   pub live_numbers : numbers core.links ≡ live_links t
@@ -788,7 +788,7 @@ module _ (s : Setting) (core : CoreSeen) (t : Trace) (follows : Follows s core t
   tested_numbers : (p : LinkSeen → Bool) (q : ℕ → Bool) → ((j : ℕ) → p (link_seen s t j) ≡ q j) → numbers (filter p core.links) ≡ filter q (live_links t)
   tested_numbers p q same = ap (λ links. numbers (filter p links)) links_live ∙ ap numbers (filter_seen s core t follows p q (live_links t) same) ∙ numbers_seen s t (filter q (live_links t))
 
-  tested_links : (p : LinkSeen → Bool) (q : ℕ → Bool) → ((j : ℕ) → p (link_seen s t j) ≡ q j) → filter p core.links ≡ map (link_seen s t) (filter q (live_links t))
+  pub tested_links : (p : LinkSeen → Bool) (q : ℕ → Bool) → ((j : ℕ) → p (link_seen s t j) ≡ q j) → filter p core.links ≡ map (link_seen s t) (filter q (live_links t))
   tested_links p q same = ap (filter p) links_live ∙ filter_seen s core t follows p q (live_links t) same
 
   -- links end, each for its reason, and are forgotten
@@ -834,12 +834,15 @@ module _ (s : Setting) (core : CoreSeen) (t : Trace) (follows : Follows s core t
       (ap (placed_all (late_links s t)) follows.closing ∙ sym (closed_after (late_reason t) (late_closes t) (late_links s t) t)))
 
   -- the links that are overfull or were turned away end with the round
+  pub refused_are : (ends : List ℕ) → ends ≡ placed_all core.turned (numbers (filter is_overfull core.links)) → ends ≡ refused_links s t
+  refused_are ends are =
+      are ∙ ap (placed_all core.turned) (tested_numbers is_overfull (λ j. (text_to s t j).over) over_seen) ∙ ap (λ turned. placed_all turned (over_links s t)) follows.turned
+
   pub follows_refused_links : (ends : List ℕ) → ends ≡ placed_all core.turned (numbers (filter is_overfull core.links))
       → Follows s (with_ends ends (filter (is_none_of ends) core.links) (placed_all ends core.closing) core) (end_each (refused_reason t) (refused_links s t) t)
   follows_refused_links ends are =
       let ks = refused_links s t in
-      let same : ends ≡ ks =
-      are ∙ ap (placed_all core.turned) (tested_numbers is_overfull (λ j. (text_to s t j).over) over_seen) ∙ ap (λ turned. placed_all turned (over_links s t)) follows.turned in
+      let same : ends ≡ ks = refused_are ends are in
       subst (λ ns. Follows s (with_ends ns (filter (is_none_of ns) core.links) (placed_all ns core.closing) core) (end_each (refused_reason t) ks t)) (sym same)
       (follows_ends (refused_reason t) ks (filter (is_none_of ks) core.links) (placed_all ks core.closing) (refused_goes t)
       (tested_links (is_none_of ks) (λ j. not (is_member j ks)) (none_seen ks) ∙ ap (map (link_seen s t)) (sym (left_without ks (live_links t))))

@@ -7,11 +7,16 @@ use Rattle.aprs_history.specs.Rounds.{AreFresh, is_whole, with_events, events_tr
 use Rattle.aprs_history.specs.Acts.{Closes, cast_act, dials, offer_to, offered_links}
 use Rattle.aprs_history.specs.Dials.{casts_of, dial_of}
 use Rattle.aprs_history.specs.Stands.{Follows, ReachSeen, StandsFor}
+use Rattle.aprs_base.specs.Journals.{JournalLineSeen}
+use Rattle.aprs_history.specs.Journal.{round_lines}
 use Rattle.server_core.specs.ActsSeen.{ActsSeen}
-use Rattle.server_core.specs.LinkSteps.{is_ready, number_of}
+use Rattle.server_core.specs.LinkSteps.{is_lost, is_ready, number_of}
 use Rattle.server_core.specs.Meaning.{CoreMeaning, setting_of, Stands, AreActs}
 use Rattle.server_core.specs.Steps.{Walks, SameRest, AfterEvent}
 use Rattle.server_core.specs.RoundWalk.{GoesOn, Walking, Traced}
+use Rattle.server_core.specs.Telling.{AreTold, KnowUnasked, Tells, lost_line}
+use Rattle.server_core.proofs.TellingLemmas.{tells_lost, tells_then}
+use Rattle.server_core.proofs.TurnedLemmas.{round_known}
 use Rattle.server_core.proofs.RoundLemmas.{ends_not, no_stop, open_whole, trace_whole, greatest_whole, stopped_whole, due_whole, history_going, offers_are}
 
 pub next_item : {X : Type 0} (xs : List X) (i : ℕ) (x : X) → i < length xs → x ≡ get_or xs i x → drop i xs ≡ x ∷ drop (i + 1) xs
@@ -40,17 +45,22 @@ traced_next start first events core new e rest now walking traced steps = record
   walks = subst (λ conf. Walks new (with_event (setting_of conf) e now)) walking.conf (steps now traced.walks);
 }
 
-pub round_next : (start : CoreMeaning) (events : List Event) (core new : CoreMeaning) (left : List Event) (e : Event) (rest : List Event) → left ≡ e ∷ rest
-    → Walking start events core left × ((first : Trace) → Walks start first → (now : Trace) × Traced start first events core left now)
-    → ((t : Trace) → Walks core t → Walks new (with_event (setting_of core.conf) e t)) → AfterEvent core new e
-    → Walking start events new rest × ((first : Trace) → Walks start first → (now : Trace) × Traced start first events new rest now)
-round_next start events core new left e rest is so_far steps after =
+pub round_next : (start : CoreMeaning) (events : List Event) (core new : CoreMeaning) (left : List Event) (e : Event) (rest : List Event) → left ≡ e ∷ rest → (first_lines lines new_lines : List JournalLineSeen)
+    → Walking start events core left × ((first : Trace) → Walks start first → (now : Trace) × Traced start first events core left now × Tells (setting_of start.conf) first now first_lines lines)
+    → ((t : Trace) → Walks core t → Walks new (with_event (setting_of core.conf) e t)) → ((t : Trace) → Walks core t → Tells (setting_of core.conf) t (with_event (setting_of core.conf) e t) lines new_lines)
+    → AfterEvent core new e
+    → Walking start events new rest × ((first : Trace) → Walks start first → (now : Trace) × Traced start first events new rest now × Tells (setting_of start.conf) first now first_lines new_lines)
+round_next start events core new left e rest is first_lines lines new_lines so_far steps tells after =
     let walking = subst (Walking start events core) is so_far.0 in (
       walking_next start events core new e rest walking after,
       λ first walks.
           let now = so_far.1 first walks in
           let traced = subst (λ ls. Traced start first events core ls now.0) is now.1 in
-          (with_event (setting_of start.conf) e now.0, traced_next start first events core new e rest now.0 walking traced steps),
+          let told = subst (λ conf. Tells (setting_of conf) now.0 (with_event (setting_of conf) e now.0) lines new_lines) walking.conf (tells now.0 traced.walks) in (
+            with_event (setting_of start.conf) e now.0,
+            traced_next start first events core new e rest now.0 walking traced steps,
+            tells_then (setting_of start.conf) first now.0 (with_event (setting_of start.conf) e now.0) first_lines lines new_lines now.2 told,
+          ),
     )
 
 -- the walk as a whole: what stands before, within and after a round
@@ -110,6 +120,21 @@ module _ (old mid walked new : CoreMeaning) (events : List Event) (round : Whole
         greatest = round.kept.greatest ∙ round.walking.greatest ∙ ap (greatest_after events) (round.rest.greatest ∙ stands.greatest) ∙ sym (greatest_whole events h);
         stopped = round.kept.stopped ∙ round.walking.stopped ∙ ap (stopped_after events) (round.rest.stopped ∙ stands.stopped) ∙ sym (stopped_whole events h);
       })
+
+  -- the lines of the round
+  pub round_told : (first begun walked_lines last : List JournalLineSeen) → begun ≡ first ++ map (lost_line old.seen.moment) (filter is_lost old.seen.links)
+      → ((t : Trace) → Walks mid t → Tells (setting_of mid.conf) t (events_trace (setting_of mid.conf) events t) begun walked_lines)
+      → ((t : Trace) → Walks walked t → KnowUnasked events t → Tells (setting_of walked.conf) t (end_round (setting_of walked.conf) walked.seen.stopped t) walked_lines last)
+      → AreFresh old.seen.greatest events → last ≡ first ++ round_lines (setting_of old.conf) (trace_of (setting_of old.conf) (with_events events h))
+  round_told first begun walked_lines last lost told ended fresh =
+      let t = trace_of (setting_of old.conf) h in
+      let told_begun : AreTold (setting_of mid.conf) (begin_round t) first begun =
+      subst (λ conf. AreTold (setting_of conf) (begin_round t) first begun) (sym round.rest.conf) (tells_lost old t walks_old first begun lost) in
+      let told_walked : AreTold (setting_of walked.conf) before_end first walked_lines =
+      subst (λ conf. AreTold (setting_of conf) before_end first walked_lines) (sym round.walking.conf) (told (begin_round t) (round.begun t walks_old) first told_begun) in
+      let told_ended = ended before_end walks_now (round_known (setting_of mid.conf) old.seen.greatest events t fresh) first told_walked in
+      subst (λ conf. AreTold (setting_of conf) (end_round (setting_of conf) walked.seen.stopped before_end) first last) walked_conf told_ended
+      ∙ ap (λ u. first ++ round_lines (setting_of old.conf) u) trace_is
 
   -- what is to be done, by what the core keeps
   abbrev pub AreKept : ActsSeen → Type 0

@@ -5,3 +5,4 @@ pub mod Meaning
 pub mod Pending
 pub mod RoundWalk
 pub mod Steps
+pub mod Telling

@@ -3,8 +3,10 @@ ghost use Rattle.std.specs.Prelude.{◌≡◌, ◌+◌, ◌≤◌, Some, None, I
 ghost use Rattle.std.specs.List.{list_all};
 ghost use Rattle.aprs_base.specs.Bytes.{is_station};
 ghost use Rattle.aprs_history.specs.Setting.{is_client_kind, kind_at, peer_from};
-ghost use Rattle.server_core.specs.Meaning.{numbered, peer_of, setting_of};
+ghost use Rattle.aprs_history.specs.Journal.{group_of};
+ghost use Rattle.server_core.specs.Meaning.{numbered, peer_of, setting_of, timeouts_of};
 
+use crate::link::Timeouts;
 use aprs_base::{Addr, Call, ListenSpec, PortKind};
 use aprs_conf::{Conf, Listen, PeerSpec};
 
@@ -23,7 +25,7 @@ pub(crate) fn most_clients(conf: &Conf) -> usize
 }
 
 /// The seconds that a client may be silent.
-pub(crate) fn client_timeout(conf: &Conf) -> u32
+fn client_timeout(conf: &Conf) -> u32
     ensures { result ≡ conf.now.client_timeout }
 {
     conf.client_timeout
@@ -34,6 +36,16 @@ pub(crate) fn uplink_timeout(conf: &Conf) -> u32
     ensures { result ≡ conf.now.up_timeout }
 {
     conf.up_timeout
+}
+
+/// After how many seconds without bytes links end.
+pub(crate) fn timeouts(conf: &Conf) -> Timeouts
+    ensures { result ≡ timeouts_of conf.now }
+{
+    Timeouts {
+        client: client_timeout(conf),
+        uplink: uplink_timeout(conf),
+    }
 }
 
 /// The server's passcode.
@@ -64,6 +76,32 @@ fn numbered_at(listens: &[Listen], number: usize) -> Result<ListenSpec, usize>
         }
     }
     Err(left)
+}
+
+/// How many listeners aren't idle.
+fn count_numbered(listens: &[Listen]) -> usize
+    ensures { result ≡ length (numbered listens.now) }
+{
+    let mut count = 0;
+    for listen in listens {
+        if !listen.idle {
+            count += 1;
+        }
+    }
+    count
+}
+
+/// The number of the peer group's listener, which is the last.
+pub(crate) fn group_of(conf: &Conf) -> u16
+    requires { length (numbered conf.now.listens) ≤ 16 }
+    ensures { result ≡ group_of (setting_of conf.now) }
+{
+    let count = count_numbered(conf.listens.as_slice());
+    let last = match conf.group {
+        Some(_) => count,
+        None => count.saturating_sub(1),
+    };
+    u16::try_from(last).unwrap_or(0)
 }
 
 /// What the listener of that number serves: nothing where there is none. That of the peer group comes after all others.

@@ -9,6 +9,7 @@ mod messages;
 mod places;
 mod reach;
 mod server;
+mod telling;
 
 pub use acts::{Acts, CastOut};
 pub use server::Core;

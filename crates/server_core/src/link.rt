@@ -16,11 +16,12 @@ ghost use Rattle.aprs_history.specs.Messages.{is_to_login};
 ghost use Rattle.aprs_history.specs.Texts.{most_waiting, opening_wants, shows_duplicates};
 ghost use Rattle.filter_eval.specs.Passes.{is_some_and, is_text};
 ghost use Rattle.server_core.specs.Pending.{pending_bytes};
+ghost use Rattle.server_core.specs.Telling.{late_reason_kept};
 
 use crate::messages::{is_among, is_message_to};
 use crate::places::{forget_friends, see_friend, still_seen};
 use aprs_base::{Addr, Call, Cut, Cutter, Line, Memory, Packet, PortKind, Source, copy_call};
-use aprs_history::{LinkKind, Session};
+use aprs_history::{EndReason, LinkKind, Session};
 use arrayvec::ArrayVec;
 use filter_eval::{Friends, Seen, passes};
 use filter_lang::FilterSet;
@@ -420,6 +421,17 @@ impl Link {
         self.is_nameless(now) || u64::from(self.timeout(timeouts)) <= now.saturating_sub(self.last)
     }
 
+    /// Why it is late: for want of a login, where that rule applies.
+    pub fn late_reason(&self, now: u64) -> EndReason
+        ensures { result ≡ late_reason_kept now self.now }
+    {
+        if self.is_nameless(now) {
+            EndReason::NoLogin
+        } else {
+            EndReason::Silent
+        }
+    }
+
     pub fn is_in_time(&self, timeouts: Timeouts, now: u64) -> bool
         ensures { result ≡ is_in_time timeouts now self.now }
     {
@@ -487,7 +499,7 @@ impl Link {
     }
 }
 
-fn has_member(numbers: &[u32], number: u32) -> bool
+pub(crate) fn has_member(numbers: &[u32], number: u32) -> bool
     ensures { result ≡ is_member number numbers.now }
 {
     numbers.iter().any(|other| *other == number)

@@ -4,7 +4,7 @@ ghost use Rattle.std.specs.Arc.{arc_value};
 ghost use Rattle.aprs_history.specs.Dials.{casts_to};
 ghost use Rattle.server_core.specs.LinkSteps.{Rises, ended_all, has_number, is_lost, numbers};
 ghost use Rattle.server_core.specs.Meaning.{peer_of};
-ghost use Rattle.uplinks_peers.specs.Uplinks.{acts_at, untried, uplinks_after};
+ghost use Rattle.uplinks_peers.specs.Uplinks.{acts_at, is_dialled, untried, uplinks_after};
 ghost use Rattle.uplinks_peers.specs.declared.uplinks.UpEvent.TheVariants as up;
 
 use crate::acts::CastOut;
@@ -71,6 +71,13 @@ impl Reach {
         self.uplinks
             .step(UpEvent::Joined { uplink, link }, now)
             .login
+    }
+
+    /// Whether an uplink is being dialled.
+    pub fn is_dialled(&self, uplink: u16) -> bool
+        ensures { result ≡ is_dialled uplink self.now.uplinks.dialled }
+    {
+        self.uplinks.is_dialled(uplink)
     }
 
     /// A dial came to nothing.

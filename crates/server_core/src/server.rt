@@ -1,9 +1,10 @@
 //! The core: it takes a round of events, and says what is to be done.
-ghost use Rattle.std.specs.Prelude.{◌≡◌, ◌∷◌, [], ◌≤◌, ◌<◌, ℕ, IsTrue, IfOk, OnOk, List, length, false, true, min, take};
+ghost use Rattle.std.specs.Prelude.{◌≡◌, ◌∷◌, ◌++◌, [], ◌≤◌, ◌<◌, ℕ, IsTrue, IfOk, OnOk, List, length, false, true, min, take};
 ghost use Rattle.aprs_base.specs.Bytes.{is_station};
 ghost use Rattle.aprs_conf.specs.Sound.{IsGroup};
 ghost use Rattle.aprs_history.specs.Stands.{reach_of};
 ghost use Rattle.aprs_history.specs.History.{History, trace_of};
+ghost use Rattle.aprs_history.specs.Journal.{round_lines};
 ghost use Rattle.aprs_history.specs.Rounds.{AreFresh, greatest_after, is_whole, only_listens, stopped_after, with_events};
 ghost use Rattle.aprs_history.specs.Texts.{untaken};
 ghost use Rattle.server_core.specs.LinkSteps.{AreServed, Rises, has_number, numbers, pending_at, spent};
@@ -19,6 +20,7 @@ mod lines;
 mod openings;
 mod packets;
 mod rounds;
+mod telling;
 #[cfg(test)]
 mod tests;
 mod ticks;
@@ -29,7 +31,7 @@ use crate::conf::uplink_timeout;
 use crate::link::Link;
 use crate::links::{lose, offer, take};
 use crate::reach::Reach;
-use aprs_base::{Event, Memory, Packet};
+use aprs_base::{Event, JournalLine, Memory, Packet};
 use aprs_conf::Conf;
 use heard_routing::Heard;
 use station_table::Stations;
@@ -127,7 +129,7 @@ impl Core {
     /// Takes one whole round of events, and says what is to be done. After `Memory` the core is spent.
     pub fn round<R: Threads + Sync>(
         &mut self,
-        _rt: &R,
+        rt: &R,
         alloc: Global,
         events: &[Event],
     ) -> Result<Acts, Memory>
@@ -145,9 +147,38 @@ impl Core {
         ensures due { (h : History) → Stands self.old h
             → IfOk result (λ acts. AreActs (setting_of self.new.conf) (with_events events.now h) acts) }
     {
+        let mut lines = Vec::new(alloc);
+        self.round_lines(rt, alloc, events, &mut lines)
+    }
+
+    /// The same, and puts the lines that the round has for the journals after those that are there.
+    pub fn round_lines<R: Threads + Sync>(
+        &mut self,
+        _rt: &R,
+        alloc: Global,
+        events: &[Event],
+        lines: &mut Vec<JournalLine>,
+    ) -> Result<Acts, Memory>
+        requires whole { is_whole 0 events.now ≡ true }
+        requires fresh { AreFresh self.old.seen.greatest events.now }
+        requires going { self.old.seen.stopped ≡ false }
+        ensures conf { OnOk result (self.new.conf ≡ self.old.conf) }
+        ensures greatest { OnOk result (self.new.seen.greatest ≡ greatest_after events.now self.old.seen.greatest) }
+        ensures stopped { OnOk result (self.new.seen.stopped ≡ stopped_after events.now false) }
+        ensures done { IfOk result (λ acts. acts.done ≡ self.new.seen.stopped) }
+        ensures rising { IfOk result (λ acts. Rises 0 acts.offers self.new.seen.greatest) }
+        ensures served { IfOk result (λ acts. AreServed acts.offers self.new.seen.links) }
+        // The core stands for the history with the round, and the acts are those that are due after it.
+        ensures stands { (h : History) → Stands self.old h → OnOk result (Stands self.new (with_events events.now h)) }
+        ensures due { (h : History) → Stands self.old h
+            → IfOk result (λ acts. AreActs (setting_of self.new.conf) (with_events events.now h) acts) }
+        ensures lines { (h : History) → Stands self.old h
+            → OnOk result (lines.new.items ≡ lines.old.items ++ round_lines (setting_of self.old.conf) (trace_of (setting_of self.old.conf) (with_events events.now h))) }
+    {
+        self.tell_lost(lines)?;
         self.begin();
-        self.walk(alloc, events)?;
-        self.finish(alloc)?;
+        self.walk(alloc, events, lines)?;
+        self.finish(alloc, events, lines)?;
         self.acts(alloc)
     }
 

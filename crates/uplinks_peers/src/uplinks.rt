@@ -1,7 +1,7 @@
 //! Dialling uplinks, one after another.
 ghost use Rattle.std.specs.Prelude.{◌≡◌, ◌<◌, ◌-◌, ◌&&◌, ◌↔◌, nat_lt, nat_le, IfSome, IfNone, IsSome, IsTrue};
 ghost use Rattle.uplinks_peers.specs.UplinkLaws.{IsAwaited, IsDialDue, IsInTurn, IsOrderly, IsToClose};
-ghost use Rattle.uplinks_peers.specs.Uplinks.{acts_at, dialling, ended_at, is_rested, untried, uplinks_after};
+ghost use Rattle.uplinks_peers.specs.Uplinks.{acts_at, dialling, ended_at, is_dialled, is_rested, untried, uplinks_after};
 ghost use Rattle.uplinks_peers.specs.declared.uplinks.UpEvent.TheVariants as event;
 
 use std::marker::Model;
@@ -102,6 +102,16 @@ impl Uplinks {
             UpEvent::Ended(link) => self.end(link, now),
         }
         UpActs::default()
+    }
+
+    /// Whether that uplink is being dialled.
+    pub fn is_dialled(&self, uplink: u16) -> bool
+        ensures { result ≡ is_dialled uplink self.now.dialled }
+    {
+        match self.attempt {
+            Attempt::Dialled(dialled) => uplink == dialled,
+            Attempt::Idle | Attempt::Joined { .. } => false,
+        }
     }
 
     fn tick(&mut self, now: u64) -> UpActs

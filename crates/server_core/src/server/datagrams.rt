@@ -1,5 +1,5 @@
 //! Datagrams: those that stations submit, and those of the peer group.
-ghost use Rattle.std.specs.Prelude.{◌≡◌, ◌∷◌, ◌<◌, ℕ, IsTrue, IfOk, OnOk, IfSome, IsNone, List, Some, None, map};
+ghost use Rattle.std.specs.Prelude.{◌≡◌, ◌∷◌, ◌++◌, ◌<◌, ℕ, IsTrue, IfOk, OnOk, IfSome, IsNone, List, Some, None, map};
 ghost use Rattle.aprs_history.specs.Trace.{Trace, Said};
 ghost use Rattle.aprs_history.specs.Setting.{kind_at, peer_from};
 ghost use Rattle.aprs_base.specs.declared.cutting.Cut.{Cut};
@@ -12,10 +12,11 @@ ghost use Rattle.aprs_history.specs.History.{datagram_cuts, refuse_datagram, rel
 ghost use Rattle.server_core.specs.LinkSteps.{IsDatagram};
 ghost use Rattle.server_core.specs.Meaning.{peer_of, setting_of};
 ghost use Rattle.server_core.specs.Steps.{SameRest, Walks, carried_at, with_verdict};
+ghost use Rattle.server_core.specs.Telling.{Tells, said_lines};
 
 use super::Core;
 use crate::conf::{peer_from, peers_of, served_by, server_of};
-use aprs_base::{Addr, Cut, Cutter, Memory, PortKind, Source, copy_call};
+use aprs_base::{Addr, Cut, Cutter, JournalLine, Memory, PortKind, Source, copy_call};
 use aprs_history::{Refusal, Verdict};
 use line_verdict::submitter_of;
 use q_construct::Origin;
@@ -40,12 +41,16 @@ impl Core {
         from: Source,
         origin: &Origin,
         cut: &Cut,
+        lines: &mut Vec<JournalLine>,
     ) -> Result<(), Memory>
         requires station { IsTrue (has_station origin.now) }
         requires datagram { IsDatagram from }
-        ensures { OnOk result (self.new ≡ with_verdict from (verdict_of (carried_at origin.now self.old) cut.now) self.old) }
+        ensures core { OnOk result (self.new ≡ with_verdict from (verdict_of (carried_at origin.now self.old) cut.now) self.old) }
+        ensures lines { OnOk result (lines.new.items ≡ lines.old.items ++ said_lines self.old from (verdict_of (carried_at origin.now self.old) cut.now)) }
     {
-        match self.judge_carried(alloc, origin, cut)? {
+        let verdict = self.judge_carried(alloc, origin, cut)?;
+        self.tell_said(&from, &verdict, lines)?;
+        match verdict {
             Verdict::Refused(refusal) => self.refuse(alloc, &from, refusal),
             Verdict::Accepted(parts, line) => self.accept(alloc, from, parts, line),
             Verdict::PassedOver => Ok(()),
@@ -61,14 +66,17 @@ impl Core {
         from: Source,
         origin: &Origin,
         cut: &Cut,
+        lines: &mut Vec<JournalLine>,
     ) -> Result<(), Memory>
         requires station { IsTrue (has_station origin.now) }
         requires datagram { IsDatagram from }
         ensures walks { (t : Trace) → Walks self.old t
             → OnOk result (Walks self.new (Said from cut.now (verdict_of (datagram_scene (setting_of self.old.conf) origin.now t) cut.now) ∷ t)) }
+        ensures tells { (t : Trace) → Walks self.old t
+            → OnOk result (Tells (setting_of self.old.conf) t (Said from cut.now (verdict_of (datagram_scene (setting_of self.old.conf) origin.now t) cut.now) ∷ t) lines.old.items lines.new.items) }
         ensures rest { OnOk result (SameRest self.old self.new) }
     {
-        self.take_carried(alloc, from, origin, cut)
+        self.take_carried(alloc, from, origin, cut, lines)
     }
 
     /// The same for several lines, one after another.
@@ -78,15 +86,18 @@ impl Core {
         from: Source,
         origin: &Origin,
         cuts: &[Cut],
+        lines: &mut Vec<JournalLine>,
     ) -> Result<(), Memory>
         requires station { IsTrue (has_station origin.now) }
         requires datagram { IsDatagram from }
         ensures walks { (t : Trace) → Walks self.old t
             → OnOk result (Walks self.new (say_all (datagram_scene (setting_of self.old.conf) origin.now) from cuts.now t)) }
+        ensures tells { (t : Trace) → Walks self.old t
+            → OnOk result (Tells (setting_of self.old.conf) t (say_all (datagram_scene (setting_of self.old.conf) origin.now) from cuts.now t) lines.old.items lines.new.items) }
         ensures rest { OnOk result (SameRest self.old self.new) }
     {
         for cut in cuts {
-            self.carry(alloc, from, origin, cut)?;
+            self.carry(alloc, from, origin, cut, lines)?;
         }
         Ok(())
     }
@@ -97,11 +108,15 @@ impl Core {
         alloc: Global,
         listener: u16,
         refusal: Refusal,
+        lines: &mut Vec<JournalLine>,
     ) -> Result<(), Memory>
         ensures walks { (t : Trace) (cut : Cut) → Walks self.old t → OnOk result (Walks self.new (refuse_datagram listener cut refusal t)) }
+        ensures tells { (t : Trace) (cut : Cut) → Walks self.old t → OnOk result (Tells (setting_of self.old.conf) t (refuse_datagram listener cut refusal t) lines.old.items lines.new.items) }
         ensures rest { OnOk result (SameRest self.old self.new) }
     {
-        self.refuse(alloc, &Source::Submit(listener), refusal)
+        let from = Source::Submit(listener);
+        self.tell_refusal(&from, &refusal, lines)?;
+        self.refuse(alloc, &from, refusal)
     }
 
     /// A station submits a datagram: after its login come its packets.
@@ -111,9 +126,12 @@ impl Core {
         listener: u16,
         first: &Cut,
         cuts: &[Cut],
+        lines: &mut Vec<JournalLine>,
     ) -> Result<(), Memory>
         ensures walks { (t : Trace) → Walks self.old t
             → OnOk result (Walks self.new (submit (setting_of self.old.conf) listener first.now cuts.now (submitter_of self.old.conf.server first.now) t)) }
+        ensures tells { (t : Trace) → Walks self.old t
+            → OnOk result (Tells (setting_of self.old.conf) t (submit (setting_of self.old.conf) listener first.now cuts.now (submitter_of self.old.conf.server first.now) t) lines.old.items lines.new.items) }
         ensures rest { OnOk result (SameRest self.old self.new) }
     {
         match submitter_of(server_of(&self.conf), first) {
@@ -122,8 +140,9 @@ impl Core {
                 Source::Submit(listener),
                 &Origin::Udp { login },
                 cuts,
+                lines,
             ),
-            Err(refusal) => self.refuse_datagram(alloc, listener, refusal),
+            Err(refusal) => self.refuse_datagram(alloc, listener, refusal, lines),
         }
     }
 
@@ -146,14 +165,17 @@ impl Core {
         listener: u16,
         from: Addr,
         cuts: &[Cut],
+        lines: &mut Vec<JournalLine>,
     ) -> Result<(), Memory>
         ensures walks { (t : Trace) (first : Cut) (more : List Cut) → cuts.now ≡ first ∷ more → Walks self.old t
             → OnOk result (Walks self.new (relay (setting_of self.old.conf) listener first more (peer_from 0 (map peer_of self.old.conf.peers) from) t)) }
+        ensures tells { (t : Trace) (first : Cut) (more : List Cut) → cuts.now ≡ first ∷ more → Walks self.old t
+            → OnOk result (Tells (setting_of self.old.conf) t (relay (setting_of self.old.conf) listener first more (peer_from 0 (map peer_of self.old.conf.peers) from) t) lines.old.items lines.new.items) }
         ensures rest { OnOk result (SameRest self.old self.new) }
     {
         match self.peer_at(from) {
-            Some((peer, origin)) => self.carry_all(alloc, Source::Peer(peer), &origin, cuts),
-            None => self.refuse_datagram(alloc, listener, Refusal::Stranger),
+            Some((peer, origin)) => self.carry_all(alloc, Source::Peer(peer), &origin, cuts, lines),
+            None => self.refuse_datagram(alloc, listener, Refusal::Stranger, lines),
         }
     }
 
@@ -164,9 +186,12 @@ impl Core {
         listener: u16,
         from: Addr,
         bytes: &[u8],
+        lines: &mut Vec<JournalLine>,
     ) -> Result<(), Memory>
         ensures walks { (t : Trace) → Walks self.old t
             → OnOk result (Walks self.new (with_lines (setting_of self.old.conf) (kind_at (setting_of self.old.conf) listener) listener from (datagram_cuts bytes.now) t)) }
+        ensures tells { (t : Trace) → Walks self.old t
+            → OnOk result (Tells (setting_of self.old.conf) t (with_lines (setting_of self.old.conf) (kind_at (setting_of self.old.conf) listener) listener from (datagram_cuts bytes.now) t) lines.old.items lines.new.items) }
         ensures rest { OnOk result (SameRest self.old self.new) }
     {
         let cuts = cut_datagram(alloc, bytes)?;
@@ -174,8 +199,8 @@ impl Core {
             return Ok(());
         };
         match served_by(&self.conf, listener) {
-            Some(PortKind::Submit) => self.submit(alloc, listener, first, more),
-            Some(PortKind::Core) => self.relay(alloc, listener, from, cuts.as_slice()),
+            Some(PortKind::Submit) => self.submit(alloc, listener, first, more, lines),
+            Some(PortKind::Core) => self.relay(alloc, listener, from, cuts.as_slice(), lines),
             _ => Ok(()),
         }
     }

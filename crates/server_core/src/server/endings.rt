@@ -8,25 +8,14 @@ ghost use Rattle.aprs_history.specs.History.{end_each, end_stopped, refused_link
 ghost use Rattle.server_core.specs.LinkSteps.{is_late_link, is_overfull, numbers};
 ghost use Rattle.server_core.specs.Meaning.{setting_of, timeouts_of};
 ghost use Rattle.server_core.specs.Steps.{SameRest, Walks};
+ghost use Rattle.server_core.specs.Telling.{KnowUnasked, Tells};
 
 use super::Core;
-use crate::conf::{client_timeout, uplink_timeout};
-use crate::link::Timeouts;
+use crate::conf::timeouts;
 use crate::links::{all, drop_late, drop_link, drop_these, late, overfull, place_all, take};
 use crate::messages::forget_all;
-use aprs_base::Memory;
-use aprs_conf::Conf;
+use aprs_base::{Event, JournalLine, Memory};
 use std::alloc::Global;
-
-/// After how many seconds without bytes links end.
-fn timeouts(conf: &Conf) -> Timeouts
-    ensures { result ≡ timeouts_of conf.now }
-{
-    Timeouts {
-        client: client_timeout(conf),
-        uplink: uplink_timeout(conf),
-    }
-}
 
 impl Core {
     /// A link was ended by its peer.
@@ -42,12 +31,19 @@ impl Core {
     }
 
     /// The links that are late end.
-    pub(super) fn end_late(&mut self, alloc: Global) -> Result<(), Memory>
+    pub(super) fn end_late(
+        &mut self,
+        alloc: Global,
+        lines: &mut Vec<JournalLine>,
+    ) -> Result<(), Memory>
         ensures walks { (t : Trace) → Walks self.old t
             → OnOk result (Walks self.new (end_each (late_reason t) (late_links (setting_of self.old.conf) t) t)) }
+        ensures tells { (t : Trace) → Walks self.old t
+            → OnOk result (Tells (setting_of self.old.conf) t (end_each (late_reason t) (late_links (setting_of self.old.conf) t) t) lines.old.items lines.new.items) }
         ensures rest { OnOk result (SameRest self.old self.new) }
     {
         let ends = self.late(alloc)?;
+        self.tell_late(lines)?;
         self.drop_late(ends.as_slice())
     }
 
@@ -77,12 +73,20 @@ impl Core {
     }
 
     /// The links that are overfull end, and those that were turned away.
-    pub(super) fn end_refused(&mut self, alloc: Global) -> Result<(), Memory>
+    pub(super) fn end_refused(
+        &mut self,
+        alloc: Global,
+        events: &[Event],
+        lines: &mut Vec<JournalLine>,
+    ) -> Result<(), Memory>
         ensures walks { (t : Trace) → Walks self.old t
             → OnOk result (Walks self.new (end_each (refused_reason t) (refused_links (setting_of self.old.conf) t) t)) }
+        ensures tells { (t : Trace) → Walks self.old t → KnowUnasked events.now t
+            → OnOk result (Tells (setting_of self.old.conf) t (end_each (refused_reason t) (refused_links (setting_of self.old.conf) t) t) lines.old.items lines.new.items) }
         ensures rest { OnOk result (SameRest self.old self.new) }
     {
         let ends = self.refused(alloc)?;
+        self.tell_refused(ends.as_slice(), events, lines)?;
         self.drop_refused(ends.as_slice())
     }
 
@@ -108,13 +112,20 @@ impl Core {
     }
 
     /// After a stop all links end, and keep what they have still to take.
-    pub(super) fn end_stopped(&mut self, alloc: Global) -> Result<(), Memory>
+    pub(super) fn end_stopped(
+        &mut self,
+        alloc: Global,
+        lines: &mut Vec<JournalLine>,
+    ) -> Result<(), Memory>
         ensures follows { (t : Trace) → Walks self.old t
             → OnOk result (Follows (setting_of self.old.conf) self.new.seen (end_stopped self.old.seen.stopped t)) }
+        ensures tells { (t : Trace) → Walks self.old t
+            → OnOk result (Tells (setting_of self.old.conf) t (end_stopped self.old.seen.stopped t) lines.old.items lines.new.items) }
         ensures rest { OnOk result (SameRest self.old self.new) }
     {
         if self.stopped {
             let ends = self.all(alloc)?;
+            self.tell_stopped(lines)?;
             self.close_all(ends.as_slice())?;
         }
         Ok(())

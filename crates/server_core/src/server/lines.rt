@@ -1,5 +1,5 @@
 //! The bytes that links bring, and their lines.
-ghost use Rattle.std.specs.Prelude.{◌≡◌, ◌∷◌, [], ◌<◌, IsTrue, IfOk, OnOk, false};
+ghost use Rattle.std.specs.Prelude.{◌≡◌, ◌∷◌, ◌++◌, [], ◌<◌, IsTrue, IfOk, OnOk, false};
 ghost use Rattle.aprs_history.specs.Trace.{Trace, Brought, Said, is_live};
 ghost use Rattle.aprs_history.specs.Links.{brought_by};
 ghost use Rattle.aprs_base.specs.Cuts.{cuts_by};
@@ -11,21 +11,30 @@ ghost use Rattle.aprs_history.specs.declared.verdicts.Verdict.{Verdict};
 ghost use Rattle.aprs_history.specs.History.{say_all, with_bytes_of};
 ghost use Rattle.server_core.specs.Meaning.{setting_of};
 ghost use Rattle.server_core.specs.Steps.{SameRest, Walks, scene_at, with_verdict};
+ghost use Rattle.server_core.specs.Telling.{Tells, said_lines};
 
 use super::Core;
-use crate::link::Link;
-use crate::links::{bring, log_in};
-use aprs_base::{Cut, Memory, Source};
+use crate::links::bring;
+use aprs_base::{Cut, JournalLine, Memory, Source};
 use aprs_history::Verdict;
 use std::alloc::Global;
 
 impl Core {
-    /// What the link of that number said: it is judged, and what comes of it is done.
-    fn take_line(&mut self, alloc: Global, number: u32, cut: &Cut) -> Result<(), Memory>
-        ensures { OnOk result (self.new ≡ with_verdict (Source.Link number) (verdict_of (scene_at self.old number) cut.now) self.old) }
+    /// What the link of that number said: it is judged, and what comes of it is told and done.
+    fn take_line(
+        &mut self,
+        alloc: Global,
+        number: u32,
+        cut: &Cut,
+        lines: &mut Vec<JournalLine>,
+    ) -> Result<(), Memory>
+        ensures core { OnOk result (self.new ≡ with_verdict (Source.Link number) (verdict_of (scene_at self.old number) cut.now) self.old) }
+        ensures lines { OnOk result (lines.new.items ≡ lines.old.items ++ said_lines self.old (Source.Link number) (verdict_of (scene_at self.old number) cut.now)) }
     {
         let from = Source::Link(number);
-        match self.judge(alloc, number, cut)? {
+        let verdict = self.judge(alloc, number, cut)?;
+        self.tell_said(&from, &verdict, lines)?;
+        match verdict {
             Verdict::PassedOver => Ok(()),
             Verdict::Refused(refusal) => self.refuse(alloc, &from, refusal),
             Verdict::LoggedIn(session, answer) => self.log_in(alloc, number, session, answer),
@@ -35,22 +44,38 @@ impl Core {
     }
 
     /// The same, as the trace goes on by the line.
-    fn hear(&mut self, alloc: Global, number: u32, cut: &Cut) -> Result<(), Memory>
+    fn hear(
+        &mut self,
+        alloc: Global,
+        number: u32,
+        cut: &Cut,
+        lines: &mut Vec<JournalLine>,
+    ) -> Result<(), Memory>
         ensures walks { (t : Trace) → Walks self.old t → IsTrue (is_live t number)
             → OnOk result (Walks self.new (Said (Source.Link number) cut.now (verdict_of (scene_of (setting_of self.old.conf) t number) cut.now) ∷ t)) }
+        ensures tells { (t : Trace) → Walks self.old t → IsTrue (is_live t number)
+            → OnOk result (Tells (setting_of self.old.conf) t (Said (Source.Link number) cut.now (verdict_of (scene_of (setting_of self.old.conf) t number) cut.now) ∷ t) lines.old.items lines.new.items) }
         ensures rest { OnOk result (SameRest self.old self.new) }
     {
-        self.take_line(alloc, number, cut)
+        self.take_line(alloc, number, cut, lines)
     }
 
     /// The same for several lines, one after another.
-    fn hear_all(&mut self, alloc: Global, number: u32, cuts: &[Cut]) -> Result<(), Memory>
+    fn hear_all(
+        &mut self,
+        alloc: Global,
+        number: u32,
+        cuts: &[Cut],
+        lines: &mut Vec<JournalLine>,
+    ) -> Result<(), Memory>
         ensures walks { (t : Trace) → Walks self.old t → IsTrue (is_live t number)
             → OnOk result (Walks self.new (say_all (λ now. scene_of (setting_of self.old.conf) now number) (Source.Link number) cuts.now t)) }
+        ensures tells { (t : Trace) → Walks self.old t → IsTrue (is_live t number)
+            → OnOk result (Tells (setting_of self.old.conf) t (say_all (λ now. scene_of (setting_of self.old.conf) now number) (Source.Link number) cuts.now t) lines.old.items lines.new.items) }
         ensures rest { OnOk result (SameRest self.old self.new) }
     {
         for cut in cuts {
-            self.hear(alloc, number, cut)?;
+            self.hear(alloc, number, cut, lines)?;
         }
         Ok(())
     }
@@ -73,15 +98,17 @@ impl Core {
         alloc: Global,
         number: u32,
         bytes: &[u8],
+        lines: &mut Vec<JournalLine>,
     ) -> Result<(), Memory>
         ensures walks { (t : Trace) → Walks self.old t → OnOk result (Walks self.new (with_bytes_of (setting_of self.old.conf) number bytes.now t)) }
+        ensures tells { (t : Trace) → Walks self.old t → OnOk result (Tells (setting_of self.old.conf) t (with_bytes_of (setting_of self.old.conf) number bytes.now t) lines.old.items lines.new.items) }
         ensures rest { OnOk result (SameRest self.old self.new) }
     {
         let cuts = self.bring(alloc, number, bytes)?;
         if cuts.is_empty() {
             return Ok(());
         }
-        self.hear_all(alloc, number, cuts.as_slice())?;
+        self.hear_all(alloc, number, cuts.as_slice(), lines)?;
         Ok(())
     }
 }

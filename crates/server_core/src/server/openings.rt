@@ -10,12 +10,13 @@ ghost use Rattle.aprs_history.specs.Texts.{first_line};
 ghost use Rattle.server_core.specs.LinkSteps.{Rises, admitted_in, joined_outcome, clients_in, numbers};
 ghost use Rattle.server_core.specs.Meaning.{setting_of};
 ghost use Rattle.server_core.specs.Steps.{SameRest, Walks};
+ghost use Rattle.server_core.specs.Telling.{Tells};
 
 use super::Core;
 use crate::conf::{code_of, is_client_kind, most_clients, served_by, server_of};
 use crate::link::Link;
 use crate::links::count_clients;
-use aprs_base::{Addr, Line, Memory};
+use aprs_base::{Addr, JournalLine, Line, Memory};
 use aprs_history::{Admission, LinkKind};
 use line_verdict::{banner_line, uplink_line};
 use std::alloc::Global;
@@ -124,15 +125,19 @@ impl Core {
         listener: u16,
         number: u32,
         from: Addr,
+        lines: &mut Vec<JournalLine>,
     ) -> Result<(), Memory>
         requires { self.old.seen.greatest < number }
         ensures walks { (t : Trace) → Walks self.old t
             → OnOk result (Walks self.new (Opened (AtListener listener) (admission (setting_of self.old.conf) t listener) number from ∷ t)) }
+        ensures tells { (t : Trace) → Walks self.old t
+            → OnOk result (Tells (setting_of self.old.conf) t (Opened (AtListener listener) (admission (setting_of self.old.conf) t listener) number from ∷ t) lines.old.items lines.new.items) }
         ensures conf { OnOk result (self.new.conf ≡ self.old.conf) }
         ensures greatest { OnOk result (self.new.seen.greatest ≡ number) }
         ensures stopped { OnOk result (self.new.seen.stopped ≡ self.old.seen.stopped) }
     {
         let admission = self.admission(listener);
+        self.tell_opened(listener, number, admission, lines)?;
         self.admit(alloc, admission, number, from)
     }
 

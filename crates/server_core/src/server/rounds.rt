@@ -9,12 +9,13 @@ ghost use Rattle.server_core.specs.LinkSteps.{AreServed, Rises, is_ready, number
 ghost use Rattle.server_core.specs.Meaning.{setting_of};
 ghost use Rattle.server_core.specs.RoundWalk.{Traced, Walking};
 ghost use Rattle.server_core.specs.Steps.{AfterEvent, SameRest, Walks};
+ghost use Rattle.server_core.specs.Telling.{KnowUnasked, Tells};
 
 use super::Core;
 use crate::acts::Acts;
 use crate::links::{drop_gone, give_room, ready};
 use crate::messages::forget_lost;
-use aprs_base::{Event, Memory};
+use aprs_base::{Event, JournalLine, Memory};
 use std::alloc::Global;
 
 impl Core {
@@ -51,55 +52,83 @@ impl Core {
     }
 
     /// One event of a round.
-    fn take_event(&mut self, alloc: Global, event: &Event) -> Result<(), Memory>
+    fn take_event(
+        &mut self,
+        alloc: Global,
+        event: &Event,
+        lines: &mut Vec<JournalLine>,
+    ) -> Result<(), Memory>
         requires { IfSome (new_link event.now) (λ link. self.old.seen.greatest < link) }
         ensures walks { (t : Trace) → Walks self.old t → OnOk result (Walks self.new (with_event (setting_of self.old.conf) event.now t)) }
+        ensures tells { (t : Trace) → Walks self.old t → OnOk result (Tells (setting_of self.old.conf) t (with_event (setting_of self.old.conf) event.now t) lines.old.items lines.new.items) }
         ensures rest { OnOk result (AfterEvent self.old self.new event.now) }
     {
         match event {
-            Event::Tick(moment) => self.tick(alloc, *moment)?,
+            Event::Tick(moment) => self.tick(alloc, *moment, lines)?,
             Event::Opened {
                 listener,
                 link,
                 from,
-            } => self.open(alloc, *listener, *link, *from)?,
-            Event::Joined { uplink, link, at } => self.join(alloc, *uplink, *link, *at)?,
-            Event::Unjoined(uplink) => self.unjoin(*uplink),
-            Event::Bytes(link, chunk) => self.take_bytes(alloc, *link, chunk.bytes())?,
-            Event::Ended(link) => self.end(*link),
+            } => self.open(alloc, *listener, *link, *from, lines)?,
+            Event::Joined { uplink, link, at } => {
+                self.tell_joined(*uplink, *link, lines)?;
+                self.join(alloc, *uplink, *link, *at)?;
+            }
+            Event::Unjoined(uplink) => {
+                self.tell_unjoined(*uplink, lines)?;
+                self.unjoin(*uplink);
+            }
+            Event::Bytes(link, chunk) => self.take_bytes(alloc, *link, chunk.bytes(), lines)?,
+            Event::Ended(link) => {
+                self.tell_ended(*link, lines)?;
+                self.end(*link);
+            }
             Event::Room(link) => self.room(*link),
             Event::Stop => self.stop(),
             Event::Datagram {
                 listener,
                 from,
                 bytes,
-            } => self.take_datagram(alloc, *listener, *from, bytes.bytes())?,
+            } => self.take_datagram(alloc, *listener, *from, bytes.bytes(), lines)?,
         }
         Ok(())
     }
 
     /// The events of a round, one after another.
-    pub(super) fn walk(&mut self, alloc: Global, events: &[Event]) -> Result<(), Memory>
+    pub(super) fn walk(
+        &mut self,
+        alloc: Global,
+        events: &[Event],
+        lines: &mut Vec<JournalLine>,
+    ) -> Result<(), Memory>
         requires whole { is_whole 0 events.now ≡ true }
         requires fresh { AreFresh self.old.seen.greatest events.now }
         requires going { self.old.seen.stopped ≡ false }
         ensures walking { OnOk result (Walking self.old events.now self.new []) }
         ensures traced { (t : Trace) → Walks self.old t → OnOk result (Traced self.old t events.now self.new [] (events_trace (setting_of self.old.conf) events.now t)) }
+        ensures tells { (t : Trace) → Walks self.old t → OnOk result (Tells (setting_of self.old.conf) t (events_trace (setting_of self.old.conf) events.now t) lines.old.items lines.new.items) }
     {
         for event in events {
-            self.take_event(alloc, event)?;
+            self.take_event(alloc, event, lines)?;
         }
         Ok(())
     }
 
     /// A round ends.
-    pub(super) fn finish(&mut self, alloc: Global) -> Result<(), Memory>
+    pub(super) fn finish(
+        &mut self,
+        alloc: Global,
+        events: &[Event],
+        lines: &mut Vec<JournalLine>,
+    ) -> Result<(), Memory>
         ensures follows { (t : Trace) → Walks self.old t
             → OnOk result (Follows (setting_of self.old.conf) self.new.seen (end_round (setting_of self.old.conf) self.old.seen.stopped t)) }
+        ensures tells { (t : Trace) → Walks self.old t → KnowUnasked events.now t
+            → OnOk result (Tells (setting_of self.old.conf) t (end_round (setting_of self.old.conf) self.old.seen.stopped t) lines.old.items lines.new.items) }
         ensures rest { OnOk result (SameRest self.old self.new) }
     {
-        self.end_refused(alloc)?;
-        self.end_stopped(alloc)
+        self.end_refused(alloc, events, lines)?;
+        self.end_stopped(alloc, lines)
     }
 
     /// What is to be done now: the dial, the casts, the offers, and then the closes.

@@ -3,6 +3,7 @@
 mod cores;
 mod endings;
 mod filters;
+mod journals;
 mod logins;
 mod messages;
 mod network;

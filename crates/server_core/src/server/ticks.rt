@@ -4,11 +4,12 @@ ghost use Rattle.aprs_history.specs.Trace.{Trace, Looked, Ticked};
 ghost use Rattle.aprs_history.specs.History.{dated, with_tick};
 ghost use Rattle.server_core.specs.Meaning.{setting_of};
 ghost use Rattle.server_core.specs.Steps.{SameRest, Walks};
+ghost use Rattle.server_core.specs.Telling.{Tells};
 
 use super::Core;
 use crate::conf::server_of;
 use crate::links::{forget_places, late, tell_all};
-use aprs_base::Memory;
+use aprs_base::{JournalLine, Memory};
 use line_verdict::comment_of;
 use std::alloc::Global;
 use std::sync::Arc;
@@ -50,13 +51,19 @@ impl Core {
     }
 
     /// The moment goes on, the links that are late end, the clients are told the date, and an uplink may be dialled.
-    pub(super) fn tick(&mut self, alloc: Global, moment: u64) -> Result<(), Memory>
+    pub(super) fn tick(
+        &mut self,
+        alloc: Global,
+        moment: u64,
+        lines: &mut Vec<JournalLine>,
+    ) -> Result<(), Memory>
         ensures walks { (t : Trace) → Walks self.old t → OnOk result (Walks self.new (with_tick (setting_of self.old.conf) moment t)) }
+        ensures tells { (t : Trace) → Walks self.old t → OnOk result (Tells (setting_of self.old.conf) t (with_tick (setting_of self.old.conf) moment t) lines.old.items lines.new.items) }
         ensures rest { OnOk result (SameRest self.old self.new) }
     {
         let before = self.moment;
         self.go_on(moment);
-        self.end_late(alloc)?;
+        self.end_late(alloc, lines)?;
         self.tell_date(alloc, before)?;
         self.look();
         Ok(())

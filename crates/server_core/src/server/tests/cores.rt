@@ -1,5 +1,5 @@
 //! The core that sessions are run over, and what it must be given.
-ghost use Rattle.std.specs.Prelude.{◌≡◌, ◌<◌, ◌≤◌, ◌+◌, IsTrue, IfSome, length};
+ghost use Rattle.std.specs.Prelude.{◌≡◌, ◌<◌, ◌≤◌, ◌+◌, IsTrue, IfSome, false, length, true};
 ghost use Rattle.aprs_base.specs.Bytes.{is_station};
 ghost use Rattle.aprs_base.specs.Outside.{new_link};
 ghost use Rattle.aprs_conf.specs.Sound.{IsGroup};
@@ -10,7 +10,7 @@ ghost use Rattle.server_core.specs.Meaning.{numbered};
 
 use super::super::Core;
 use crate::acts::Acts;
-use aprs_base::{Addr, Call, Chunk, Event, ListenSpec, PortKind, Text, UplinkSpec};
+use aprs_base::{Addr, Call, Chunk, Event, JournalLine, ListenSpec, PortKind, Text, UplinkSpec};
 use aprs_conf::{Conf, Listen, PeerSpec};
 use arrayvec::ArrayVec;
 use std::alloc::Global;
@@ -188,17 +188,39 @@ fn are_fresh(greatest: u32, events: &[Event]) -> bool
     }
 }
 
-/// Takes a round of these events, where it may be given now.
+/// A round of these events may be given now.
+fn check_round<R: Abort>(rt: &R, core: &Core, events: &[Event])
+    ensures whole { is_whole 0 events.now ≡ true }
+    ensures fresh { AreFresh core.now.seen.greatest events.now }
+    ensures going { core.now.seen.stopped ≡ false }
+{
+    assert!(rt; events.len() <= 512);
+    assert!(rt; is_whole(0, events));
+    assert!(rt; are_fresh(core.greatest, events));
+    assert!(rt; !core.stopped);
+}
+
+/// Takes a round of these events, and tells its lines.
 pub(super) fn round<R: Threads + Sync + Abort>(
     rt: &R,
     alloc: Global,
     core: &mut Core,
     events: &[Event],
+    lines: &mut Vec<JournalLine>,
 ) -> Acts {
-    assert!(rt; events.len() <= 512);
-    assert!(rt; is_whole(0, events));
-    assert!(rt; are_fresh(core.greatest, events));
-    assert!(rt; !core.stopped);
+    check_round(rt, core, events);
+    core.round_lines(rt, alloc, events, lines)
+        .expect(rt, "memory")
+}
+
+/// Takes a round of these events, and tells nothing.
+pub(super) fn quiet_round<R: Threads + Sync + Abort>(
+    rt: &R,
+    alloc: Global,
+    core: &mut Core,
+    events: &[Event],
+) -> Acts {
+    check_round(rt, core, events);
     core.round(rt, alloc, events).expect(rt, "memory")
 }
 

@@ -2,7 +2,7 @@
 use super::super::Core;
 use super::cores::{Limits, bytes, core_of, datagram, is_served, joined, opened, round, take_next};
 use crate::acts::{Acts, CastOut};
-use aprs_base::Event;
+use aprs_base::{Event, JournalLine, Kind};
 use std::alloc::Global;
 use std::marker::Sync;
 use std::process::Abort;
@@ -44,6 +44,8 @@ pub(super) enum Row<'a> {
     Dials(Option<u16>),
     /// These lines are cast to these peers after the last round.
     Casts(&'a [(u16, &'a [u8])]),
+    /// The last round told the journals these lines: of what kind, at what moment, and what follows it.
+    Tells(&'a [(Kind, u64, &'a [u8])]),
     /// The last round was a stop.
     Done,
     /// The link isn't served.
@@ -58,12 +60,13 @@ pub(super) const USUAL: Limits = Limits {
     clients: 500,
 };
 
-/// A core, the events of the round that goes on, and what was to be done after the last.
+/// A core, the events of the round that goes on, and what was to be done after the last, with what it told the journals.
 #[derive(Drop)]
 struct Session {
     core: Core,
     events: Vec<Event>,
     acts: Acts,
+    lines: Vec<JournalLine>,
 }
 
 fn come<R: Abort>(rt: &R, session: &mut Session, event: Event) {
@@ -73,7 +76,14 @@ fn come<R: Abort>(rt: &R, session: &mut Session, event: Event) {
 /// The round that goes on ends with this event.
 fn end_round<R: Threads + Sync + Abort>(rt: &R, alloc: Global, session: &mut Session, last: Event) {
     come(rt, session, last);
-    session.acts = round(rt, alloc, &mut session.core, session.events.as_slice());
+    session.lines.clear();
+    session.acts = round(
+        rt,
+        alloc,
+        &mut session.core,
+        session.events.as_slice(),
+        &mut session.lines,
+    );
     session.events.clear();
 }
 
@@ -122,6 +132,13 @@ fn are_cast<R: Abort>(rt: &R, casts: &[CastOut], want: &[(u16, &[u8])]) {
     }
 }
 
+fn are_told<R: Abort>(rt: &R, lines: &[JournalLine], want: &[(Kind, u64, &[u8])]) {
+    assert!(rt; lines.len() == want.len());
+    for (line, (kind, moment, text)) in lines.iter().zip(want) {
+        assert!(rt; line.kind == *kind && line.moment == *moment && line.text.as_slice() == *text);
+    }
+}
+
 fn keeps<R: Abort>(rt: &R, core: &Core, place: usize, moment: u64, class: u16) {
     assert!(rt; place < core.accepted.len());
     let packet = &core.accepted[place];
@@ -148,6 +165,7 @@ fn step<R: Threads + Sync + Abort>(rt: &R, alloc: Global, session: &mut Session,
         Row::Closes(links) => are_same(rt, session.acts.closes.as_slice(), links),
         Row::Dials(uplink) => assert!(rt; session.acts.dial == uplink),
         Row::Casts(lines) => are_cast(rt, session.acts.casts.as_slice(), lines),
+        Row::Tells(lines) => are_told(rt, session.lines.as_slice(), lines),
         Row::Done => assert!(rt; session.acts.done),
         Row::Lacks(link) => assert!(rt; !is_served(&session.core, link)),
         Row::Keeps(place, moment, class) => keeps(rt, &session.core, place, moment, class),
@@ -181,6 +199,7 @@ fn new_session<R: RandomSource + Abort>(
         core: core_of(rt, alloc, server, limits),
         events: Vec::new(alloc),
         acts: no_acts(alloc),
+        lines: Vec::new(alloc),
     }
 }
 

@@ -10,7 +10,7 @@ use Rattle.server_core.proofs.server.Core.drop_late.Goals as goal
 
 pub invariant_of-self : goal.invariant_of-self
 invariant_of-self c =
-    kept_left _ (is_in_time (timeouts_of c.self.inside.conf) c.self.inside.moment) c.drop_late.new.links.items c.forget_all.new.heard c.end_all.new.self c.self.inside.turned.items c.place_all.new.numbers.items 
+    kept_left _ (is_in_time (timeouts_of c.self.inside.conf) c.self.inside.moment) c.drop_late.new.links.items c.forget_all.new.heard c.end_all.new.self c.self.inside.turned.items c.place_all.new.numbers.items
     (c.drop_late.ensures ∙ ap (λ (given : Timeouts). filter (is_in_time given c.self.inside.moment) c.self.inside.links.items) c.timeouts-timeouts.ensures) c.self.invariant
 
 pub returns-clause-walks : goal.returns-clause-walks

@@ -11,6 +11,7 @@ invariant_of-self c = record {
   small = c.self.invariant.small;
   station = c.self.invariant.station;
   group = c.self.invariant.group;
+  few = c.self.invariant.few;
 }
 
 pub returns-clause-walks : goal.returns-clause-walks

@@ -1,8 +1,12 @@
 use Rattle.std.proofs.Common.{subst, sym}
 use Rattle.std.proofs.lemmas.Result.{on_ok_weaker}
+use Rattle.aprs_base.specs.declared.packets.Source.TheVariants as source
+use Rattle.aprs_history.specs.declared.verdicts.Verdict.TheVariants.{Refused}
 use Rattle.aprs_history.specs.History.{refuse_datagram}
 use Rattle.server_core.specs.Steps.{Walks}
 use Rattle.server_core.proofs.CoreLemmas.{walks_unread}
+use Rattle.server_core.proofs.TellingLemmas.{tells_said}
+use Rattle.server_core.proofs.WholeRoundLemmas.{stands_ok}
 use Rattle.server_core.proofs.server.Core.refuse_datagram.Goals as goal
 
 pub returns-clause-walks : goal.returns-clause-walks
@@ -10,3 +14,7 @@ returns-clause-walks c = λ t cut walks.
     on_ok_weaker c.refuse.result
     (λ is. subst (λ new. Walks new (refuse_datagram c.args.listener cut c.args.refusal t)) (sym is) (walks_unread c.args.self.now t walks c.args.listener cut c.args.refusal))
     c.refuse.ensures
+
+pub returns-clause-tells : goal.returns-clause-tells
+returns-clause-tells c = λ t cut walks.
+    stands_ok c.refuse.result (tells_said c.args.self.now t walks (source.Submit c.args.listener) cut (Refused c.args.refusal) c.args.lines.now.items c.tell_refusal.new.lines.items c.in_ok-tell_refusal.ensures)

@@ -6,12 +6,12 @@ use Rattle.server_core.proofs.server.Core.take_line.Goals as goal
 
 pub log_in-requires-clause-station : goal.log_in-requires-clause-station
 log_in-requires-clause-station c =
-    (subst IsFit (sym (sym c.in-LoggedIn.is ∙ c.in_ok-judge.ensures)) (verdict_fit (scene_at c.args.self.now c.args.number) c.args.cut.now)).0
+    (subst IsFit (sym (sym c.in-LoggedIn.is ∙ c.in_ok-verdict.ensures)) (verdict_fit (scene_at c.args.self.now c.args.number) c.args.cut.now)).0
 
 pub log_in-requires-clause-few : goal.log_in-requires-clause-few
 log_in-requires-clause-few c =
-    (subst IsFit (sym (sym c.in-LoggedIn.is ∙ c.in_ok-judge.ensures)) (verdict_fit (scene_at c.args.self.now c.args.number) c.args.cut.now)).1
+    (subst IsFit (sym (sym c.in-LoggedIn.is ∙ c.in_ok-verdict.ensures)) (verdict_fit (scene_at c.args.self.now c.args.number) c.args.cut.now)).1
 
 pub answer-requires : goal.answer-requires
 answer-requires c =
-    subst IsFit (sym (sym c.in-Filtered.is ∙ c.in_ok-judge.ensures)) (verdict_fit (scene_at c.args.self.now c.args.number) c.args.cut.now)
+    subst IsFit (sym (sym c.in-Filtered.is ∙ c.in_ok-verdict.ensures)) (verdict_fit (scene_at c.args.self.now c.args.number) c.args.cut.now)

@@ -5,6 +5,8 @@ use Rattle.aprs_history.specs.Links.{late_links, late_reason}
 use Rattle.aprs_history.specs.Trace.{Looked, Ticked, moment_of}
 use Rattle.server_core.specs.Meaning.{CoreMeaning, setting_of}
 use Rattle.server_core.specs.Steps.{Walks}
+use Rattle.server_core.specs.Telling.{Tells}
+use Rattle.server_core.proofs.TellingLemmas.{tells_tick}
 use Rattle.server_core.proofs.server.Core.tick.Goals as goal
 
 pub returns-clause-walks : goal.returns-clause-walks
@@ -16,3 +18,10 @@ returns-clause-walks c = λ t walks.
     subst (λ (conf : ConfSeen). Walks c.look.new.self (Looked ∷ dated (moment_of t) (end_each (late_reason now) (late_links (setting_of conf) now) now))) c.go_on.ensures.rest.conf
     (subst (λ m. Walks c.look.new.self (Looked ∷ dated m (end_each (late_reason now) (late_links (setting_of c.go_on.new.self.conf) now) now))) before
     (c.look.ensures.walks _ told))
+
+pub returns-clause-tells : goal.returns-clause-tells
+returns-clause-tells c = λ t walks.
+    let now = Ticked c.args.moment ∷ t in
+    tells_tick (setting_of c.args.self.now.conf) c.args.moment t c.args.lines.now.items c.end_late.new.lines.items
+    (subst (λ (conf : ConfSeen). Tells (setting_of conf) now (end_each (late_reason now) (late_links (setting_of conf) now) now) c.args.lines.now.items c.end_late.new.lines.items) c.go_on.ensures.rest.conf
+    (c.in_ok-end_late.ensures.tells now (c.go_on.ensures.walks t walks)))
