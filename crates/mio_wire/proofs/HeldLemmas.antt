@@ -51,3 +51,11 @@ held_without link b ns held = λ left. held_but link b ns (b.link == link) refl 
 -- what is left after an event is held as before
 pub held_rest : (n : ℕ) (b : Brought) (ns : List ℕ) → IsHeld b ns → IsHeld (record b { left = drop n b.left }) ns
 held_rest n b ns held = λ left. held (omega (arith, length-drop n b.left))
+
+held_still : (b : Brought) (ns : List ℕ) (same : Bool) → IsHeld b ns → 0 < length (cond same [] b.left) → Contains ns b.link
+held_still b ns true held left = absurd (omega arith)
+held_still b ns false held left = held left
+
+-- of bytes that are let go none are left
+pub held_forgotten : (link : ℕ) (b : Brought) (ns : List ℕ) → IsHeld b ns → IsHeld (forgotten link b) ns
+held_forgotten link b ns held = λ left. held_still b ns (b.link == link) held left

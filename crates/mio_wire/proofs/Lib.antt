@@ -4,5 +4,5 @@ pub mod WriteLemmas
 pub mod LinkLemmas
 pub mod FindLemmas
 pub mod NextLemmas
-pub mod MailLemmas
 pub mod HeldLemmas
+pub mod ListenLemmas

@@ -4,6 +4,8 @@ use Rattle.aprs_base.specs.Outside.{CountsLink, WireShown, new_link}
 use Rattle.aprs_base.specs.declared.events.Event.{Event}
 use Rattle.aprs_base.specs.declared.events.Sent.{Sent}
 use Rattle.aprs_base.specs.declared.events.Sent.TheVariants as sent
+use Rattle.aprs_base.specs.declared.events.WireError.{WireError}
+use Rattle.aprs_base.specs.declared.events.WireError.TheVariants as wire_error
 use Rattle.mio_wire.specs.Coming.{is_arrival, is_mail, is_unasked}
 use Rattle.mio_wire.specs.Linked.{dropped, numbers_after}
 
@@ -35,6 +37,15 @@ abbrev pub gones_after : {E : Type 0} → Result Sent E → ℕ → ℕ
 gones_after (Ok (sent.Took count)) gones = gones
 gones_after (Ok sent.Gone) gones = min (gones + 1) (2 ^ 64 - 1)
 gones_after (Err e) gones = gones
+
+-- a call that failed counts once, and one that had no memory doesn't count
+abbrev pub stops_with : WireError → ℕ → ℕ
+stops_with wire_error.Memory stops = stops
+stops_with wire_error.Failed stops = min (stops + 1) (2 ^ 64 - 1)
+
+abbrev pub stops_after : {T : Type 0} → Result T WireError → ℕ → ℕ
+stops_after (Ok x) stops = stops
+stops_after (Err e) stops = stops_with e stops
 
 -- the counts alone: nothing else is told
 abbrev pub counts : (stops gones links : ℕ) → WireShown

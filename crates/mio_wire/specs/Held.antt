@@ -1,7 +1,15 @@
 -- What the sockets hold.
-use Rattle.std.specs.Prelude.{Option, Some, None}
+use Rattle.std.specs.Prelude.{◌≡◌, ℕ, ⊤, Bool, true, false, if◌then◌else◌, List, [], ◌∷◌, ◌++◌, length, map, Contains, slice_get, Option, Some, None}
+use Rattle.aprs_base.specs.declared.events.Event.{Event}
+use Rattle.aprs_base.specs.declared.events.Event.TheVariants as event
+use Rattle.aprs_base.specs.declared.packets.PortKind.{PortKind}
+use Rattle.aprs_base.specs.declared.packets.PortKind.TheVariants as kind
 use Rattle.mio_wire.specs.declared.mail.Caster.{Caster}
+use Rattle.mio_wire.specs.declared.sockets.Ear.{Ear}
 use Rattle.mio_wire.specs.declared.sockets.Sockets.{Sockets}
+use Rattle.mio_wire.specs.declared.turns.Ready.{Ready}
+use Rattle.mio_wire.specs.Mail.{greater}
+use Rattle.mio_wire.specs.Sources.{with_waiting}
 use Rattle.mio_wire.specs.Unread.{Brought, nothing}
 
 -- the bytes that were read and are not handed up
@@ -9,7 +17,65 @@ abbrev pub unread : Option Sockets → Brought
 unread None = nothing
 unread (Some sockets) = sockets.inbox
 
--- where datagrams are cast from
-abbrev pub caster : Option Sockets → Option Caster
-caster None = None
-caster (Some sockets) = sockets.caster
+-- the numbers of the listeners for links and for datagrams, in the order in which they listen, and where datagrams are cast from
+pub record Listening : Type 0 where
+  pub links : List ℕ
+  pub mail : List ℕ
+  pub caster : Option Caster
+
+abbrev pub listening_of : Sockets → Listening
+listening_of sockets = record { links = map (λ ear. ear.number) sockets.ears.items; mail = map (λ mailbox. mailbox.number) sockets.mailboxes.items; caster = sockets.caster }
+
+abbrev pub listening : Option Sockets → Listening
+listening None = record { links = []; mail = []; caster = None }
+listening (Some sockets) = listening_of sockets
+
+-- after one more listener: it is the last of its kind's, and a peer group's may be the one that casts
+abbrev pub listening_after : PortKind → (number : ℕ) → Listening → Listening
+listening_after kind.Full number before = record before { links = before.links ++ number ∷ [] }
+listening_after kind.Igate number before = record before { links = before.links ++ number ∷ [] }
+listening_after kind.Only number before = record before { links = before.links ++ number ∷ [] }
+listening_after kind.Dupe number before = record before { links = before.links ++ number ∷ [] }
+listening_after kind.Submit number before = record before { mail = before.mail ++ number ∷ [] }
+listening_after kind.Core number before = record {
+  links = before.links;
+  mail = before.mail ++ number ∷ [];
+  caster = greater before.caster (record { number = number; place = length before.mail });
+}
+
+-- nothing but a new link, which names the listener at that place
+abbrev pub OpensAt : (listeners : List ℕ) (place : ℕ) → Option Event → Type 0
+OpensAt listeners place None = ⊤
+OpensAt listeners place (Some (event.Opened listener link from)) = slice_get listeners place ≡ Some listener
+OpensAt listeners place (Some _) = ⊥
+
+-- nothing but a datagram, which names the listener at that place
+abbrev pub BringsAt : (listeners : List ℕ) (place : ℕ) → Option Event → Type 0
+BringsAt listeners place None = ⊤
+BringsAt listeners place (Some (event.Datagram listener from bytes)) = slice_get listeners place ≡ Some listener
+BringsAt listeners place (Some _) = ⊥
+
+-- a new link names a listener for links, and a datagram one for datagrams
+abbrev pub NamesListener : Listening → Event → Type 0
+NamesListener heard (event.Opened listener link from) = Contains heard.links listener
+NamesListener heard (event.Datagram listener from bytes) = Contains heard.mail listener
+NamesListener heard _ = ⊤
+
+abbrev pub NamesStep : Listening → Option Event → Type 0
+NamesStep heard None = ⊤
+NamesStep heard (Some e) = NamesListener heard e
+
+-- what waits for the next turn with each of the listeners that are deaf
+abbrev pub with_deaf : List Ear → List Ready → List Ready
+with_deaf [] later = later
+with_deaf (ear ∷ ears) later = with_deaf ears (if ear.deaf then with_waiting ear.token later else later)
+
+-- deaf listeners wait once they are to be tried again
+abbrev pub woken : (retry : Bool) → List Ear → List Ready → List Ready
+woken true ears later = with_deaf ears later
+woken false ears later = later
+
+-- deaf listeners are to be tried again, where there are sockets
+abbrev pub Retries : Option Sockets → Type 0
+Retries None = ⊤
+Retries (Some sockets) = sockets.retry ≡ true

@@ -1,10 +1,11 @@
 -- The links by their numbers.
-use Rattle.std.specs.Prelude.{◌==◌, ⊤, Contains, Option, Some, None, ℕ, ◌<◌, ◌≤◌, not, List, [], ◌∷◌, ◌++◌, All, AllPairs, map, filter}
+use Rattle.std.specs.Prelude.{◌==◌, ◌&&◌, ◌||◌, ⊤, Contains, Option, Some, None, ℕ, ◌<◌, ◌≤◌, not, List, [], ◌∷◌, ◌++◌, All, AllPairs, map, filter}
 use Rattle.aprs_base.specs.declared.events.Event.{Event}
 use Rattle.aprs_base.specs.declared.events.Event.TheVariants as event
 use Rattle.aprs_base.specs.declared.events.Sent.{Sent}
 use Rattle.aprs_base.specs.declared.events.Sent.TheVariants as sent
 use Rattle.mio_wire.specs.declared.links.Link.{Link}
+use Rattle.mio_wire.specs.declared.turns.Ready.{Ready}
 
 abbrev pub numbers : List Link → List ℕ
 numbers links = map (λ l. l.number) links
@@ -20,6 +21,10 @@ IsCounted made ns = All (λ n. n ≤ made) ns
 -- the links but for the one with that number
 abbrev pub without : ℕ → List Link → List Link
 without number links = filter (λ l. not (l.number == number)) links
+
+-- a link once the poll told of it: one that was blocked has room again where it can be written to
+abbrev pub noted : Ready → Link → Link
+noted ready link = record link { closed = link.closed || ready.closed; blocked = link.blocked && not ready.writable }
 
 -- the numbers but for that one
 abbrev pub dropped : ℕ → List ℕ → List ℕ

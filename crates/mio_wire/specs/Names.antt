@@ -2,8 +2,15 @@
 use Rattle.std.specs.Prelude.{◌≡◌, ℕ, ◌+◌, ◌<◌, ◌≤◌, List, length, Option, Some, None}
 use Rattle.std.specs.Net.Addr.{ipv4_octets}
 use Rattle.std.specs.Net.Grammar.{IsIpv4Text}
+use Rattle.std.specs.declared.net.socket_addr.SocketAddr.{SocketAddr}
+use Rattle.std.specs.declared.net.socket_addr.SocketAddr.TheVariants.{V4, V6}
 use Rattle.std.specs.declared.net.ipv4_addr.Ipv4Addr.{Ipv4Addr}
 use Rattle.aprs_base.specs.declared.texts.Addr.{Addr}
+
+-- the address that a socket's is, where it is one of IPv4
+abbrev pub ipv4_of : SocketAddr → Option Addr
+ipv4_of (V4 at) = Some (record { ip = ipv4_octets at.ip; port = at.port })
+ipv4_of (V6 at) = None
 
 -- the address that the digits write, and the port
 abbrev pub IsIn : (host : List ℕ) (port : ℕ) → Option Addr → Type 0

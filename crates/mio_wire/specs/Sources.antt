@@ -1,5 +1,7 @@
 -- What the tokens of the poll stand for.
-use Rattle.std.specs.Prelude.{ℕ, ◌-◌, ◌*◌, ◌^◌, nat_lt, if◌then◌else◌}
+use Rattle.std.specs.Prelude.{ℕ, ◌-◌, ◌*◌, ◌^◌, ◌==◌, nat_le, nat_lt, true, false, List, [], ◌∷◌, ◌++◌, if◌then◌else◌}
+use Rattle.std.specs.List.{list_any}
+use Rattle.mio_wire.specs.declared.turns.Ready.{Ready}
 use Rattle.mio_wire.specs.declared.turns.Source.{Source}
 use Rattle.mio_wire.specs.declared.turns.Source.TheVariants.{Dial, Ear, Link, Mailbox}
 
@@ -10,3 +12,15 @@ source_of token =
     else (if nat_lt token (2 * 2 ^ 32) then Ear (token - 2 ^ 32)
     else (if nat_lt token (3 * 2 ^ 32) then Mailbox (token - 2 * 2 ^ 32)
     else Dial token))
+
+-- a source of which more can be read in another turn
+abbrev pub to_read : (token : ℕ) → Ready
+to_read token = record { token = token; readable = true; writable = false; closed = false; again = true }
+
+-- what waits for the next turn with one source more, which waits once
+abbrev pub with_waiting : (token : ℕ) → List Ready → List Ready
+with_waiting token later = if list_any (λ r. r.token == token) later then later else later ++ to_read token ∷ []
+
+-- what waits once a source had its turn: it does where it had as much as one turn gives
+abbrev pub waiting_after : (most had token : ℕ) → List Ready → List Ready
+waiting_after most had token later = if nat_le most had then with_waiting token later else later

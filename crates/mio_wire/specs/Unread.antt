@@ -1,7 +1,9 @@
 -- Bytes that were read and are not handed up.
-use Rattle.std.specs.Prelude.{◌≡◌, ℕ, ◌<◌, ◌==◌, ⊤, Contains, List, [], ◌∷◌, length, take, drop, Option, Some, None, if◌then◌else◌}
+use Rattle.std.specs.Prelude.{◌≡◌, ℕ, ◌<◌, ◌==◌, ⊤, Contains, List, [], ◌∷◌, length, take, drop, Option, Some, None, Result, Ok, Err, if◌then◌else◌}
 use Rattle.aprs_base.specs.declared.events.Event.{Event}
 use Rattle.aprs_base.specs.declared.events.Event.TheVariants as event
+use Rattle.aprs_base.specs.declared.events.Sent.{Sent}
+use Rattle.aprs_base.specs.declared.events.Sent.TheVariants as sent
 
 -- bytes that a link brought
 pub record Brought : Type 0 where
@@ -14,6 +16,12 @@ nothing = record { link = 0; left = [] }
 -- without the bytes of a link
 abbrev pub forgotten : ℕ → Brought → Brought
 forgotten link brought = record brought { left = if brought.link == link then [] else brought.left }
+
+-- bytes that are left after an offer: without those of a link that is gone
+abbrev pub unread_after : {E : Type 0} → Result Sent E → ℕ → Brought → Brought
+unread_after (Ok (sent.Took count)) link brought = brought
+unread_after (Ok sent.Gone) link brought = forgotten link brought
+unread_after (Err e) link brought = brought
 
 -- bytes that are left are those of a link that is there
 abbrev pub IsHeld : Brought → List ℕ → Type 0

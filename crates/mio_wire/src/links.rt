@@ -1,8 +1,8 @@
 //! The links, and what is read from them and written to them.
-ghost use Rattle.std.specs.Prelude.{◌≡◌, ◌≢◌, ℕ, ◌+◌, ◌≤◌, ◌<◌, ◌^◌, [], ◌∷◌, ◌++◌, Some, OnOk, OnErr, OnSome, IfSome, IfNone, IfOk, All, Contains, false, length, take, option_map, slice_get};
+ghost use Rattle.std.specs.Prelude.{◌≡◌, ◌≢◌, ℕ, ◌+◌, ◌≤◌, ◌<◌, ◌^◌, [], ◌∷◌, ◌++◌, Some, OnOk, OnErr, OnSome, IfSome, IfNone, IfOk, All, Contains, false, ◌&&◌, ◌||◌, nat_lt, length, take, option_map, slice_get, vec_len, vec_capacity};
 ghost use Rattle.std.specs.Io.KnownBytes.{Appends};
 ghost use Rattle.mio_wire.specs.declared.links.Reading.TheVariants.{End};
-ghost use Rattle.mio_wire.specs.Linked.{IsCounted, IsRising, dropped, numbers, without};
+ghost use Rattle.mio_wire.specs.Linked.{IsCounted, IsRising, dropped, noted, numbers, without};
 
 use crate::inbox::{Inbox, MOST_READ};
 use crate::turns::Ready;
@@ -37,7 +37,8 @@ pub(crate) enum Reading {
 impl Link {
     /// Notes what the poll says. True where the link was blocked and has room again.
     fn note(&mut self, ready: Ready) -> bool
-        ensures { self.new.number ≡ self.old.number }
+        ensures room { result ≡ (ready.writable && self.old.blocked) }
+        ensures noted { self.new ≡ noted ready self.old }
     {
         self.closed = self.closed || ready.closed;
         let room = ready.writable && self.blocked;
@@ -67,6 +68,7 @@ impl Link {
     /// Offers bytes to the link.
     fn write(&mut self, bytes: &[u8]) -> Option<Written>
         ensures number { self.new.number ≡ self.old.number }
+        ensures blocked { IfSome result (λ w. self.new.blocked ≡ (self.old.blocked || nat_lt w.taken (length bytes.now))) }
         ensures within { IfSome result (λ w. w.taken ≤ length bytes.now) }
     {
         let written = write_on(&mut self.stream, bytes)?;
@@ -96,12 +98,21 @@ impl Links {
         }
     }
 
-    /// Adds a link with the next number.
+    /// Has room for one link more.
+    pub(crate) fn make_room(&mut self) -> Result<(), AllocError>
+        ensures room { OnOk result (vec_len self.new.list < vec_capacity self.new.list) }
+        ensures same { (self.new.list.items ≡ self.old.list.items) × (self.new.made ≡ self.old.made) }
+    {
+        self.list.reserve(1)
+    }
+
+    /// Adds a link with the next number. It fails only where there is no room.
     pub(crate) fn add(&mut self, stream: TcpStream) -> Result<(), AllocError>
         requires { self.old.made + 1 < 2 ^ 32 }
         ensures ok { OnOk result (self.new.made ≡ self.old.made + 1) }
         ensures link { OnOk result (self.new.list.items ≡ self.old.list.items ++ record { number = self.old.made + 1; stream = stream; later = false; closed = false; blocked = false } ∷ []) }
         ensures err { OnErr result ((self.new.list.items ≡ self.old.list.items) × (self.new.made ≡ self.old.made)) }
+        ensures full { OnErr result (vec_capacity self.old.list ≤ vec_len self.old.list) }
     {
         self.list.push(Link {
             number: self.made + 1,
@@ -129,7 +140,10 @@ impl Links {
     /// Notes what the poll says of the link at a place. True where it was blocked and has room again.
     pub(crate) fn note(&mut self, place: usize, ready: Ready) -> bool
         requires { place < length self.old.list.items }
-        ensures { (numbers self.new.list.items ≡ numbers self.old.list.items) × (self.new.made ≡ self.old.made) }
+        ensures room { option_map (λ l. ready.writable && l.blocked) (slice_get self.old.list.items place) ≡ Some result }
+        ensures noted { slice_get self.new.list.items place ≡ option_map (noted ready) (slice_get self.old.list.items place) }
+        ensures same { (numbers self.new.list.items ≡ numbers self.old.list.items) × (self.new.made ≡ self.old.made) }
+        ensures others { (number : ℕ) → option_map (λ l. l.number) (slice_get self.old.list.items place) ≡ Some number → without number self.new.list.items ≡ without number self.old.list.items }
     {
         self.list[place].note(ready)
     }
@@ -137,6 +151,7 @@ impl Links {
     /// Whether the link at a place waits for another turn.
     pub(crate) fn is_later(&self, place: usize) -> bool
         requires { place < length self.now.list.items }
+        ensures { option_map (λ l. l.later) (slice_get self.now.list.items place) ≡ Some result }
     {
         self.list[place].later
     }
@@ -145,8 +160,10 @@ impl Links {
     pub(crate) fn read(&mut self, place: usize, inbox: &mut Inbox) -> Reading
         requires { place < length self.old.list.items }
         ensures link { Contains (numbers self.old.list.items) inbox.new.link }
+        ensures number { option_map (λ l. l.number) (slice_get self.old.list.items place) ≡ Some inbox.new.link }
         ensures end { result ≡ End → length inbox.new.left ≡ 0 }
         ensures same { (numbers self.new.list.items ≡ numbers self.old.list.items) × (self.new.made ≡ self.old.made) }
+        ensures others { (number : ℕ) → option_map (λ l. l.number) (slice_get self.old.list.items place) ≡ Some number → without number self.new.list.items ≡ without number self.old.list.items }
     {
         self.list[place].read(inbox)
     }

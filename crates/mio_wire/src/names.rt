@@ -5,10 +5,10 @@ ghost use Rattle.std.specs.Net.Grammar.{IsIpv4Text};
 ghost use Rattle.std.specs.declared.net.ipv4_addr.Ipv4Addr.{Ipv4Addr};
 ghost use Rattle.mio_wire.specs.Names.{IsIn, IsTurn};
 
-use crate::addresses::addr_of;
+use crate::addresses::ipv4_of;
 use aprs_base::{Addr, UplinkSpec};
 use std::alloc::{AllocError, Global};
-use std::net::{Ipv4Addr, Net, SocketAddr, ToSocketAddrs};
+use std::net::{Ipv4Addr, Net, ToSocketAddrs};
 use std::str;
 
 /// The addresses that were found for an uplink.
@@ -117,8 +117,8 @@ fn look_up<R: Net>(rt: &R, spec: &UplinkSpec, found: &mut Vec<Addr>) -> Result<(
         return Ok(());
     };
     for address in addresses {
-        if let SocketAddr::V4(_) = address {
-            found.push(addr_of(address))?;
+        if let Some(at) = ipv4_of(address) {
+            found.push(at)?;
         }
     }
     Ok(())

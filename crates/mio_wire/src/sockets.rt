@@ -1,10 +1,11 @@
 //! The poll with the sockets that it watches.
-ghost use Rattle.std.specs.Prelude.{◌≡◌, ◌≤◌, None, true, false, OnOk, OnErr, IfOk, IfNone, IfSome, length, take, drop, vec_len};
+ghost use Rattle.std.specs.Prelude.{◌≡◌, ◌≤◌, ◌⊎◌, ◌++◌, [], ◌∷◌, map, None, true, false, OnOk, OnErr, IfOk, IfNone, IfSome, length, take, drop};
 ghost use Rattle.aprs_base.specs.Outside.{IsOutcome};
+ghost use Rattle.aprs_base.specs.declared.packets.PortKind.TheVariants.{Core, Submit};
 ghost use Rattle.mio_wire.specs.Arrivals.{after_sent};
 ghost use Rattle.mio_wire.specs.Linked.{TakesOf, dropped, numbers, without};
-ghost use Rattle.mio_wire.specs.Mail.{caster_after};
-ghost use Rattle.mio_wire.specs.Unread.{IsHeld, forgotten, nothing};
+ghost use Rattle.mio_wire.specs.Held.{listening_after, listening_of, with_deaf, woken};
+ghost use Rattle.mio_wire.specs.Unread.{IsHeld, forgotten, nothing, unread_after};
 
 mod serving;
 
@@ -29,6 +30,8 @@ const MOST_EVENTS: usize = 512;
 struct Ear {
     number: u16,
     listener: TcpListener,
+    /// Its token at the poll.
+    token: usize,
     /// An accept failed: it is tried again at each new second and after each close.
     deaf: bool,
     /// How many links it opened in this turn.
@@ -50,7 +53,7 @@ pub(crate) struct Sockets {
 
 impl Sockets {
     pub(crate) fn open<R: Net>(rt: &R, alloc: Global) -> Result<Sockets, WireError>
-        ensures { IfOk result (λ s. (s.inbox ≡ nothing) × (s.caster ≡ None)) }
+        ensures { IfOk result (λ s. (s.inbox ≡ nothing) × (listening_of s ≡ record { links = []; mail = []; caster = None })) }
     {
         let events = Events::with_capacity(alloc, MOST_EVENTS)?;
         let inbox = Inbox::new(alloc)?;
@@ -77,8 +80,8 @@ impl Sockets {
         spec: &ListenSpec,
     ) -> Result<(), WireError>
         ensures unread { self.new.inbox ≡ self.old.inbox }
-        ensures ok { OnOk result (self.new.caster ≡ caster_after spec.now.kind number (vec_len self.old.mailboxes) self.old.caster) }
-        ensures err { OnErr result (self.new.caster ≡ self.old.caster) }
+        ensures ok { OnOk result (listening_of self.new ≡ listening_after spec.now.kind number (listening_of self.old)) }
+        ensures err { OnErr result (listening_of self.new ≡ listening_of self.old) }
     {
         match spec.kind {
             PortKind::Full | PortKind::Igate | PortKind::Only | PortKind::Dupe => {
@@ -89,26 +92,30 @@ impl Sockets {
     }
 
     fn listen_for_links<R: Net>(&mut self, rt: &R, number: u16, at: Addr) -> Result<(), WireError>
-        ensures { (self.new.inbox ≡ self.old.inbox) × (self.new.caster ≡ self.old.caster) }
+        ensures unread { self.new.inbox ≡ self.old.inbox }
+        ensures ok { OnOk result (listening_of self.new ≡ record (listening_of self.old) { links = (listening_of self.old).links ++ number ∷ [] }) }
+        ensures err { OnErr result (listening_of self.new ≡ listening_of self.old) }
     {
-        let Ok(listener) = self.bind(rt, at) else {
+        self.ears.reserve(1)?;
+        let token = FIRST_EAR.saturating_add(self.ears.len());
+        let Ok(listener) = self.bind(rt, at, token) else {
             return Err(WireError::Failed);
         };
         self.ears.push(Ear {
             number,
             listener,
+            token,
             deaf: false,
             opened: 0,
         })?;
         Ok(())
     }
 
-    fn bind<R: Net>(&self, rt: &R, at: Addr) -> io::Result<TcpListener> {
+    fn bind<R: Net>(&self, rt: &R, at: Addr, token: usize) -> io::Result<TcpListener> {
         let mut listener = TcpListener::bind(rt, socket_of(at))?;
-        let token = Token(FIRST_EAR.saturating_add(self.ears.len()));
         self.poll
             .registry()
-            .register(&mut listener, token, Interest::READABLE)?;
+            .register(&mut listener, Token(token), Interest::READABLE)?;
         Ok(listener)
     }
 
@@ -118,10 +125,12 @@ impl Sockets {
         number: u16,
         spec: &ListenSpec,
     ) -> Result<(), WireError>
+        requires { (spec.now.kind ≡ Submit) ⊎ (spec.now.kind ≡ Core) }
         ensures unread { self.new.inbox ≡ self.old.inbox }
-        ensures ok { OnOk result (self.new.caster ≡ caster_after spec.now.kind number (vec_len self.old.mailboxes) self.old.caster) }
-        ensures err { OnErr result (self.new.caster ≡ self.old.caster) }
+        ensures ok { OnOk result (listening_of self.new ≡ listening_after spec.now.kind number (listening_of self.old)) }
+        ensures err { OnErr result (listening_of self.new ≡ listening_of self.old) }
     {
+        self.mailboxes.reserve(1)?;
         let Ok(socket) = self.bind_mailbox(rt, spec.at) else {
             return Err(WireError::Failed);
         };
@@ -174,12 +183,10 @@ impl Sockets {
 
     /// Waits until something is ready, but not where something waits for another turn, and begins a turn.
     pub(crate) fn wait(&mut self, most: Duration) -> Result<(), WireError>
-        ensures { self.new.inbox ≡ self.old.inbox }
+        ensures unread { self.new.inbox ≡ self.old.inbox }
+        ensures listening { listening_of self.new ≡ listening_of self.old }
     {
         self.wake_ears()?;
-        for mailbox in self.mailboxes.iter_mut() {
-            mailbox.received = 0;
-        }
         let most = if self.turns.has_later() {
             Duration::ZERO
         } else {
@@ -189,19 +196,19 @@ impl Sockets {
             return Err(WireError::Failed);
         }
         self.turns.begin(&self.events)?;
+        open_anew(self.ears.as_mut_slice());
+        receive_anew(self.mailboxes.as_mut_slice());
         Ok(())
     }
 
+    /// Deaf listeners wait for the next turn where they are to be tried again.
     fn wake_ears(&mut self) -> Result<(), AllocError>
-        ensures { self.new.inbox ≡ self.old.inbox }
+        ensures later { OnOk result (self.new.turns.later.items ≡ woken self.old.retry self.old.ears.items self.old.turns.later.items) }
+        ensures tried { OnOk result (self.new.retry ≡ false) }
+        ensures kept { self.new ≡ record self.old { turns = self.new.turns; retry = self.new.retry } }
     {
-        for (place, ear) in self.ears.iter_mut().enumerate() {
-            ear.opened = 0;
-            if self.retry && ear.deaf {
-                ear.deaf = false;
-                self.turns
-                    .put_off(Ready::to_read(FIRST_EAR.saturating_add(place)))?;
-            }
+        if self.retry {
+            wake_all(&mut self.turns, self.ears.as_slice())?;
         }
         self.retry = false;
         Ok(())
@@ -234,7 +241,7 @@ impl Sockets {
         ensures links { (links.new.list.items ≡ without number links.old.list.items) × (links.new.made ≡ links.old.made) }
         ensures numbers { numbers links.new.list.items ≡ dropped number (numbers links.old.list.items) }
         ensures others { without number links.new.list.items ≡ without number links.old.list.items }
-        ensures inbox { self.new.inbox ≡ forgotten number self.old.inbox }
+        ensures kept { self.new ≡ record self.old { inbox = forgotten number self.old.inbox; retry = true } }
     {
         links.let_go(number);
         self.inbox.forget(number);
@@ -250,14 +257,19 @@ impl Sockets {
     ) -> Result<Sent, AllocError>
         ensures there { IfOk result (TakesOf (numbers links.old.list.items) number) }
         ensures held { IsHeld self.old.inbox (numbers links.old.list.items) → IsHeld self.new.inbox (numbers links.new.list.items) }
+        ensures unread { self.new.inbox ≡ unread_after result number self.old.inbox }
         ensures part { IfOk result (IsOutcome bytes.now) }
         ensures made { links.new.made ≡ links.old.made }
         ensures numbers { OnOk result (numbers links.new.list.items ≡ after_sent result number (numbers links.old.list.items)) }
         ensures others { without number links.new.list.items ≡ without number links.old.list.items }
+        ensures listening { listening_of self.new ≡ listening_of self.old }
+        ensures err { OnErr result (links.new.list.items ≡ links.old.list.items) }
     {
         let Some(place) = links.place_of(number) else {
+            self.inbox.forget(number);
             return Ok(Sent::Gone);
         };
+        self.turns.make_room()?;
         let Some(written) = links.write(place, bytes) else {
             self.let_go(links, number);
             return Ok(Sent::Gone);
@@ -266,5 +278,43 @@ impl Sockets {
             self.turns.put_off(Ready::to_write(number as usize))?;
         }
         Ok(Sent::Took(written.taken))
+    }
+}
+
+/// A deaf listener waits for the next turn.
+fn wake(turns: &mut Turns, ear: &Ear) -> Result<(), AllocError>
+    ensures { OnOk result (turns.new.later.items ≡ with_deaf (ear.now ∷ []) turns.old.later.items) }
+{
+    if ear.deaf {
+        turns.put_off_once(ear.token)?;
+    }
+    Ok(())
+}
+
+/// Deaf listeners wait for the next turn.
+fn wake_all(turns: &mut Turns, ears: &[Ear]) -> Result<(), AllocError>
+    ensures { OnOk result (turns.new.later.items ≡ with_deaf ears.now turns.old.later.items) }
+{
+    for ear in ears {
+        wake(turns, ear)?;
+    }
+    Ok(())
+}
+
+/// Each listener may open its share of links again.
+fn open_anew(ears: &mut [Ear])
+    ensures numbers { map (λ ear. ear.number) ears.new ≡ map (λ ear. ear.number) ears.old }
+{
+    for ear in ears.iter_mut() {
+        ear.opened = 0;
+    }
+}
+
+/// Each socket for datagrams may bring its share again.
+fn receive_anew(mailboxes: &mut [Mailbox])
+    ensures numbers { map (λ mailbox. mailbox.number) mailboxes.new ≡ map (λ mailbox. mailbox.number) mailboxes.old }
+{
+    for mailbox in mailboxes.iter_mut() {
+        mailbox.received = 0;
     }
 }

@@ -1,7 +1,8 @@
 //! What is ready and is served in turn, and what waits for another turn.
-ghost use Rattle.std.specs.Prelude.{◌≡◌, ◌≢◌, ◌↔◌, ◌+◌, ◌-◌, ◌^◌, true, false, List, [], ◌∷◌, ◌++◌, OnOk, IsTrue, min, slice_get};
+ghost use Rattle.std.specs.Prelude.{◌≡◌, ◌==◌, ◌≢◌, ◌↔◌, ◌+◌, ◌-◌, ◌^◌, true, false, List, [], ◌∷◌, ◌++◌, OnOk, OnErr, IsTrue, min, slice_get, ◌<◌, ◌≤◌, vec_len, vec_capacity};
+ghost use Rattle.std.specs.List.{list_any};
 ghost use Rattle.mio_wire.specs.declared.turns.Ready.{Ready};
-ghost use Rattle.mio_wire.specs.Sources.{source_of};
+ghost use Rattle.mio_wire.specs.Sources.{source_of, to_read, with_waiting};
 
 use mio::Events;
 use mio::event::Event;
@@ -63,7 +64,7 @@ impl Ready {
 
     /// A source of which more can be read.
     pub(crate) fn to_read(token: usize) -> Ready
-        ensures { result ≡ record { token = token; readable = true; writable = false; closed = false; again = true } }
+        ensures { result ≡ to_read token }
     {
         Ready {
             token,
@@ -121,13 +122,43 @@ impl Turns {
         self.at = self.at.saturating_add(1);
     }
 
-    /// Keeps a source for the next turn.
+    /// Has room for one source more that waits.
+    pub(crate) fn make_room(&mut self) -> Result<(), AllocError>
+        ensures room { OnOk result (vec_len self.new.later < vec_capacity self.new.later) }
+        ensures later { self.new.later.items ≡ self.old.later.items }
+        ensures turn { (self.new.ready ≡ self.old.ready) × (self.new.at ≡ self.old.at) }
+    {
+        self.later.reserve(1)
+    }
+
+    /// Keeps a source for the next turn. It fails only where there is no room.
     pub(crate) fn put_off(&mut self, ready: Ready) -> Result<(), AllocError>
         ensures later { OnOk result (self.new.later.items ≡ self.old.later.items ++ ready ∷ []) }
+        ensures err { OnErr result (self.new.later.items ≡ self.old.later.items) }
+        ensures full { OnErr result (vec_capacity self.old.later ≤ vec_len self.old.later) }
         ensures turn { (self.new.ready ≡ self.old.ready) × (self.new.at ≡ self.old.at) }
     {
         self.later.push(ready)?;
         Ok(())
+    }
+
+    /// Whether a source waits for the next turn.
+    fn waits(&self, token: usize) -> bool
+        ensures { result ≡ list_any (λ r. r.token == token) self.now.later.items }
+    {
+        self.later.iter().any(|waiting| waiting.token == token)
+    }
+
+    /// Keeps a source of which more can be read for the next turn, unless it waits for that already.
+    pub(crate) fn put_off_once(&mut self, token: usize) -> Result<(), AllocError>
+        ensures later { OnOk result (self.new.later.items ≡ with_waiting token self.old.later.items) }
+        ensures err { OnErr result (self.new.later.items ≡ self.old.later.items) }
+        ensures turn { (self.new.ready ≡ self.old.ready) × (self.new.at ≡ self.old.at) }
+    {
+        if self.waits(token) {
+            return Ok(());
+        }
+        self.put_off(Ready::to_read(token))
     }
 
     pub(crate) fn has_later(&self) -> bool

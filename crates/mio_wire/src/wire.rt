@@ -1,5 +1,5 @@
 //! The wire over the sockets of the system.
-ghost use Rattle.std.specs.Prelude.{◌≡◌, ℕ, ◌+◌, ◌-◌, ◌^◌, ◌≤◌, ◌++◌, [], ◌∷◌, Some, None, true, false, length, OnOk, OnErr, IfOk, IfSome, IsErrOf};
+ghost use Rattle.std.specs.Prelude.{◌≡◌, ◌≢◌, ◌<◌, ℕ, ◌+◌, ◌-◌, ◌^◌, ◌≤◌, ◌++◌, [], ◌∷◌, Some, None, true, false, length, OnOk, OnErr, IfOk, IfSome, IsErrOf};
 ghost use Rattle.aprs_base.specs.Outside.{AfterAct, AfterListen, AfterNext, AfterSend, IsOutcome, Rose, with_cast, with_closed, with_dial};
 ghost use Rattle.aprs_base.specs.declared.events.Event.TheVariants.{Tick};
 ghost use Rattle.aprs_base.specs.declared.events.WireError.TheVariants as WireError;
@@ -10,10 +10,9 @@ ghost use Rattle.std.specs.declared.net.ipv4_addr.Ipv4Addr.{Ipv4Addr};
 ghost use Rattle.mio_wire.specs.Names.{IsIn};
 ghost use Rattle.mio_wire.specs.Dialled.{Answers, AnswersStep, Begins};
 ghost use Rattle.mio_wire.specs.Linked.{TakesOf, TellsOfOne, TellsStep, numbers, numbers_after, without};
-ghost use Rattle.mio_wire.specs.Arrivals.{IsArrival, Steps, after_sent, counts, gones_after};
-ghost use Rattle.mio_wire.specs.Unread.{HandsUp, IsHeld, Leaves, forgotten};
-ghost use Rattle.mio_wire.specs.Held.{caster, unread};
-ghost use Rattle.mio_wire.specs.Mail.{caster_after};
+ghost use Rattle.mio_wire.specs.Arrivals.{IsArrival, Steps, after_sent, counts, gones_after, stops_after, stops_with};
+ghost use Rattle.mio_wire.specs.Unread.{HandsUp, IsHeld, Leaves, forgotten, unread_after};
+ghost use Rattle.mio_wire.specs.Held.{NamesListener, NamesStep, Retries, listening, listening_after, unread};
 
 use crate::course::Course;
 use crate::dials::{Dial, Dials};
@@ -26,6 +25,13 @@ use std::alloc::Global;
 use std::net::Net;
 use std::sync::Wait;
 use std::time::{Clock, Duration, SystemTime};
+
+/// How many milliseconds are left of a second of which so many are over.
+fn left_of_second(over: u32) -> u64
+    ensures { result ≡ 1000 - over }
+{
+    1000u64.saturating_sub(u64::from(over))
+}
 
 /// The address of a dial for which none was found.
 const NOWHERE: Addr = Addr {
@@ -75,6 +81,7 @@ impl<'a, R: Net + Clock> MioWire<'a, R> {
     /// Counts a failed call, and hands the error on.
     fn refuse(&mut self, error: WireError) -> WireError
         ensures same { result ≡ error }
+        ensures counted { self.new.stops ≡ stops_with error self.old.stops }
         ensures stops { (self.old.stops ≤ self.new.stops) × (error ≡ WireError.Failed → Rose self.old.stops self.new.stops) }
         ensures kept { self.new ≡ record self.old { stops = self.new.stops } }
     {
@@ -88,7 +95,9 @@ impl<'a, R: Net + Clock> MioWire<'a, R> {
     fn open(&mut self) -> Result<(), WireError>
         ensures stops { (self.old.stops ≤ self.new.stops) × (IsErrOf result WireError.Failed → Rose self.old.stops self.new.stops) }
         ensures kept { self.new ≡ record self.old { sockets = self.new.sockets; stops = self.new.stops } }
-        ensures held { (unread self.new.sockets ≡ unread self.old.sockets) × (caster self.new.sockets ≡ caster self.old.sockets) }
+        ensures counted { self.new.stops ≡ stops_after result self.old.stops }
+        ensures unread { unread self.new.sockets ≡ unread self.old.sockets }
+        ensures listening { listening self.new.sockets ≡ listening self.old.sockets }
     {
         if self.sockets.is_none() {
             match Sockets::open(self.rt, self.alloc) {
@@ -110,8 +119,10 @@ impl<'a, R: Net + Clock> MioWire<'a, R> {
     /// A tick. In a new second, listeners that failed to open a link try again.
     fn tick(&mut self, moment: u64) -> Event
         ensures event { result ≡ Tick moment }
+        ensures tried { self.old.course.second ≢ Some moment → Retries self.new.sockets }
         ensures kept { self.new ≡ record self.old { sockets = self.new.sockets } }
         ensures unread { unread self.new.sockets ≡ unread self.old.sockets }
+        ensures listening { listening self.new.sockets ≡ listening self.old.sockets }
     {
         if self.course.second != Some(moment) {
             if let Some(sockets) = &mut self.sockets {
@@ -141,7 +152,12 @@ impl<'a, R: Net + Clock> MioWire<'a, R> {
         ensures bytes { IfOk result (HandsUp (unread self.old.sockets)) }
         ensures rest { IfOk result (λ o. IfSome o (Leaves (unread self.old.sockets) (unread self.new.sockets) (unread self.old.sockets).left)) }
         ensures err { OnErr result ((numbers self.new.links.list.items ≡ numbers self.old.links.list.items) × (self.new.links.made ≡ self.old.links.made)) }
+        ensures unanswered { OnErr result (self.new.dials.list.items ≡ self.old.dials.list.items) }
+        ensures unread { OnErr result (unread self.new.sockets ≡ unread self.old.sockets) }
         ensures memory { IsErrOf result WireError.Failed → ⊥ }
+        ensures names { IfOk result (NamesStep (listening self.old.sockets)) }
+        ensures counted { self.new.stops ≡ stops_after result self.old.stops }
+        ensures listening { listening self.new.sockets ≡ listening self.old.sockets }
         ensures kept { (self.new.stops ≡ self.old.stops) × (self.new.gones ≡ self.old.gones) × (self.new.course ≡ self.old.course) }
     {
         let Some(sockets) = &mut self.sockets else {
@@ -162,7 +178,12 @@ impl<'a, R: Net + Clock> MioWire<'a, R> {
         ensures held { IsHeld (unread self.old.sockets) (numbers self.old.links.list.items) → IfOk result (λ o. IsHeld (unread self.new.sockets) (numbers self.new.links.list.items)) }
         ensures gives { IfOk result (StepGives self.old.course self.old.dials.list.items (unread self.old.sockets)) }
         ensures err { OnErr result ((numbers self.new.links.list.items ≡ numbers self.old.links.list.items) × (self.new.links.made ≡ self.old.links.made)) }
+        ensures unanswered { OnErr result (self.new.dials.list.items ≡ self.old.dials.list.items) }
+        ensures unread { OnErr result (unread self.new.sockets ≡ unread self.old.sockets) }
         ensures stops { (self.old.stops ≤ self.new.stops) × (IsErrOf result WireError.Failed → Rose self.old.stops self.new.stops) }
+        ensures names { IfOk result (NamesStep (listening self.old.sockets)) }
+        ensures counted { self.new.stops ≡ stops_after result self.old.stops }
+        ensures listening { listening self.new.sockets ≡ listening self.old.sockets }
         ensures kept { (self.new.gones ≡ self.old.gones) × (self.new.course ≡ self.old.course) }
     {
         let Some(second) = self.course.second else {
@@ -195,9 +216,12 @@ impl<'a, R: Net + Clock> MioWire<'a, R> {
         ensures there { IfOk result (TakesOf (numbers self.old.links.list.items) link) }
         ensures held { IsHeld (unread self.old.sockets) (numbers self.old.links.list.items) → IsHeld (unread self.new.sockets) (numbers self.new.links.list.items) }
         ensures part { IfOk result (IsOutcome bytes.now) }
+        ensures unread { unread self.new.sockets ≡ unread_after result link (unread self.old.sockets) }
+        ensures listening { listening self.new.sockets ≡ listening self.old.sockets }
         ensures links { OnOk result (numbers self.new.links.list.items ≡ after_sent result link (numbers self.old.links.list.items)) }
         ensures others { without link self.new.links.list.items ≡ without link self.old.links.list.items }
         ensures made { self.new.links.made ≡ self.old.links.made }
+        ensures err { OnErr result (self.new.links.list.items ≡ self.old.links.list.items) }
         ensures kept { self.new ≡ record self.old { sockets = self.new.sockets; links = self.new.links } }
     {
         let Some(sockets) = &mut self.sockets else {
@@ -220,6 +244,7 @@ impl<'a, R: Net + Clock> MioWire<'a, R> {
     /// Begins a dial, which has failed where there is no address for it.
     fn begin(&mut self, uplink: u16, spec: &UplinkSpec) -> Result<Dial, Memory>
         ensures unread { unread self.new.sockets ≡ unread self.old.sockets }
+        ensures listening { listening self.new.sockets ≡ listening self.old.sockets }
         ensures named { IfOk result (λ d. d.uplink ≡ uplink) }
         ensures digits { (a : Ipv4Addr) → IsIpv4Text spec.now.host a → IfOk result (λ d. IsIn spec.now.host spec.now.port (Some d.at)) }
         ensures since { IfOk result (λ d. IfSome self.old.course.second (λ second. d.since ≡ second)) }
@@ -249,6 +274,7 @@ impl<'a, R: Net + Clock> MioWire<'a, R> {
     /// Begins to connect. None where that fails at once.
     fn connect(&mut self, at: Addr, token: usize) -> Result<Option<TcpStream>, Memory>
         ensures unread { unread self.new.sockets ≡ unread self.old.sockets }
+        ensures listening { listening self.new.sockets ≡ listening self.old.sockets }
         ensures kept { self.new ≡ record self.old { sockets = self.new.sockets } }
     {
         if self.sockets.is_none() {
@@ -268,10 +294,12 @@ impl<'a, R: Net + Clock> MioWire<'a, R> {
     fn wait(&mut self, now: Duration) -> Result<(), WireError>
         requires { is_due self.old.course.pace ≡ false }
         ensures stops { (self.old.stops ≤ self.new.stops) × (IsErrOf result WireError.Failed → Rose self.old.stops self.new.stops) }
+        ensures counted { self.new.stops ≡ stops_after result self.old.stops }
         ensures kept { self.new ≡ record self.old { sockets = self.new.sockets; stops = self.new.stops } }
         ensures unread { unread self.new.sockets ≡ unread self.old.sockets }
+        ensures listening { listening self.new.sockets ≡ listening self.old.sockets }
     {
-        let left = 1000u64.saturating_sub(u64::from(now.subsec_millis()));
+        let left = left_of_second(now.subsec_millis());
         let Some(sockets) = &mut self.sockets else {
             return Ok(());
         };
@@ -288,8 +316,9 @@ impl<'a, R: Net + Clock + Wait> Wire for MioWire<'a, R> {
     /// Listens over TCP for links, and over UDP for what is submitted in datagrams and for a peer group.
     fn listen(&mut self, n: u16, spec: &ListenSpec) -> Result<(), WireError>
         ensures listen { AfterListen (counts self.old.stops self.old.gones self.old.links.made) (counts self.new.stops self.new.gones self.new.links.made) n spec.now result }
-        ensures caster { OnOk result ((place : ℕ) × (caster self.new.sockets ≡ caster_after spec.now.kind n place (caster self.old.sockets))) }
-        ensures err { OnErr result (caster self.new.sockets ≡ caster self.old.sockets) }
+        ensures listening { OnOk result (listening self.new.sockets ≡ listening_after spec.now.kind n (listening self.old.sockets)) }
+        ensures err { OnErr result (listening self.new.sockets ≡ listening self.old.sockets) }
+        ensures stops { self.new.stops ≡ stops_after result self.old.stops }
         ensures unread { unread self.new.sockets ≡ unread self.old.sockets }
         ensures kept { self.new ≡ record self.old { sockets = self.new.sockets; stops = self.new.stops } }
     {
@@ -310,10 +339,14 @@ impl<'a, R: Net + Clock + Wait> Wire for MioWire<'a, R> {
         ensures tells { IsHeld (unread self.old.sockets) (numbers self.old.links.list.items) → IfOk result (TellsOfOne (numbers self.old.links.list.items)) }
         ensures held { IsHeld (unread self.old.sockets) (numbers self.old.links.list.items) → IfOk result (λ e. IsHeld (unread self.new.sockets) (numbers self.new.links.list.items)) }
         ensures rest { IfOk result (Leaves (unread self.old.sockets) (unread self.new.sockets) (unread self.old.sockets).left) }
+        ensures names { IfOk result (NamesListener (listening self.old.sockets)) }
+        ensures listening { listening self.new.sockets ≡ listening self.old.sockets }
+        ensures stops { self.new.stops ≡ stops_after result self.old.stops }
         ensures course { IfOk result (λ e. self.new.course ≡ after_event e self.old.course) }
         ensures links { IfOk result (λ e. numbers self.new.links.list.items ≡ numbers_after e (numbers self.old.links.list.items)) }
         ensures dials { IfOk result (λ e. Answers e self.old.dials.list.items self.new.dials.list.items) }
-        ensures err { OnErr result ((self.new.course ≡ self.old.course) × (numbers self.new.links.list.items ≡ numbers self.old.links.list.items)) }
+        ensures err { OnErr result ((self.new.course ≡ self.old.course) × (numbers self.new.links.list.items ≡ numbers self.old.links.list.items) × (self.new.dials.list.items ≡ self.old.dials.list.items)) }
+        ensures unread { OnErr result (0 < length (unread self.old.sockets).left → unread self.new.sockets ≡ unread self.old.sockets) }
     {
         self.open()?;
         for _ in self.rt.forever() {
@@ -329,10 +362,13 @@ impl<'a, R: Net + Clock + Wait> Wire for MioWire<'a, R> {
         ensures send { AfterSend (counts self.old.stops self.old.gones self.old.links.made) (counts self.new.stops self.new.gones self.new.links.made) link bytes.now result }
         ensures there { IfOk result (TakesOf (numbers self.old.links.list.items) link) }
         ensures held { IsHeld (unread self.old.sockets) (numbers self.old.links.list.items) → IsHeld (unread self.new.sockets) (numbers self.new.links.list.items) }
+        ensures unread { unread self.new.sockets ≡ unread_after result link (unread self.old.sockets) }
+        ensures listening { listening self.new.sockets ≡ listening self.old.sockets }
         ensures course { self.new.course ≡ after_offer result self.old.course }
         ensures gones { self.new.gones ≡ gones_after result self.old.gones }
         ensures links { OnOk result (numbers self.new.links.list.items ≡ after_sent result link (numbers self.old.links.list.items)) }
         ensures others { without link self.new.links.list.items ≡ without link self.old.links.list.items }
+        ensures err { OnErr result (self.new.links.list.items ≡ self.old.links.list.items) }
         ensures dials { self.new.dials ≡ self.old.dials }
     {
         let sent = self.offer(link, bytes)?;
@@ -348,6 +384,7 @@ impl<'a, R: Net + Clock + Wait> Wire for MioWire<'a, R> {
         ensures held { IsHeld (unread self.old.sockets) (numbers self.old.links.list.items) → IsHeld (unread self.new.sockets) (numbers self.new.links.list.items) }
         ensures links { (self.new.links.list.items ≡ without link self.old.links.list.items) × (self.new.links.made ≡ self.old.links.made) }
         ensures unread { unread self.new.sockets ≡ forgotten link (unread self.old.sockets) }
+        ensures listening { listening self.new.sockets ≡ listening self.old.sockets }
         ensures kept { self.new ≡ record self.old { sockets = self.new.sockets; links = self.new.links } }
     {
         match &mut self.sockets {
@@ -361,6 +398,7 @@ impl<'a, R: Net + Clock + Wait> Wire for MioWire<'a, R> {
     /// look-up waits, and the whole server with it. The answer comes from `next`: within 30 s, `Unjoined` where it isn't joined.
     fn dial(&mut self, uplink: u16, spec: &UplinkSpec) -> Result<(), Memory>
         ensures dial { AfterAct (counts self.old.stops self.old.gones self.old.links.made) (counts self.new.stops self.new.gones self.new.links.made) (with_dial uplink spec.now) result }
+        ensures listening { listening self.new.sockets ≡ listening self.old.sockets }
         ensures begun { OnOk result (Begins uplink spec.now self.old.course.second self.old.dials.list.items self.new.dials.list.items) }
         ensures unread { unread self.new.sockets ≡ unread self.old.sockets }
         ensures err { OnErr result (self.new.dials.list.items ≡ self.old.dials.list.items) }

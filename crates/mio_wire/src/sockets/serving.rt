@@ -1,8 +1,10 @@
 //! Serving the sources that are ready.
-ghost use Rattle.std.specs.Prelude.{◌≡◌, ◌<◌, OnErr, IfOk, Contains, length};
+ghost use Rattle.std.specs.Prelude.{◌≡◌, ◌+◌, ◌<◌, ◌≤◌, ◌^◌, Some, OnOk, OnErr, IfOk, IfSome, Contains, length, option_map, slice_get, vec_len};
 ghost use Rattle.mio_wire.specs.Arrivals.{IsArrival, IsMail, IsUnasked, Steps};
 ghost use Rattle.mio_wire.specs.Dialled.{AnswersStep};
-ghost use Rattle.mio_wire.specs.Linked.{TellsStep, numbers};
+ghost use Rattle.mio_wire.specs.Held.{BringsAt, NamesStep, OpensAt, listening_of};
+ghost use Rattle.mio_wire.specs.Linked.{TellsStep, numbers, without};
+ghost use Rattle.mio_wire.specs.Sources.{waiting_after};
 ghost use Rattle.mio_wire.specs.Unread.{IsHeld};
 
 use super::Sockets;
@@ -10,7 +12,7 @@ use crate::addresses::addr_of;
 use crate::dials::{Dials, Outcome};
 use crate::links::{Links, Reading};
 use crate::mail::{Received, receive};
-use crate::turns::{FIRST_EAR, FIRST_MAILBOX, Ready, Source, source_of};
+use crate::turns::{Ready, Source, source_of};
 use aprs_base::{Addr, Event};
 use mio::net::{TcpListener, TcpStream};
 use mio::{Interest, Poll, Token};
@@ -32,9 +34,13 @@ impl Sockets {
     ) -> Result<Option<Event>, AllocError>
         requires { length self.old.inbox.left ≡ 0 }
         ensures tells { IfOk result (TellsStep (numbers links.old.list.items)) }
+        ensures names { IfOk result (NamesStep (listening_of self.old)) }
         ensures held { IsHeld self.new.inbox (numbers links.new.list.items) }
+        ensures unread { OnErr result (self.new.inbox ≡ self.old.inbox) }
+        ensures listening { listening_of self.new ≡ listening_of self.old }
         ensures steps { IfOk result (Steps (numbers links.old.list.items) (numbers links.new.list.items) links.old.made links.new.made) }
         ensures dials { IfOk result (AnswersStep dials.old.list.items dials.new.list.items) }
+        ensures unanswered { OnErr result (dials.new.list.items ≡ dials.old.list.items) }
         ensures arrival { IfOk result IsArrival }
         ensures err { OnErr result ((numbers links.new.list.items ≡ numbers links.old.list.items) × (links.new.made ≡ links.old.made)) }
     {
@@ -43,31 +49,35 @@ impl Sockets {
         };
         match source_of(ready.token) {
             Source::Link(number) => self.serve_link(links, number, ready),
-            Source::Ear(place) => self.serve_ear(links, place),
-            Source::Mailbox(place) => self.serve_mailbox(place),
+            Source::Ear(place) => self.serve_ear(links, place, ready.token),
+            Source::Mailbox(place) => self.serve_mailbox(place, ready.token),
             Source::Dial(token) => self.serve_dial(links, dials, token, ready),
         }
     }
 
-    /// Hands up a datagram, or goes on where none waits.
-    fn serve_mailbox(&mut self, place: usize) -> Result<Option<Event>, AllocError>
+    /// Hands up a datagram, or goes on where none waits. A socket that had its share waits for the next turn.
+    fn serve_mailbox(&mut self, place: usize, token: usize) -> Result<Option<Event>, AllocError>
         ensures mail { IfOk result IsMail }
+        ensures named { IfOk result (BringsAt (listening_of self.old).mail place) }
+        ensures later { OnOk result (IfSome (slice_get self.old.mailboxes.items place) (λ mailbox. self.new.turns.later.items ≡ waiting_after 64 mailbox.received token self.old.turns.later.items)) }
         ensures inbox { self.new.inbox ≡ self.old.inbox }
+        ensures listening { listening_of self.new ≡ listening_of self.old }
     {
-        let Some(mailbox) = self.mailboxes.get_mut(place) else {
+        let Some(mailbox) = self.mailboxes.get(place) else {
             self.turns.advance();
             return Ok(None);
         };
         if mailbox.received >= MOST_DATAGRAMS {
+            self.turns.put_off_once(token)?;
             self.turns.advance();
-            self.turns
-                .put_off(Ready::to_read(FIRST_MAILBOX.saturating_add(place)))?;
             return Ok(None);
         }
-        mailbox.received += 1;
-        match receive(&mailbox.socket) {
+        let listener = mailbox.number;
+        let received = receive(&mailbox.socket);
+        self.count_received(place);
+        match received {
             Received::Datagram(from, bytes) => Ok(Some(Event::Datagram {
-                listener: mailbox.number,
+                listener,
                 from,
                 bytes,
             })),
@@ -79,6 +89,16 @@ impl Sockets {
         }
     }
 
+    /// Counts a read of the socket at a place.
+    fn count_received(&mut self, place: usize)
+        requires { place < vec_len self.old.mailboxes }
+        ensures kept { self.new ≡ record self.old { mailboxes = self.new.mailboxes } }
+        ensures listening { listening_of self.new ≡ listening_of self.old }
+    {
+        let mailbox = &mut self.mailboxes[place];
+        mailbox.received = mailbox.received.saturating_add(1);
+    }
+
     /// Answers a dial of whose socket the poll told, once its outcome is known.
     fn serve_dial(
         &mut self,
@@ -88,9 +108,12 @@ impl Sockets {
         ready: Ready,
     ) -> Result<Option<Event>, AllocError>
         ensures tells { IfOk result (TellsStep (numbers links.old.list.items)) }
+        ensures names { IfOk result (NamesStep (listening_of self.old)) }
         ensures inbox { self.new.inbox ≡ self.old.inbox }
+        ensures listening { listening_of self.new ≡ listening_of self.old }
         ensures steps { IfOk result (Steps (numbers links.old.list.items) (numbers links.new.list.items) links.old.made links.new.made) }
         ensures dials { IfOk result (AnswersStep dials.old.list.items dials.new.list.items) }
+        ensures unanswered { OnErr result (dials.new.list.items ≡ dials.old.list.items) }
         ensures arrival { IfOk result IsArrival }
         ensures err { OnErr result ((numbers links.new.list.items ≡ numbers links.old.list.items) × (links.new.made ≡ links.old.made)) }
     {
@@ -114,15 +137,19 @@ impl Sockets {
     ) -> Result<Option<Event>, AllocError>
         requires { place < length dials.old.list.items }
         ensures tells { IfOk result (TellsStep (numbers links.old.list.items)) }
+        ensures names { IfOk result (NamesStep (listening_of self.old)) }
         ensures inbox { self.new.inbox ≡ self.old.inbox }
+        ensures listening { listening_of self.new ≡ listening_of self.old }
         ensures steps { IfOk result (Steps (numbers links.old.list.items) (numbers links.new.list.items) links.old.made links.new.made) }
         ensures dials { IfOk result (AnswersStep dials.old.list.items dials.new.list.items) }
+        ensures unanswered { OnErr result (dials.new.list.items ≡ dials.old.list.items) }
         ensures arrival { IfOk result IsArrival }
         ensures err { OnErr result ((numbers links.new.list.items ≡ numbers links.old.list.items) × (links.new.made ≡ links.old.made)) }
     {
         let Some(number) = links.made.checked_add(1) else {
             return Ok(Some(dials.give_up(place)));
         };
+        links.make_room()?;
         let dial = dials.take(place);
         let uplink = dial.uplink;
         let at = dial.at;
@@ -151,23 +178,39 @@ impl Sockets {
     }
 
     /// Opens a link, or goes on where none waits.
-    fn serve_ear(&mut self, links: &mut Links, place: usize) -> Result<Option<Event>, AllocError>
+    fn serve_ear(
+        &mut self,
+        links: &mut Links,
+        place: usize,
+        token: usize,
+    ) -> Result<Option<Event>, AllocError>
+        ensures named { IfOk result (OpensAt (listening_of self.old).links place) }
         ensures tells { IfOk result (TellsStep (numbers links.old.list.items)) }
         ensures inbox { self.new.inbox ≡ self.old.inbox }
+        ensures listening { listening_of self.new ≡ listening_of self.old }
         ensures steps { IfOk result (Steps (numbers links.old.list.items) (numbers links.new.list.items) links.old.made links.new.made) }
         ensures arrival { IfOk result IsUnasked }
         ensures err { OnErr result ((numbers links.new.list.items ≡ numbers links.old.list.items) × (links.new.made ≡ links.old.made)) }
     {
-        let opened = self.open_link(links, place)?;
+        let opened = self.open_link(links, place, token)?;
         if opened.is_none() {
             self.turns.advance();
         }
         Ok(opened)
     }
 
-    fn open_link(&mut self, links: &mut Links, place: usize) -> Result<Option<Event>, AllocError>
+    /// Opens the link that waits at a listener, if any. A listener that had its share waits for the next turn.
+    fn open_link(
+        &mut self,
+        links: &mut Links,
+        place: usize,
+        token: usize,
+    ) -> Result<Option<Event>, AllocError>
+        ensures named { IfOk result (OpensAt (listening_of self.old).links place) }
+        ensures later { links.old.made + 1 < 2 ^ 32 → OnOk result (IfSome (slice_get self.old.ears.items place) (λ ear. self.new.turns.later.items ≡ waiting_after 64 ear.opened token self.old.turns.later.items)) }
         ensures tells { IfOk result (TellsStep (numbers links.old.list.items)) }
         ensures inbox { self.new.inbox ≡ self.old.inbox }
+        ensures listening { listening_of self.new ≡ listening_of self.old }
         ensures steps { IfOk result (Steps (numbers links.old.list.items) (numbers links.new.list.items) links.old.made links.new.made) }
         ensures arrival { IfOk result IsUnasked }
         ensures err { OnErr result ((numbers links.new.list.items ≡ numbers links.old.list.items) × (links.new.made ≡ links.old.made)) }
@@ -175,18 +218,18 @@ impl Sockets {
         let Some(number) = links.made.checked_add(1) else {
             return Ok(None);
         };
-        let Some(ear) = self.ears.get_mut(place) else {
+        let Some(ear) = self.ears.get(place) else {
             return Ok(None);
         };
         if ear.opened >= MOST_OPENED {
-            self.turns
-                .put_off(Ready::to_read(FIRST_EAR.saturating_add(place)))?;
+            self.turns.put_off_once(token)?;
             return Ok(None);
         }
+        links.make_room()?;
+        let listener = ear.number;
         match accept(&self.poll, &ear.listener, number) {
             Ok((stream, from)) => {
-                ear.opened += 1;
-                let listener = ear.number;
+                self.count_opened(place);
                 links.add(stream)?;
                 Ok(Some(Event::Opened {
                     listener,
@@ -195,10 +238,30 @@ impl Sockets {
                 }))
             }
             Err(error) => {
-                ear.deaf = error.kind() != ErrorKind::WouldBlock;
+                self.note_deaf(place, error.kind() != ErrorKind::WouldBlock);
                 Ok(None)
             }
         }
+    }
+
+    /// Counts a link that the listener at a place opened.
+    fn count_opened(&mut self, place: usize)
+        requires { place < vec_len self.old.ears }
+        ensures kept { self.new ≡ record self.old { ears = self.new.ears } }
+        ensures listening { listening_of self.new ≡ listening_of self.old }
+    {
+        let ear = &mut self.ears[place];
+        ear.opened = ear.opened.saturating_add(1);
+    }
+
+    /// Notes whether the listener at a place is deaf.
+    fn note_deaf(&mut self, place: usize, deaf: bool)
+        requires { place < vec_len self.old.ears }
+        ensures kept { self.new ≡ record self.old { ears = self.new.ears } }
+        ensures listening { listening_of self.new ≡ listening_of self.old }
+        ensures deaf { IfSome (slice_get self.new.ears.items place) (λ ear. ear.deaf ≡ deaf) }
+    {
+        self.ears[place].deaf = deaf;
     }
 
     /// Says that a link has room again, or reads what it brings.
@@ -210,7 +273,12 @@ impl Sockets {
     ) -> Result<Option<Event>, AllocError>
         requires { length self.old.inbox.left ≡ 0 }
         ensures tells { IfOk result (TellsStep (numbers links.old.list.items)) }
+        ensures names { IfOk result (NamesStep (listening_of self.old)) }
+        ensures link { 1 ≤ length self.new.inbox.left → self.new.inbox.link ≡ number }
+        ensures others { without number links.new.list.items ≡ without number links.old.list.items }
         ensures held { IsHeld self.new.inbox (numbers links.new.list.items) }
+        ensures unread { OnErr result (self.new.inbox ≡ self.old.inbox) }
+        ensures listening { listening_of self.new ≡ listening_of self.old }
         ensures steps { IfOk result (Steps (numbers links.old.list.items) (numbers links.new.list.items) links.old.made links.new.made) }
         ensures arrival { IfOk result IsUnasked }
         ensures err { OnErr result ((numbers links.new.list.items ≡ numbers links.old.list.items) × (links.new.made ≡ links.old.made)) }
@@ -236,14 +304,22 @@ impl Sockets {
         place: usize,
         number: u32,
     ) -> Result<Option<Event>, AllocError>
+        requires empty { length self.old.inbox.left ≡ 0 }
         requires place { place < length links.old.list.items }
+        requires at { option_map (λ l. l.number) (slice_get links.old.list.items place) ≡ Some number }
         requires there { Contains (numbers links.old.list.items) number }
+        ensures link { 1 ≤ length self.new.inbox.left → self.new.inbox.link ≡ number }
+        ensures others { without number links.new.list.items ≡ without number links.old.list.items }
         ensures tells { IfOk result (TellsStep (numbers links.old.list.items)) }
+        ensures names { IfOk result (NamesStep (listening_of self.old)) }
         ensures held { IsHeld self.new.inbox (numbers links.new.list.items) }
+        ensures unread { OnErr result (self.new.inbox ≡ self.old.inbox) }
+        ensures listening { listening_of self.new ≡ listening_of self.old }
         ensures steps { IfOk result (Steps (numbers links.old.list.items) (numbers links.new.list.items) links.old.made links.new.made) }
         ensures arrival { IfOk result IsUnasked }
         ensures err { OnErr result ((numbers links.new.list.items ≡ numbers links.old.list.items) × (links.new.made ≡ links.old.made)) }
     {
+        self.turns.make_room()?;
         match links.read(place, &mut self.inbox) {
             Reading::End => {
                 self.let_go(links, number);

@@ -1,8 +1,8 @@
-use Rattle.std.proofs.Common.{◌≡◌, refl, ap, set, ◌∙◌}
+use Rattle.std.proofs.Common.{◌≡◌, refl, sym, ap, set, ◌∙◌}
 use Rattle.mio_wire.specs.Linked.{numbers}
 use Rattle.mio_wire.specs.declared.links.Link.{Link}
 use Rattle.mio_wire.proofs.HeldLemmas.{contains_link}
-use Rattle.mio_wire.proofs.LinkLemmas.{numbers-set}
+use Rattle.mio_wire.proofs.LinkLemmas.{number_of, numbers-set, without-set}
 use Rattle.mio_wire.proofs.links.Links.read.Goals as goal
 
 pub invariant_of-self : goal.invariant_of-self
@@ -17,3 +17,10 @@ returns-clause-same c = (numbers-set c.args.self.now.list.items c.args.place c.r
 
 pub returns-clause-link : goal.returns-clause-link
 returns-clause-link c = rw c.read.ensures.link (contains_link c.args.self.now.list.items c.args.place c.index_mut.result.now c.requires c.index_mut.ensures.value)
+
+pub returns-clause-others : goal.returns-clause-others
+returns-clause-others c = λ number at.
+    let old = c.args.self.now.list.items in
+    let link = c.index_mut.result.now in
+    let is : link.number ≡ number = number_of old c.args.place link number c.requires c.index_mut.ensures.value at in
+    without-set number old c.args.place c.read.new.self link c.requires (ap (λ (l : Link). l.number) (sym c.index_mut.ensures.value) ∙ is) (c.read.ensures.number ∙ is)

@@ -1,6 +1,6 @@
 use Rattle.std.proofs.Common.{sym, ◌∙◌}
 use Rattle.mio_wire.specs.Linked.{numbers}
-use Rattle.mio_wire.proofs.HeldLemmas.{held_without}
+use Rattle.mio_wire.proofs.HeldLemmas.{held_forgotten, held_without}
 use Rattle.mio_wire.proofs.LinkLemmas.{dropped_none}
 use Rattle.mio_wire.proofs.sockets.Sockets.send.Goals as goal
 
@@ -12,4 +12,8 @@ returns-in_default-write-clause-others c = c.let_go.ensures.others ∙ c.write.e
 
 pub returns-in_default-write-clause-held : goal.returns-in_default-write-clause-held
 returns-in_default-write-clause-held c = λ held.
-    rw (c.let_go.ensures.inbox, c.let_go.ensures.numbers, c.write.ensures.same.0) (held_without c.args.number c.args.self.now.inbox (numbers c.args.links.now.list.items) held)
+    rw (c.let_go.ensures.kept, c.let_go.ensures.numbers, c.write.ensures.same.0) (held_without c.args.number c.args.self.now.inbox (numbers c.args.links.now.list.items) held)
+
+pub returns-in_default-clause-held : goal.returns-in_default-clause-held
+returns-in_default-clause-held c = λ held.
+    rw c.forget.ensures (held_forgotten c.args.number c.args.self.now.inbox (numbers c.args.links.now.list.items) held)

@@ -4,4 +4,4 @@ use Rattle.mio_wire.proofs.wire.MioWireWire.close.Goals as goal
 
 pub returns-in-Some-clause-held : goal.returns-in-Some-clause-held
 returns-in-Some-clause-held g c = λ held.
-    rw (c.let_go.ensures.inbox, c.let_go.ensures.numbers) (held_without c.args.link c.in-Some.sockets.inbox (numbers c.args.self.now.links.list.items) (rw c.in-Some.is at held))
+    rw (c.let_go.ensures.kept, c.let_go.ensures.numbers) (held_without c.args.link c.in-Some.sockets.inbox (numbers c.args.self.now.links.list.items) (rw c.in-Some.is at held))

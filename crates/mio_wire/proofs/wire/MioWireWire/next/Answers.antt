@@ -1,5 +1,5 @@
-use Rattle.std.proofs.Common.{◌≡◌, ◌<◌, length}
-use Rattle.mio_wire.specs.Held.{unread}
+use Rattle.std.proofs.Common.{◌≡◌, ◌<◌, ◌∙◌, length}
+use Rattle.mio_wire.specs.Held.{NamesStep, listening, unread}
 use Rattle.mio_wire.specs.Linked.{TellsStep, numbers}
 use Rattle.mio_wire.specs.Unread.{IsHeld}
 use Rattle.mio_wire.proofs.NextLemmas.{comes_from, leaves_from}
@@ -10,24 +10,30 @@ returns-in-Some-2-clause-comes g c =
     let start = c.args.self.now in
     let course : c.loop.self.course ≡ start.course = rw c.open.ensures.kept at c.loop.invariant.8 in
     let dials : c.loop.self.dials.list.items ≡ start.dials.list.items = rw c.open.ensures.kept at c.loop.invariant.6 in
-    let same : 0 < length (unread start.sockets).left → unread c.loop.self.sockets ≡ unread start.sockets = rw c.open.ensures.held.0 at c.loop.invariant.7 in
+    let same : 0 < length (unread start.sockets).left → unread c.loop.self.sockets ≡ unread start.sockets = rw c.open.ensures.unread at c.loop.invariant.7 in
     let gives = rw c.in-Some-2.is at c.in_ok-event.ensures.gives in
     comes_from start.course start.dials.list.items (unread start.sockets) (unread c.loop.self.sockets) c.in-Some-2.event same (rw (course, dials) at gives)
 
 pub returns-in-Some-2-clause-rest : goal.returns-in-Some-2-clause-rest
 returns-in-Some-2-clause-rest g c =
     let start = c.args.self.now in
-    let same : 0 < length (unread start.sockets).left → unread c.loop.self.sockets ≡ unread start.sockets = rw c.open.ensures.held.0 at c.loop.invariant.7 in
+    let same : 0 < length (unread start.sockets).left → unread c.loop.self.sockets ≡ unread start.sockets = rw c.open.ensures.unread at c.loop.invariant.7 in
     leaves_from (unread start.sockets).link (unread start.sockets).left (unread c.loop.self.sockets) (unread c.step.new.self.sockets) c.in-Some-2.event same (rw c.in-Some-2.is at c.in_ok-event.ensures.rest)
 
 pub returns-in-Some-2-clause-tells : goal.returns-in-Some-2-clause-tells
 returns-in-Some-2-clause-tells g c = λ held.
-    let opened : IsHeld (unread c.open.new.self.sockets) (numbers c.open.new.self.links.list.items) = rw (c.open.ensures.held.0, c.open.ensures.kept) held in
+    let opened : IsHeld (unread c.open.new.self.sockets) (numbers c.open.new.self.links.list.items) = rw (c.open.ensures.unread, c.open.ensures.kept) held in
     let tells : TellsStep (numbers c.loop.self.links.list.items) c.in_ok-event.field-0 = c.in_ok-event.ensures.tells (c.loop.invariant.9 opened) in
     let same : numbers c.loop.self.links.list.items ≡ numbers c.args.self.now.links.list.items = rw c.open.ensures.kept at c.loop.invariant.5 in
     rw (c.in-Some-2.is, same) at tells
 
 pub returns-in-Some-2-clause-held : goal.returns-in-Some-2-clause-held
 returns-in-Some-2-clause-held g c = λ held.
-    let opened : IsHeld (unread c.open.new.self.sockets) (numbers c.open.new.self.links.list.items) = rw (c.open.ensures.held.0, c.open.ensures.kept) held in
+    let opened : IsHeld (unread c.open.new.self.sockets) (numbers c.open.new.self.links.list.items) = rw (c.open.ensures.unread, c.open.ensures.kept) held in
     c.in_ok-event.ensures.held (c.loop.invariant.9 opened)
+
+pub returns-in-Some-2-clause-names : goal.returns-in-Some-2-clause-names
+returns-in-Some-2-clause-names g c =
+    let same : listening c.loop.self.sockets ≡ listening c.args.self.now.sockets = c.loop.invariant.10 ∙ c.open.ensures.listening in
+    let names : NamesStep (listening c.loop.self.sockets) c.in_ok-event.field-0 = c.in_ok-event.ensures.names in
+    rw (c.in-Some-2.is, same) at names
