@@ -286,8 +286,18 @@ fn checks_a_configuration_and_nothing_else(rt: HostRuntime) -> Result<(), Fail> 
     let mut no_listener = Outside::well(alloc);
     no_listener.fail_listen = Some(0);
     let cases: [(Outside, &[u8], u8, &[u8]); 5] = [
-        (Outside::well(alloc), CONF, 0, b"c: configuration is valid\n"),
-        (Outside::well(alloc), bad_kind.as_slice(), 2, b"c: line 4: bad-kind\n"),
+        (
+            Outside::well(alloc),
+            CONF,
+            0,
+            b"c: configuration is valid\n",
+        ),
+        (
+            Outside::well(alloc),
+            bad_kind.as_slice(),
+            2,
+            b"c: line 4: bad-kind\n",
+        ),
         (Outside::well(alloc), b"", 2, b"c: missing ServerId\n"),
         (no_listener, CONF, 0, b"c: configuration is valid\n"),
         (no_sink, CONF, 7, b""),

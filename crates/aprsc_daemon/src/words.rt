@@ -31,7 +31,9 @@ pub(crate) struct ServerWords<'a> {
 
 impl<'a> Model for ServerWords<'a> {
     ghost use Rattle.aprsc_daemon.specs.Words.{ServerWordsSeen};
+
     ghost Value = { ServerWordsSeen };
+
     ghost view = { λ w. record { file = w.file.now; workers = w.workers; task = w.task } };
 }
 
@@ -160,7 +162,10 @@ fn said_by<'a>(matches: &ArgMatches<'a>) -> ServerWords<'a>
 }
 
 /// What the words ask of the server. `Refused` comes exactly where they call for another mode, or `clap` refuses them.
-pub(crate) fn read_words<'a>(alloc: Global, words: &'a [String]) -> Result<ServerWords<'a>, WordsError>
+pub(crate) fn read_words<'a>(
+    alloc: Global,
+    words: &'a [String],
+) -> Result<ServerWords<'a>, WordsError>
     ensures value { IfOk result (λ w. asked_of (map string_bytes words.entry.now) ≡ Some w) }
     ensures least { IfOk result (λ w. 1 ≤ w.workers) }
     ensures most { IfOk result (λ w. w.workers ≤ 64) }

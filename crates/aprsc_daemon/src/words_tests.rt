@@ -26,7 +26,9 @@ fn takes_the_words_of_a_run_and_of_a_check(rt: HostRuntime) -> Result<(), Fail> 
     ];
     for (texts, file, workers, task) in cases {
         let words = words_of(rt.alloc(), texts)?;
-        let asked = read_words(rt.alloc(), words.as_slice()).ok().ok_or("good words")?;
+        let asked = read_words(rt.alloc(), words.as_slice())
+            .ok()
+            .ok_or("good words")?;
         assert!(rt; asked.file == file);
         assert!(rt; asked.workers == workers);
         assert!(rt; asked.task == task);

@@ -1,6 +1,8 @@
 use Rattle.std.proofs.Common.{◌≡◌, ◌⊎◌, sym, ◌∙◌, subst}
 use Rattle.aprs_history.specs.Runs.{AppendsRun}
+use Rattle.aprs_base.proofs.SlotLemmas.{each_takes_due}
 use Rattle.server_core.specs.Meaning.{setting_of}
+use Rattle.aprsc_daemon.specs.Phases.{JournalTold}
 use Rattle.aprsc_daemon.specs.Causes.{Ended}
 use Rattle.aprsc_daemon.proofs.CauseLemmas.{complete, early, headline, keeps_promise}
 use Rattle.aprsc_daemon.proofs.program.aprsc.Goals as goal
@@ -8,19 +10,27 @@ use Rattle.aprsc_daemon.proofs.program.aprsc.Goals as goal
 pub returns-clause-run : goal.returns-clause-run
 returns-clause-run g c = λ conf told tells read.
     subst (λ n. AppendsRun (setting_of conf) (g.W.Wire.shown c.args.wire.now).told (g.W.Wire.shown c.run.new.wire).told (Ended n (setting_of conf))) (sym c.code.ensures)
-    (headline _ told conf c.run.result tells read c.run.ensures)
+    (headline _ told conf c.run.result tells read c.run.ensures.cause)
 
 pub returns-clause-headline : goal.returns-clause-headline
 returns-clause-headline g c = λ conf told tells read.
-    keeps_promise (setting_of conf) (g.W.Wire.shown c.args.wire.now).told (g.W.Wire.shown c.run.new.wire).told _ (headline _ told conf c.run.result tells read c.run.ensures)
+    keeps_promise (setting_of conf) (g.W.Wire.shown c.args.wire.now).told (g.W.Wire.shown c.run.new.wire).told _ (headline _ told conf c.run.result tells read c.run.ensures.cause)
 
 pub returns-clause-cause : goal.returns-clause-cause
-returns-clause-cause g c = (c.run.result, c.code.ensures, c.run.ensures)
+returns-clause-cause g c = (c.run.result, c.code.ensures, c.run.ensures.cause)
 
 pub returns-clause-complete : goal.returns-clause-complete
 returns-clause-complete g c = λ code asks sound going taken.
-    subst (λ n. (n ≡ code) ⊎ (n ≡ 6)) (sym c.code.ensures) (complete _ code c.run.result asks sound going taken c.run.ensures)
+    subst (λ n. (n ≡ code) ⊎ (n ≡ 6)) (sym c.code.ensures) (complete _ code c.run.result asks sound going taken c.run.ensures.cause)
 
 pub returns-clause-early : goal.returns-clause-early
 returns-clause-early g c = λ conf told tells read sound lost.
-    early _ told conf c.run.result tells read sound (sym c.code.ensures ∙ lost) c.run.ensures
+    early _ told conf c.run.result tells read sound (sym c.code.ensures ∙ lost) c.run.ensures.cause
+
+pub returns-clause-journals : goal.returns-clause-journals
+returns-clause-journals g c = λ conf told_files tells read.
+    let told = c.run.ensures.journals conf told_files tells read in (
+      told.0,
+      each_takes_due (λ z. (goal.Journal-dyn g z).journal_shown z.1) told.0 c.args.journals.now.items c.run.new.journals.items told.1,
+      subst (λ n. AppendsRun (setting_of conf) (g.W.Wire.shown c.args.wire.now).told (g.W.Wire.shown c.run.new.wire).told (JournalTold n (setting_of conf) told.0)) (sym c.code.ensures) told.2,
+    )

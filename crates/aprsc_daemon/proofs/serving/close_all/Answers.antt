@@ -14,8 +14,8 @@ loop-link-preserved g c = (
   c.close.ensures.links ∙ c.loop-link.invariant.1,
   brings_on [] (g.W.Wire.shown c.args.wire.now).told (g.W.Wire.shown c.loop-link.wire).told (g.W.Wire.shown c.close.new.self).told c.loop-link.invariant.2
       (brings_one (did.Closed _) [] (g.W.Wire.shown c.loop-link.wire).told (g.W.Wire.shown c.close.new.self).told refl c.in_ok-close.ensures.ok),
-  λ s start core same run.
+  λ s start lines core same run.
       let left = next_item c.args.closes.now c.loop-link.link-index _ c.loop-link-test.true (same_at c.args.closes.now c.loop-link.link-index 0 _ c.loop-link-test.true) in
       run_closes s start _ (g.W.Wire.shown c.close.new.self).told core _ (drop (c.loop-link.link-index + 1) c.args.closes.now) same c.in_ok-close.ensures.ok
-      (subst (λ closes. AppendsRun s start (g.W.Wire.shown c.loop-link.wire).told (Offering core [] closes)) left (c.loop-link.invariant.3 s start core same run)),
+      (subst (λ closes. AppendsRun s start (g.W.Wire.shown c.loop-link.wire).told (Offering lines core [] closes)) left (c.loop-link.invariant.3 s start lines core same run)),
 )

@@ -33,7 +33,7 @@ loop-link-preserved g c =
       c.send_one.ensures.links ∙ c.loop-link.invariant.3,
       brings_on [] (g.W.Wire.shown c.args.wire.now).told (g.W.Wire.shown c.loop-link.wire).told (g.W.Wire.shown c.send_one.new.wire).told c.loop-link.invariant.4 c.in_ok-send_one.ensures.brings,
       c.send_one.auto.buffer ∙ c.loop-link.invariant.5,
-      λ s start closes same run.
-          c.in_ok-send_one.ensures.run s start (drop (i + 1) offers) closes (ap setting_of was.conf ∙ same) (first_differs 0 c.requires.rising.0 offers i (get_or offers i 0) (drop (i + 1) offers) c.requires.rising.1 left)
-          (subst (λ links. AppendsRun s start (g.W.Wire.shown c.loop-link.wire).told (Offering c.loop-link.core links closes)) left (c.loop-link.invariant.6 s start closes same run)),
+      λ s start lines closes same run.
+          c.in_ok-send_one.ensures.run s start lines (drop (i + 1) offers) closes (ap setting_of was.conf ∙ same) (first_differs 0 c.requires.rising.0 offers i (get_or offers i 0) (drop (i + 1) offers) c.requires.rising.1 left)
+          (subst (λ links. AppendsRun s start (g.W.Wire.shown c.loop-link.wire).told (Offering lines c.loop-link.core links closes)) left (c.loop-link.invariant.6 s start lines closes same run)),
     )
