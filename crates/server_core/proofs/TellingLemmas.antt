@@ -12,23 +12,20 @@ use Rattle.q_construct.specs.declared.origins.Origin.{Origin}
 use Rattle.uplinks_peers.specs.Uplinks.{is_dialled}
 use Rattle.aprs_history.specs.declared.verdicts.Admission.{Admission}
 use Rattle.aprs_history.specs.declared.verdicts.EndReason.{EndReason}
-use Rattle.aprs_history.specs.declared.verdicts.EndReason.TheVariants.{ByPeer, FoundGone, Overfull, Full, Unasked, ByStop}
-use Rattle.aprs_history.specs.declared.verdicts.Refusal.{Refusal}
+use Rattle.aprs_history.specs.declared.verdicts.EndReason.TheVariants.{ByPeer, FoundGone, ByStop}
 use Rattle.aprs_history.specs.declared.verdicts.Verdict.{Verdict}
-use Rattle.aprs_history.specs.declared.verdicts.Verdict.TheVariants.{Refused}
 use Rattle.aprs_history.specs.Setting.{Setting, kind_at}
-use Rattle.aprs_history.specs.Trace.{Trace, AtListener, ByUplink, Dated, Looked, RoundBegan, Ticked, Opened, Brought, Said, Roomed, Ended, Unjoined, is_live, is_member, is_unasked, live_links, moment_of, turned_links}
+use Rattle.aprs_history.specs.Trace.{Trace, AtListener, Dated, Looked, RoundBegan, Ticked, Opened, Brought, Said, Ended, Unjoined, is_live, is_member, live_links, moment_of, placed_all, turned_links}
 use Rattle.aprs_history.specs.Links.{brought_by, gone_links, is_gone, is_late, late_links, late_reason}
 use Rattle.aprs_history.specs.Scenes.{datagram_scene, scene_of}
 use Rattle.aprs_history.specs.Verdicts.{verdict_of}
-use Rattle.aprs_history.specs.History.{admission, admitted, begin_round, bring, comment_seconds, dated, end_each, end_stopped, joined_admission, refuse_datagram, refused_links, refused_reason, say_all, with_bytes_of, with_tick}
-use Rattle.aprs_history.specs.Journal.{end_line, entry_lines, group_of, join_line, label, opening_lines, round_lines, unjoined_line, unjoined_lines, verdict_lines}
+use Rattle.aprs_history.specs.History.{admission, admitted, begin_round, bring, comment_seconds, dated, end_each, end_stopped, refused_links, refused_reason, say_all, with_bytes_of, with_tick}
+use Rattle.aprs_history.specs.Journal.{end_line, entry_lines, group_of, label, opening_lines, round_lines, unjoined_line, unjoined_lines, verdict_lines}
 use Rattle.aprs_history.specs.Stands.{ReachSeen, link_seen}
 use Rattle.server_core.specs.LinkSteps.{clients_in, has_number, is_late_link, is_lost, is_overfull, numbers}
-use Rattle.aprs_history.specs.Trace.{placed_all}
 use Rattle.server_core.specs.Meaning.{CoreMeaning, setting_of, timeouts_of}
 use Rattle.server_core.specs.Steps.{Walks, carried_at, scene_at}
-use Rattle.server_core.specs.Telling.{KnowUnasked, Tells, has_joined, late_line, lost_line, refused_by, refused_line, said_lines, stop_line}
+use Rattle.server_core.specs.Telling.{KnowUnasked, Tells, late_line, lost_line, refused_by, refused_line, said_lines, stop_line}
 use Rattle.server_core.proofs.CoreLemmas.{carried_now, clients_now, scene_now, there_now}
 use Rattle.server_core.proofs.WalkLemmas.{follows_began, late_seen, links_live, lost_seen_as, refused_are, tested_links}
 
@@ -38,10 +35,10 @@ pub tells_then : (s : Setting) (t u v : Trace) (first second third : List Journa
 tells_then s t u v first second third one other before told = other before (one before told)
 
 -- nothing is told of what has no line
-pub tells_nothing : (s : Setting) (t u : Trace) (lines : List JournalLineSeen) → round_lines s u ≡ round_lines s t → Tells s t u lines lines
+tells_nothing : (s : Setting) (t u : Trace) (lines : List JournalLineSeen) → round_lines s u ≡ round_lines s t → Tells s t u lines lines
 tells_nothing s t u lines same before told = told ∙ ap (λ ls. before ++ ls) (sym same)
 
-pub tells_more : (s : Setting) (t u : Trace) (more old new : List JournalLineSeen) → round_lines s u ≡ round_lines s t ++ more → new ≡ old ++ more → Tells s t u old new
+tells_more : (s : Setting) (t u : Trace) (more old new : List JournalLineSeen) → round_lines s u ≡ round_lines s t ++ more → new ≡ old ++ more → Tells s t u old new
 tells_more s t u more old new same is before told =
     is ∙ ap (λ ls. ls ++ more) told ∙ append_assoc before (round_lines s t) more ∙ ap (λ ls. before ++ ls) (sym same)
 
@@ -49,21 +46,18 @@ either_quiet : (s : Setting) (b : Bool) (t u : Trace) (lines : List JournalLineS
 either_quiet s true t u lines same = tells_nothing s t u lines same
 either_quiet s false t u lines same = tells_nothing s t t lines refl
 
-pub tells_ticked : (s : Setting) (moment : ℕ) (t : Trace) (lines : List JournalLineSeen) → Tells s t (Ticked moment ∷ t) lines lines
+tells_ticked : (s : Setting) (moment : ℕ) (t : Trace) (lines : List JournalLineSeen) → Tells s t (Ticked moment ∷ t) lines lines
 tells_ticked s moment t lines = tells_nothing s t (Ticked moment ∷ t) lines (append-nil (round_lines s t))
 
-pub tells_looked : (s : Setting) (t : Trace) (lines : List JournalLineSeen) → Tells s t (Looked ∷ t) lines lines
+tells_looked : (s : Setting) (t : Trace) (lines : List JournalLineSeen) → Tells s t (Looked ∷ t) lines lines
 tells_looked s t lines = tells_nothing s t (Looked ∷ t) lines (append-nil (round_lines s t))
 
-pub tells_brought : (s : Setting) (link : ℕ) (bytes : List ℕ) (t : Trace) (lines : List JournalLineSeen) → Tells s t (Brought link bytes ∷ t) lines lines
+tells_brought : (s : Setting) (link : ℕ) (bytes : List ℕ) (t : Trace) (lines : List JournalLineSeen) → Tells s t (Brought link bytes ∷ t) lines lines
 tells_brought s link bytes t lines = tells_nothing s t (Brought link bytes ∷ t) lines (append-nil (round_lines s t))
 
-pub tells_dated : (s : Setting) (before : ℕ) (t : Trace) (lines : List JournalLineSeen) → Tells s t (dated before t) lines lines
+tells_dated : (s : Setting) (before : ℕ) (t : Trace) (lines : List JournalLineSeen) → Tells s t (dated before t) lines lines
 tells_dated s before t lines =
     either_quiet s (nat_lt (before / comment_seconds) (moment_of t / comment_seconds)) t (Dated (moment_of t) ∷ t) lines (append-nil (round_lines s t))
-
-pub tells_roomed : (s : Setting) (link : ℕ) (t : Trace) (lines : List JournalLineSeen) → Tells s t (if is_live t link then Roomed link ∷ t else t) lines lines
-tells_roomed s link t lines = either_quiet s (is_live t link) t (Roomed link ∷ t) lines (append-nil (round_lines s t))
 
 -- at a tick some links may end, and nothing else is told
 pub tells_tick : (s : Setting) (moment : ℕ) (t : Trace) (old new : List JournalLineSeen)
@@ -188,12 +182,6 @@ module _ (core : CoreMeaning) (t : Trace) (walks : Walks core t) where
       tells_more setting t (Opened (AtListener listener) (admission setting t listener) link from ∷ t) (opening_lines (AtListener listener) (admission setting t listener) (moment_of t) link) old new refl
       (is ∙ ap (λ m. old ++ opening_lines (AtListener listener) outcome m link) walks.follows.moment ∙ ap (λ a. old ++ opening_lines (AtListener listener) a (moment_of t) link) same)
 
-  pub tells_joined : (uplink link : ℕ) (at : Addr) (old new : List JournalLineSeen) → new ≡ old ++ join_line core.seen.moment link uplink ∷ []
-      → Tells setting t (Opened (ByUplink uplink) (joined_admission setting t uplink link) link at ∷ t) old new
-  tells_joined uplink link at old new is =
-      tells_more setting t (Opened (ByUplink uplink) (joined_admission setting t uplink link) link at ∷ t) (join_line (moment_of t) link uplink ∷ []) old new refl
-      (is ∙ ap (λ m. old ++ join_line m link uplink ∷ []) walks.follows.moment)
-
   pub tells_unjoined : (uplink : ℕ) (old new : List JournalLineSeen) → new ≡ old ++ unjoined_lines core.seen.reach.uplinks.dialled core.seen.moment uplink → Tells setting t (Unjoined uplink ∷ t) old new
   tells_unjoined uplink old new is =
       tells_more setting t (Unjoined uplink ∷ t) (entry_lines setting (Unjoined uplink) t) old new refl
@@ -218,13 +206,10 @@ module _ (core : CoreMeaning) (t : Trace) (walks : Walks core t) where
       tells_said from cut (verdict_of (datagram_scene setting origin t) cut) old new
       (is ∙ ap (λ scene. old ++ said_lines core from (verdict_of scene cut)) (carried_now core t walks origin))
 
-  -- bytes on a link that lives, and on one that doesn't
+  -- bytes on a link that lives
   pub tells_bytes : (link : ℕ) (bytes : List ℕ) (cuts : List Cut) → is_live t link ≡ true → cuts ≡ cuts_by (brought_by t link) bytes → (old new : List JournalLineSeen)
       → Tells setting (Brought link bytes ∷ t) (say_all (λ now. scene_of setting now link) (source.Link link) cuts (Brought link bytes ∷ t)) old new → Tells setting t (with_bytes_of setting link bytes t) old new
   tells_bytes link bytes cuts live are old new told =
       subst (λ b. Tells setting t (if b then bring setting link bytes t else t) old new) (sym live)
       (subst (λ cs. Tells setting t (say_all (λ now. scene_of setting now link) (source.Link link) cs (Brought link bytes ∷ t)) old new) are
       (tells_then setting t (Brought link bytes ∷ t) (say_all (λ now. scene_of setting now link) (source.Link link) cuts (Brought link bytes ∷ t)) old old new (tells_brought setting link bytes t old) told))
-
-  pub tells_no_bytes : (link : ℕ) (bytes : List ℕ) → is_live t link ≡ false → (lines : List JournalLineSeen) → Tells setting t (with_bytes_of setting link bytes t) lines lines
-  tells_no_bytes link bytes dead lines = subst (λ b. Tells setting t (if b then bring setting link bytes t else t) lines lines) (sym dead) (tells_nothing setting t t lines refl)

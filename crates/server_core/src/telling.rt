@@ -1,5 +1,5 @@
 //! What is told to the journals: each function puts its lines after those that are there.
-ghost use Rattle.std.specs.Prelude.{◌≡◌, ◌∷◌, [], ◌++◌, OnOk, filter, map};
+ghost use Rattle.std.specs.Prelude.{◌≡◌, ◌++◌, OnOk, filter, map};
 ghost use Rattle.aprs_history.specs.Journal.{answer_lines, label, opening_lines, verdict_lines};
 ghost use Rattle.aprs_history.specs.Trace.{AtListener};
 ghost use Rattle.server_core.specs.LinkSteps.{is_late_link, is_lost};

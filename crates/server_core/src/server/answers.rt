@@ -1,5 +1,5 @@
 //! What a verdict that accepts no packet comes to: refusals, logins and filters.
-ghost use Rattle.std.specs.Prelude.{◌≡◌, ◌≤◌, ◌<◌, IsTrue, OnOk, length, Some, None, filter, map, take};
+ghost use Rattle.std.specs.Prelude.{◌≡◌, ◌≤◌, IsTrue, OnOk, length, Some, filter, map};
 ghost use Rattle.aprs_base.specs.Bytes.{is_station};
 ghost use Rattle.aprs_base.specs.declared.packets.Source.TheVariants as Source;
 ghost use Rattle.line_verdict.specs.Fit.{all_few, has_few};

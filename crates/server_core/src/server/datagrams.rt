@@ -1,5 +1,5 @@
 //! Datagrams: those that stations submit, and those of the peer group.
-ghost use Rattle.std.specs.Prelude.{◌≡◌, ◌∷◌, ◌++◌, ◌<◌, ℕ, IsTrue, IfOk, OnOk, IfSome, IsNone, List, Some, None, map};
+ghost use Rattle.std.specs.Prelude.{◌≡◌, ◌∷◌, ◌++◌, ℕ, IsTrue, IfOk, OnOk, IfSome, IsNone, List, Some, None, map};
 ghost use Rattle.aprs_history.specs.Trace.{Trace, Said};
 ghost use Rattle.aprs_history.specs.Setting.{kind_at, peer_from};
 ghost use Rattle.aprs_base.specs.declared.cutting.Cut.{Cut};
@@ -7,7 +7,6 @@ ghost use Rattle.q_construct.specs.Rule.{has_station};
 ghost use Rattle.q_construct.specs.declared.origins.Origin.TheVariants as Origin;
 ghost use Rattle.aprs_history.specs.Scenes.{datagram_scene};
 ghost use Rattle.aprs_history.specs.Verdicts.{submitter_of, verdict_of};
-ghost use Rattle.aprs_history.specs.declared.verdicts.Verdict.{Verdict};
 ghost use Rattle.aprs_history.specs.History.{datagram_cuts, refuse_datagram, relay, say_all, submit, with_lines};
 ghost use Rattle.server_core.specs.LinkSteps.{IsDatagram};
 ghost use Rattle.server_core.specs.Meaning.{peer_of, setting_of};

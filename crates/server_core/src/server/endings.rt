@@ -1,5 +1,5 @@
 //! Links that end.
-ghost use Rattle.std.specs.Prelude.{◌≡◌, ◌∷◌, ◌<◌, IsTrue, IfOk, OnOk, false, true, filter, take};
+ghost use Rattle.std.specs.Prelude.{◌≡◌, ◌∷◌, IsTrue, IfOk, OnOk, false, true, filter};
 ghost use Rattle.aprs_history.specs.Trace.{Trace, Ended, is_live, placed_all};
 ghost use Rattle.aprs_history.specs.declared.verdicts.EndReason.TheVariants.{ByPeer};
 ghost use Rattle.aprs_history.specs.Links.{late_links, late_reason};

@@ -1,13 +1,11 @@
 //! The bytes that links bring, and their lines.
-ghost use Rattle.std.specs.Prelude.{◌≡◌, ◌∷◌, ◌++◌, [], ◌<◌, IsTrue, IfOk, OnOk, false};
+ghost use Rattle.std.specs.Prelude.{◌≡◌, ◌∷◌, ◌++◌, [], IsTrue, IfOk, OnOk, false};
 ghost use Rattle.aprs_history.specs.Trace.{Trace, Brought, Said, is_live};
 ghost use Rattle.aprs_history.specs.Links.{brought_by};
 ghost use Rattle.aprs_base.specs.Cuts.{cuts_by};
-ghost use Rattle.aprs_base.specs.declared.cutting.Cut.{Cut};
 ghost use Rattle.aprs_base.specs.declared.packets.Source.TheVariants as Source;
 ghost use Rattle.aprs_history.specs.Scenes.{scene_of};
 ghost use Rattle.aprs_history.specs.Verdicts.{verdict_of};
-ghost use Rattle.aprs_history.specs.declared.verdicts.Verdict.{Verdict};
 ghost use Rattle.aprs_history.specs.History.{say_all, with_bytes_of};
 ghost use Rattle.server_core.specs.Meaning.{setting_of};
 ghost use Rattle.server_core.specs.Steps.{SameRest, Walks, scene_at, with_verdict};

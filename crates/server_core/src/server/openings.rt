@@ -1,5 +1,5 @@
 //! Links that come: connections, and uplinks that join.
-ghost use Rattle.std.specs.Prelude.{◌≡◌, ◌∷◌, [], ◌<◌, IfOk, OnOk, ◌++◌, Some};
+ghost use Rattle.std.specs.Prelude.{◌≡◌, ◌∷◌, [], ◌<◌, IfOk, OnOk, ◌++◌};
 ghost use Rattle.aprs_history.specs.Trace.{Trace, AtListener, ByUplink, Opened, Unjoined};
 ghost use Rattle.aprs_history.specs.Setting.{kind_at};
 ghost use Rattle.uplinks_peers.specs.Uplinks.{acts_at, uplinks_after};

@@ -1,5 +1,5 @@
 //! What an accepted packet comes to.
-ghost use Rattle.std.specs.Prelude.{◌≡◌, ◌<◌, IfOk, OnOk, map};
+ghost use Rattle.std.specs.Prelude.{◌≡◌, IfOk, OnOk, map};
 ghost use Rattle.std.specs.Arc.{arc_value};
 ghost use Rattle.aprs_history.specs.Scenes.{packet_of};
 ghost use Rattle.aprs_history.specs.declared.verdicts.Verdict.{Verdict};

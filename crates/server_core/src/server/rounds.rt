@@ -1,9 +1,9 @@
 //! The parts of a round: its begin, its events, its end, and what is to be done after it.
-ghost use Rattle.std.specs.Prelude.{◌≡◌, ◌∷◌, [], ◌<◌, IsTrue, IfOk, OnOk, IfSome, false, true, filter, map, if◌then◌else◌};
+ghost use Rattle.std.specs.Prelude.{◌≡◌, ◌∷◌, [], ◌<◌, IsTrue, IfOk, OnOk, IfSome, false, true, filter, map};
 ghost use Rattle.aprs_base.specs.Outside.{new_link};
-ghost use Rattle.aprs_history.specs.Trace.{Trace, Ended, Opened, Roomed, Unjoined, is_live};
+ghost use Rattle.aprs_history.specs.Trace.{Trace, Roomed, is_live};
 ghost use Rattle.aprs_history.specs.Stands.{Follows};
-ghost use Rattle.aprs_history.specs.History.{begin_round, end_round, end_stopped, with_event};
+ghost use Rattle.aprs_history.specs.History.{begin_round, end_round, with_event};
 ghost use Rattle.aprs_history.specs.Rounds.{AreFresh, events_trace, is_whole};
 ghost use Rattle.server_core.specs.LinkSteps.{AreServed, Rises, is_ready, number_of};
 ghost use Rattle.server_core.specs.Meaning.{setting_of};

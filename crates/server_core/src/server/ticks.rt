@@ -1,5 +1,5 @@
 //! What a tick brings: the moment, the date, a dial.
-ghost use Rattle.std.specs.Prelude.{◌∷◌, ◌<◌, OnOk, min};
+ghost use Rattle.std.specs.Prelude.{◌∷◌, OnOk};
 ghost use Rattle.aprs_history.specs.Trace.{Trace, Looked, Ticked};
 ghost use Rattle.aprs_history.specs.History.{dated, with_tick};
 ghost use Rattle.server_core.specs.Meaning.{setting_of};

@@ -1,11 +1,9 @@
 //! The verdict on what is said.
-ghost use Rattle.std.specs.Prelude.{◌≡◌, ◌<◌, IsTrue, IfOk};
-ghost use Rattle.aprs_base.specs.declared.cutting.Cut.{Cut};
+ghost use Rattle.std.specs.Prelude.{◌≡◌, IsTrue, IfOk};
 ghost use Rattle.q_construct.specs.Rule.{has_station};
 ghost use Rattle.tnc2_line.specs.Packet.{parts_of};
 ghost use Rattle.line_verdict.specs.Voices.{HasStation, line_verdict, voice_verdict};
 ghost use Rattle.aprs_history.specs.Verdicts.{packet_verdict, read_and_routed, verdict_of};
-ghost use Rattle.aprs_history.specs.declared.verdicts.Verdict.{Verdict};
 ghost use Rattle.server_core.specs.Steps.{carried_at, scene_at};
 
 use super::Core;

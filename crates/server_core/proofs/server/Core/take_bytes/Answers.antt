@@ -9,7 +9,7 @@ use Rattle.aprs_history.specs.History.{bring, say_all}
 use Rattle.server_core.specs.Meaning.{setting_of}
 use Rattle.server_core.specs.Steps.{Walks}
 use Rattle.server_core.specs.Telling.{Tells}
-use Rattle.server_core.proofs.TellingLemmas.{tells_bytes, tells_no_bytes}
+use Rattle.server_core.proofs.TellingLemmas.{tells_bytes}
 use Rattle.server_core.proofs.server.Core.take_bytes.Goals as goal
 
 pub returns-clause-walks : goal.returns-clause-walks
