@@ -1,5 +1,5 @@
 -- Events that come one after another, up to the end of a round.
-use Rattle.std.proofs.Common.{◌≡◌, ℕ, zero, suc, ◌+◌, ◌<◌, ◌≤◌, Bool, true, false, not, ◌&&◌, List, [], ◌∷◌, ◌++◌, length, refl, sym, ap, ◌∙◌, subst, arith, Option, Some, None, max, IfSome, if◌then◌else◌, length-append, Result, Ok, Err, IfErr, OnErr, ◌||◌, ◌-◌, eq-eqb, ⊎_elim}
+use Rattle.std.proofs.Common.{◌≡◌, ℕ, zero, suc, ◌+◌, ◌<◌, ◌≤◌, Bool, true, false, not, ◌&&◌, List, [], ◌∷◌, ◌++◌, length, refl, sym, ap, ◌∙◌, subst, arith, Option, Some, None, max, IfSome, if◌then◌else◌, length-append, Result, Ok, Err, IfErr, OnErr, OnOk, ◌||◌, ◌-◌, eq-eqb, ⊎_elim}
 use Rattle.std.proofs.Math.Bool.{or-true}
 use Rattle.std.proofs.Math.Nat.{eq-or-lt_of_le}
 use Rattle.std.specs.Bool.{MatchBool}
@@ -53,9 +53,9 @@ event_comes : (acts : List Act) (stopped : Bool) (e : Event) → acts ≡ [] →
 event_comes acts stopped e none going = subst (λ xs. MayCome xs stopped (did.Event e)) (sym none) (going, tt)
 
 -- one event more of the same round
-pub run_gathers : {lines : List JournalLineSeen} (s : Setting) (start now next : Option Told) (core : CoreMeaning) (events : List Event) (e : Event) → setting_of core.conf ≡ s → is_partial 0 events ≡ true
+pub run_gathers : (lines : List JournalLineSeen) (s : Setting) (start now next : Option Told) (core : CoreMeaning) (events : List Event) (e : Event) → setting_of core.conf ≡ s → is_partial 0 events ≡ true
     → next ≡ option_map (with_done (did.Event e)) now → AppendsRun s start now (Gathering lines core events) → AppendsRun s start next (Gathering lines core (events ++ e ∷ []))
-run_gathers {lines} s start now next core events e same partial is run =
+run_gathers lines s start now next core events e same partial is run =
     run_goes_on s start now next (did.Event e) (with_done (did.Event e)) (Gathering lines core events) (Gathering lines core (events ++ e ∷ []))
     (tells_done s (did.Event e) refl refl refl) is (λ more phase.
     let none : due s more ≡ [] =
@@ -195,11 +195,15 @@ gathering_idle core events first last s more same partial le counted phase = rec
   fresh = counted_fresh core events first last more le counted phase;
 }
 
-pub ok_is_no_err : {T E : Type 0} (x : T) (y : E) → Ok {T} {E} x ≡ Err y → ⊥
-ok_is_no_err x y is = cc
+pub ok_is_no_err : {T E : Type 0} (result : Result T E) (x : T) (y : E) → result ≡ Ok x → result ≡ Err y → ⊥
+ok_is_no_err result x y is also = cc
 
-pub memory_is_no_fault : {T : Type 0} → Err {T} wire_error.Memory ≡ Err wire_error.Failed → ⊥
+pub memory_is_no_fault : wire_error.Memory ≡ wire_error.Failed → ⊥
 memory_is_no_fault is = cc
+
+pub no_ok : {T E P : Type 0} (result : Result T E) (y : E) → result ≡ Err y → OnOk result P
+no_ok (Ok x) y is = absurd (ok_is_no_err (Ok x) x y refl is)
+no_ok (Err e) y is = tt
 
 pub err_inside : {T E : Type 0} (result : Result T E) (y x : E) → result ≡ Err y → result ≡ Err x → y ≡ x
 err_inside result y x is also = cc

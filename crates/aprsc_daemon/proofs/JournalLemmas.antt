@@ -18,7 +18,7 @@ use Rattle.aprsc_daemon.specs.Phases.{Acting, AreFirst, Broken, Counted, Gatheri
 use Rattle.aprsc_daemon.specs.Causes.{code_of_status, status_of}
 use Rattle.aprsc_daemon.specs.declared.serving.End.{End}
 use Rattle.aprsc_daemon.specs.declared.serving.End.TheVariants as ended
-use Rattle.aprsc_daemon.proofs.RunLemmas.{run_begins}
+use Rattle.aprsc_daemon.proofs.RunLemmas.{run_begins, run_told, run_weaker}
 use Rattle.aprsc_daemon.proofs.EventLemmas.{counted_fresh, gathered_fresh, gathering_idle, partial_next, parts_of, whole_next}
 
 -- an event that ends its round, and one that doesn't
@@ -159,6 +159,13 @@ acts_break {lines} s core dial casts offers closes more same phase = record {
   fresh = phase.owing.fresh;
   told = all_first s more lines (ap (λ t. journal_of t more) (sym same) ∙ phase.journal);
 }
+
+-- an act for which memory was wanting
+pub acts_broken : (lines : List JournalLineSeen) (s : Setting) (start now next : Option Told) (core : CoreMeaning) (dial : Option ℕ) (casts : List CastSeen) (offers closes : List ℕ) → setting_of core.conf ≡ s → next ≡ now
+    → AppendsRun s start now (Acting lines core dial casts offers closes) → AppendsRun s start next (Broken s lines)
+acts_broken lines s start now next core dial casts offers closes same stays run =
+    run_told s start now next (Broken s lines) stays
+    (run_weaker s start now (Acting lines core dial casts offers closes) (Broken s lines) (λ more. acts_break s core dial casts offers closes more same) run)
 
 -- where nothing but listeners was opened there is no line
 pub only_listens_untold : (s : Setting) (h : History) → are_listens h ≡ true → journal_of s h ≡ []

@@ -5,6 +5,7 @@ use Rattle.aprs_base.proofs.SlotLemmas.{each_takes-none}
 use Rattle.server_core.specs.Meaning.{setting_of}
 use Rattle.aprsc_daemon.specs.Causes.{code_of_status}
 use Rattle.aprsc_daemon.specs.Words.{asked_of}
+use Rattle.aprsc_daemon.specs.declared.program.Status.TheVariants as status
 use Rattle.aprsc_daemon.proofs.JournalLemmas.{untouched}
 use Rattle.aprsc_daemon.proofs.CauseLemmas.{memory_cause, some_same, words_cause}
 use Rattle.aprsc_daemon.proofs.program.run.Goals as goal
@@ -25,4 +26,4 @@ pub returns-in-Err-Refused-clause-journals : goal.returns-in-Err-Refused-clause-
 returns-in-Err-Refused-clause-journals g c = λ conf told_files tells read. ([], each_takes-none (λ z. (goal.Journal-dyn g z).journal_shown z.1) c.args.journals.now.items, untouched (setting_of conf) (g.W.Wire.shown c.args.wire.now).told (code_of_status _))
 
 pub returns-in-Err-Memory-clause-journals : goal.returns-in-Err-Memory-clause-journals
-returns-in-Err-Memory-clause-journals g c = λ conf told_files tells read. ([], each_takes-none (λ z. (goal.Journal-dyn g z).journal_shown z.1) c.args.journals.now.items, untouched (setting_of conf) (g.W.Wire.shown c.args.wire.now).told (code_of_status _))
+returns-in-Err-Memory-clause-journals g c = λ conf told_files tells read. ([], each_takes-none (λ z. (goal.Journal-dyn g z).journal_shown z.1) c.args.journals.now.items, untouched (setting_of conf) (g.W.Wire.shown c.args.wire.now).told (code_of_status status.NoMemory))

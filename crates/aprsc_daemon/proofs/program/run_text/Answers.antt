@@ -5,6 +5,7 @@ use Rattle.aprs_base.proofs.SlotLemmas.{each_takes-none}
 use Rattle.aprs_history.specs.Runs.{AppendsRun}
 use Rattle.server_core.specs.Meaning.{setting_of}
 use Rattle.aprsc_daemon.specs.Phases.{JournalTold}
+use Rattle.aprsc_daemon.specs.declared.program.Status.TheVariants as status
 use Rattle.aprsc_daemon.proofs.JournalLemmas.{untouched}
 use Rattle.aprsc_daemon.specs.Causes.{HasNamed, code_of_status}
 use Rattle.aprsc_daemon.specs.declared.words.Task.TheVariants as task
@@ -53,4 +54,4 @@ pub returns-in-Err-Trouble-clause-journals : goal.returns-in-Err-Trouble-clause-
 returns-in-Err-Trouble-clause-journals g c = λ conf serve reads. ([], each_takes-none (λ z. (goal.Journal-dyn g z).journal_shown z.1) c.args.journals.now.items, untouched (setting_of conf) (g.W.Wire.shown c.args.wire.now).told (code_of_status _))
 
 pub returns-in-Err-Memory-clause-journals : goal.returns-in-Err-Memory-clause-journals
-returns-in-Err-Memory-clause-journals g c = λ conf serve reads. ([], each_takes-none (λ z. (goal.Journal-dyn g z).journal_shown z.1) c.args.journals.now.items, untouched (setting_of conf) (g.W.Wire.shown c.args.wire.now).told (code_of_status _))
+returns-in-Err-Memory-clause-journals g c = λ conf serve reads. ([], each_takes-none (λ z. (goal.Journal-dyn g z).journal_shown z.1) c.args.journals.now.items, untouched (setting_of conf) (g.W.Wire.shown c.args.wire.now).told (code_of_status status.NoMemory))

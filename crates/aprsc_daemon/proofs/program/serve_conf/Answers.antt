@@ -23,8 +23,8 @@ returns-in-Ok-clause-run g c =
           (λ more phase. listening_rests c.in-Ok.core c.args.conf more c.in-Ok.ensures.conf c.in-Ok.ensures.stands phase) run),
     )
 
-pub returns-in-Err-Memory-clause-run : goal.returns-in-Err-Memory-clause-run
-returns-in-Err-Memory-clause-run g c = (
+pub returns-in-Err-clause-run : goal.returns-in-Err-clause-run
+returns-in-Err-clause-run g c = (
   [],
   each_takes-none (λ z. (goal.Journal-dyn g z).journal_shown z.1) c.args.journals.now.items,
   λ start run.

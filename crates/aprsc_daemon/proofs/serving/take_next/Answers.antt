@@ -25,7 +25,7 @@ returns-in_err-push-clause-err g c = λ s start lines core first same le counted
     let now_counted = counted_next first c.args.events.now.items c.in_ok-event.event (g.W.Wire.shown c.args.wire.now).links links counted c.in_ok-event.ensures.counts in
     err_any c.from_residual-in_err-push.result (
     run_weaker s start (g.W.Wire.shown c.next.new.self).told (Gathering lines core events) (Broken s lines) (λ more. push_breaks s core c.args.events.now.items c.in_ok-event.event first links more same c.requires le now_counted)
-    (run_gathers s start _ (g.W.Wire.shown c.next.new.self).told core c.args.events.now.items c.in_ok-event.event same c.requires c.in_ok-event.ensures.ok run))
+    (run_gathers lines s start _ (g.W.Wire.shown c.next.new.self).told core c.args.events.now.items c.in_ok-event.event same c.requires c.in_ok-event.ensures.ok run))
 
 pub returns-clause-whole : goal.returns-clause-whole
 returns-clause-whole g c =
@@ -40,7 +40,7 @@ returns-clause-counted g c = λ first counted.
 pub returns-clause-run : goal.returns-clause-run
 returns-clause-run g c = λ s start lines core same run.
     subst (λ events. AppendsRun s start (g.W.Wire.shown c.next.new.self).told (Gathering lines core events)) (sym c.in_ok-push.ensures.items)
-    (run_gathers s start _ (g.W.Wire.shown c.next.new.self).told core c.args.events.now.items c.in_ok-event.event same c.requires c.in_ok-event.ensures.ok run)
+    (run_gathers lines s start _ (g.W.Wire.shown c.next.new.self).told core c.args.events.now.items c.in_ok-event.event same c.requires c.in_ok-event.ensures.ok run)
 
 pub returns-clause-brings : goal.returns-clause-brings
 returns-clause-brings g c = λ start brought.
