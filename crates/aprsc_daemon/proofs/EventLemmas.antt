@@ -201,9 +201,9 @@ ok_is_no_err result x y is also = cc
 pub memory_is_no_fault : wire_error.Memory ≡ wire_error.Failed → ⊥
 memory_is_no_fault is = cc
 
-pub no_ok : {T E P : Type 0} (result : Result T E) (y : E) → result ≡ Err y → OnOk result P
-no_ok (Ok x) y is = absurd (ok_is_no_err (Ok x) x y refl is)
-no_ok (Err e) y is = tt
+pub no_ok : {T E : Type 0} (P : Type 0) (result : Result T E) (y : E) → result ≡ Err y → OnOk result P
+no_ok P (Ok x) y is = absurd (ok_is_no_err (Ok x) x y refl is)
+no_ok P (Err e) y is = tt
 
 pub err_inside : {T E : Type 0} (result : Result T E) (y x : E) → result ≡ Err y → result ≡ Err x → y ≡ x
 err_inside result y x is also = cc

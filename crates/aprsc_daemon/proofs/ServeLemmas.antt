@@ -59,9 +59,9 @@ begins_round lines s start now core going = run_weaker s start now (Resting line
 pub finishes : (lines : List JournalLineSeen) (s : Setting) (start now : Option Told) (core : CoreMeaning) → setting_of core.conf ≡ s → core.seen.stopped ≡ true → AppendsRun s start now (Resting lines core)
     → AppendsRun s start now (Served s ended.Stopped lines)
 finishes lines s start now core same stopped = run_weaker s start now (Resting lines core) (Served s ended.Stopped lines) (λ more phase. (
-    record { stopped = sym phase.stands.stopped ∙ stopped; idle = record { none = subst (λ t. due t more ≡ []) same phase.none; all = phase.all ∙ ap (λ s. length s.listens) same; fresh = phase.fresh } },
-    ap (λ t. journal_of t more) (sym same) ∙ phase.journal,
-    ))
+  record { stopped = sym phase.stands.stopped ∙ stopped; idle = record { none = subst (λ t. due t more ≡ []) same phase.none; all = phase.all ∙ ap (λ s. length s.listens) same; fresh = phase.fresh } },
+  ap (λ t. journal_of t more) (sym same) ∙ phase.journal,
+))
 
 -- where every listener is open, and nothing else happened, a new core stands for what happened
 pub listening_rests : (core : CoreMeaning) (conf : ConfSeen) (more : History) → core.conf ≡ conf → Stands core (only_listens (setting_of conf))

@@ -20,11 +20,14 @@ const AT: Addr = Addr {
 
 /// All kinds of lines, and loops alone.
 const ALL: u8 = 7;
+
 const LOOPS: u8 = 2;
 
 /// A journal in memory that fails the line before which so many were told to it.
 fn keeping(alloc: Global, kinds: u8, fail_at: Option<u64>) -> Result<Slot, Fail> {
-    let journal = MemJournal::new(alloc, kinds, fail_at, 65_536).ok().ok_or("memory")?;
+    let journal = MemJournal::new(alloc, kinds, fail_at, 65_536)
+        .ok()
+        .ok_or("memory")?;
     Ok(Slot::Live {
         journal: Box::new(alloc, journal)?,
         lines: 0,
@@ -120,7 +123,8 @@ fn loops_and_refusals_have_their_lines(rt: HostRuntime) -> Result<(), Fail> {
     outside.journals.push(keeping(alloc, ALL, None)?)?;
     let left = run_over(&rt, alloc, CONF, events, outside)?;
     assert!(rt; left.status == 0);
-    let lines: &[u8] = b"1000 join 1 0\n1000 loop 1 names-server\n1000 refused u2 unverified\n1000 end 1 stop\n";
+    let lines: &[u8] =
+        b"1000 join 1 0\n1000 loop 1 names-server\n1000 refused u2 unverified\n1000 end 1 stop\n";
     assert!(rt; told(&left) == Some(lines));
     Ok(())
 }

@@ -19,7 +19,7 @@ returns-in_err-acts-clause-run g c =
       told.0,
       told.1,
       λ s start lines same run. (
-        no_ok c.from_residual.result (err_from_is_err_and c.from_residual.result c.from_residual.ensures.1).0 (err_from_is_err_and c.from_residual.result c.from_residual.ensures.1).1,
+        no_ok _ c.from_residual.result (err_from_is_err_and c.from_residual.result c.from_residual.ensures.1).0 (err_from_is_err_and c.from_residual.result c.from_residual.ensures.1).1,
         err_any c.from_residual.result (
             subst (λ all. AppendsRun s start (g.W.Wire.shown c.args.wire.now).told (Broken s all)) (sym (append-nil lines) ∙ ap (λ l. lines ++ l) (sym told.3))
             (run_weaker s start (g.W.Wire.shown c.args.wire.now).told (Gathering lines c.args.core.now c.args.events.now) (Broken s lines)
@@ -33,7 +33,7 @@ returns-in_err-reach_out-clause-run g c =
       told.0,
       told.1,
       λ s start lines same run. (
-        no_ok c.from_residual-in_err-reach_out.result (err_from_is_err_and c.from_residual-in_err-reach_out.result c.from_residual-in_err-reach_out.ensures.1).0 (err_from_is_err_and c.from_residual-in_err-reach_out.result c.from_residual-in_err-reach_out.ensures.1).1,
+        no_ok _ c.from_residual-in_err-reach_out.result (err_from_is_err_and c.from_residual-in_err-reach_out.result c.from_residual-in_err-reach_out.ensures.1).0 (err_from_is_err_and c.from_residual-in_err-reach_out.result c.from_residual-in_err-reach_out.ensures.1).1,
         err_any {P = AppendsRun s start (g.W.Wire.shown c.reach_out.new.wire).told (Broken s (lines ++ told.0))} c.from_residual-in_err-reach_out.result
             (c.in_err-reach_out.ensures.err s start (lines ++ told.0) c.tell_round.new.core (ap setting_of c.in_ok-acts.ensures.conf ∙ same) (sym c.conf.ensures)
             (begins_acts lines s start (g.W.Wire.shown c.args.wire.now).told c.args.core.now c.tell_round.new.core c.args.events.now c.in_ok-acts.acts told.0
@@ -49,7 +49,7 @@ returns-in_err-send_all-clause-run g c =
       told.1,
       λ s start lines same run.
           let now_same = ap setting_of c.in_ok-acts.ensures.conf ∙ same in (
-            no_ok c.from_residual-in_err-send_all.result (err_from_is_err_and c.from_residual-in_err-send_all.result c.from_residual-in_err-send_all.ensures.1).0 (err_from_is_err_and c.from_residual-in_err-send_all.result c.from_residual-in_err-send_all.ensures.1).1,
+            no_ok _ c.from_residual-in_err-send_all.result (err_from_is_err_and c.from_residual-in_err-send_all.result c.from_residual-in_err-send_all.ensures.1).0 (err_from_is_err_and c.from_residual-in_err-send_all.result c.from_residual-in_err-send_all.ensures.1).1,
             err_any {P = AppendsRun s start (g.W.Wire.shown c.send_all.new.wire).told (Broken s (lines ++ told.0))} c.from_residual-in_err-send_all.result
                 (c.in_err-send_all.ensures.err s start (lines ++ told.0) acts.closes now_same
                 (offers_listed (lines ++ told.0) s start (g.W.Wire.shown c.reach_out.new.wire).told c.tell_round.new.core acts.offers acts.closes c.as_slice.result.now acts.closes
@@ -68,7 +68,7 @@ returns-in_err-close_all-clause-run g c =
       told.1,
       λ s start lines same run.
           let now_same = ap setting_of c.in_ok-acts.ensures.conf ∙ same in (
-            no_ok c.from_residual-in_err-close_all.result (err_from_is_err_and c.from_residual-in_err-close_all.result c.from_residual-in_err-close_all.ensures.1).0 (err_from_is_err_and c.from_residual-in_err-close_all.result c.from_residual-in_err-close_all.ensures.1).1,
+            no_ok _ c.from_residual-in_err-close_all.result (err_from_is_err_and c.from_residual-in_err-close_all.result c.from_residual-in_err-close_all.ensures.1).0 (err_from_is_err_and c.from_residual-in_err-close_all.result c.from_residual-in_err-close_all.ensures.1).1,
             err_any {P = AppendsRun s start (g.W.Wire.shown c.close_all.new.wire).told (Broken s (lines ++ told.0))} c.from_residual-in_err-close_all.result
                 (c.in_err-close_all.ensures.err s start (lines ++ told.0) c.send_all.new.core (ap setting_of c.in_ok-send_all.ensures.rest.conf ∙ now_same)
                 (c.in_ok-send_all.ensures.run s start (lines ++ told.0) c.as_slice-2.result.now now_same

@@ -17,7 +17,7 @@ returns-in_err-gather-clause-run g c = (
   λ s start lines same run.
       let begun = begins_round lines s start (g.W.Wire.shown c.args.wire.now).told c.args.core.now c.requires.going run in
       let error = err_from_is_err_and c.from_residual.result c.from_residual.ensures.1 in (
-        no_ok c.from_residual.result error.0 error.1,
+        no_ok _ c.from_residual.result error.0 error.1,
         err_any {P = AppendsRun s start (g.W.Wire.shown c.gather.new.wire).told (Broken s (lines ++ []))} c.from_residual.result
             (subst (λ all. AppendsRun s start (g.W.Wire.shown c.gather.new.wire).told (Broken s all)) (sym (append-nil lines))
             (c.in_err-gather.ensures.err s start lines c.args.core.now same c.requires.numbered begun)),

@@ -13,7 +13,7 @@ returns-in_err-acts-clause-told g c =
     let error = err_from_is_err_and c.from_residual.result c.from_residual.ensures.1 in (
       [],
       each_takes-none (λ z. (goal.Journal-dyn g z).journal_shown z.1) c.args.journals.now.items,
-      no_ok c.from_residual.result error.0 error.1,
+      no_ok _ c.from_residual.result error.0 error.1,
       err_any c.from_residual.result refl,
     )
 
