@@ -1,13 +1,14 @@
-//! The server's program: the top call over the files, the output and the sockets of the system.
+//! The server's program: the top call over the files, the output, the sockets and the journals of the system.
 #![tactic(auto)]
 
-use aprsc_daemon::{RealFiles, RealSink, aprsc};
+use aprs_base::Slot;
+use aprsc_daemon::{ErrorJournal, FileJournal, RealFiles, RealSink, aprsc};
 use mio_wire::MioWire;
 use std::alloc::AllocError;
 use std::env::{self, Env};
 use std::fs::Files;
 use std::hash::RandomState;
-use std::io::Print;
+use std::io::{Eprint, Print};
 use std::marker::Sync;
 use std::net::Net;
 use std::process::ExitCode;
@@ -31,16 +32,35 @@ fn words<R: AllocGlobal + Env>(rt: &R) -> Result<Vec<String>, AllocError> {
     Ok(words)
 }
 
+/// The journals of the system: one on the standard error, and one in a file.
+fn journals<R>(rt: &R) -> Result<Vec<Slot>, AllocError>
+where
+    R: AllocGlobal + Clone + Drop + Eprint + Files,
+{
+    let alloc = rt.alloc();
+    let mut slots = Vec::new(alloc);
+    slots.push(Slot::Live {
+        journal: Box::new(alloc, ErrorJournal::new(rt.clone()?))?,
+        lines: 0,
+    })?;
+    slots.push(Slot::Live {
+        journal: Box::new(alloc, FileJournal::new(rt.clone()?))?,
+        lines: 0,
+    })?;
+    Ok(slots)
+}
+
 /// Serves until it is ended from outside, or until the wire or memory fails.
 fn run<R>(rt: &R, hasher: &RandomState) -> Result<u8, AllocError>
 where
-    R: AllocGlobal + Clock + Env + Files + Net + Print + Sync + Threads + Wait,
+    R: AllocGlobal + Clock + Clone + Drop + Env + Eprint + Files + Net + Print + Sync + Threads + Wait,
 {
     let alloc = rt.alloc();
     let words = words(rt)?;
     let mut files = RealFiles::new(rt);
     let mut wire = MioWire::new(rt, alloc, None);
     let mut out = RealSink::new(rt);
+    let mut journals = journals(rt)?;
     Ok(aprsc(
         rt,
         alloc,
@@ -49,6 +69,7 @@ where
         &mut wire,
         &mut out,
         hasher,
+        &mut journals,
     ))
 }
 

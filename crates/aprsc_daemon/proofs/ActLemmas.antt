@@ -6,11 +6,13 @@ use Rattle.aprs_base.specs.Outside.{Told, with_done, IsOutcome}
 use Rattle.aprs_base.specs.declared.events.Sent.{Sent}
 use Rattle.aprs_base.specs.declared.events.Sent.TheVariants as sent
 use Rattle.aprs_base.specs.declared.events.Happening.TheVariants as did
+use Rattle.aprs_base.specs.Journals.{JournalLineSeen}
 use Rattle.aprs_history.specs.Setting.{Setting}
 use Rattle.aprs_history.specs.Trace.{is_member}
 use Rattle.aprs_history.specs.Texts.{untaken}
 use Rattle.aprs_history.specs.History.{History, is_stopped, trace_of}
 use Rattle.aprs_history.specs.Acts.{Act, Offers, Closes, MayCome, due, but_first, offer_to}
+use Rattle.aprs_history.specs.Journal.{journal_of}
 use Rattle.aprs_history.specs.Runs.{AppendsRun}
 use Rattle.server_core.specs.LinkSteps.{Rises}
 use Rattle.server_core.specs.Meaning.{CoreMeaning, Stands, setting_of}
@@ -53,14 +55,14 @@ member_first : (link : ℕ) (offers : List ℕ) → is_member link (link ∷ off
 member_first link offers = ap (λ b. b || is_member link offers) (eq-eqb link link refl)
 
 -- one offer is made
-pub run_sends : (s : Setting) (start now next : Option Told) (core new : CoreMeaning) (link : ℕ) (offers closes : List ℕ) (bytes : List ℕ) (outcome : Sent) → setting_of core.conf ≡ s
+pub run_sends : (lines : List JournalLineSeen) (s : Setting) (start now next : Option Told) (core new : CoreMeaning) (link : ℕ) (offers closes : List ℕ) (bytes : List ℕ) (outcome : Sent) → setting_of core.conf ≡ s
     → new.conf ≡ core.conf → is_member link offers ≡ false → IsOutcome bytes outcome
     → ((h : History) → Stands core h → bytes ≡ take 65536 (untaken (setting_of core.conf) (trace_of (setting_of core.conf) h) link))
     → ((h : History) → Stands core h → Stands new (did.Sent link bytes outcome ∷ h))
     → next ≡ option_map (with_done (did.Sent link bytes outcome)) now
-    → AppendsRun s start now (Offering core (link ∷ offers) closes) → AppendsRun s start next (Offering new offers closes)
-run_sends s start now next core new link offers closes bytes outcome same conf other part given stands is run =
-    run_goes_on s start now next (did.Sent link bytes outcome) (with_done (did.Sent link bytes outcome)) (Offering core (link ∷ offers) closes) (Offering new offers closes)
+    → AppendsRun s start now (Offering lines core (link ∷ offers) closes) → AppendsRun s start next (Offering lines new offers closes)
+run_sends lines s start now next core new link offers closes bytes outcome same conf other part given stands is run =
+    run_goes_on s start now next (did.Sent link bytes outcome) (with_done (did.Sent link bytes outcome)) (Offering lines core (link ∷ offers) closes) (Offering lines new offers closes)
     (tells_done s (did.Sent link bytes outcome) refl refl refl) is (λ more phase.
     let owing = phase.owing in
     let c = setting_of core.conf in (
@@ -69,6 +71,7 @@ run_sends s start now next core new link offers closes bytes outcome same conf o
           (given more phase.stands ∙ ap (take 65536) (owing.same link (member_first link offers))) part),
       record {
         stands = stands more phase.stands;
+        journal = ap (λ c. journal_of (setting_of c) more) conf ∙ phase.journal;
         owing = subst (λ conf. Owing conf None [] offers closes (did.Sent link bytes outcome ∷ more)) (sym conf) (owing_next core.conf link offers closes bytes outcome more other owing);
       },
     )) run
@@ -83,13 +86,13 @@ owing_closed : (conf : ConfSeen) (link : ℕ) (closes : List ℕ) (more : Histor
 unfolding due
 owing_closed conf link closes more owing = record { round = owing.round; owed = ap but_first owing.owed; same = λ k member. absurd (true≢false (sym member)); all = owing.all; fresh = owing.fresh }
 
-pub run_closes : (s : Setting) (start now next : Option Told) (core : CoreMeaning) (link : ℕ) (closes : List ℕ) → setting_of core.conf ≡ s
-    → next ≡ option_map (with_done (did.Closed link)) now → AppendsRun s start now (Offering core [] (link ∷ closes)) → AppendsRun s start next (Offering core [] closes)
-run_closes s start now next core link closes same is run =
-    run_goes_on s start now next (did.Closed link) (with_done (did.Closed link)) (Offering core [] (link ∷ closes)) (Offering core [] closes)
+pub run_closes : (lines : List JournalLineSeen) (s : Setting) (start now next : Option Told) (core : CoreMeaning) (link : ℕ) (closes : List ℕ) → setting_of core.conf ≡ s
+    → next ≡ option_map (with_done (did.Closed link)) now → AppendsRun s start now (Offering lines core [] (link ∷ closes)) → AppendsRun s start next (Offering lines core [] closes)
+run_closes lines s start now next core link closes same is run =
+    run_goes_on s start now next (did.Closed link) (with_done (did.Closed link)) (Offering lines core [] (link ∷ closes)) (Offering lines core [] closes)
     (tells_done s (did.Closed link) refl refl refl) is (λ more phase. (
       subst (λ t. MayCome (due t more) (is_stopped more) (did.Closed link)) same (close_comes (due (setting_of core.conf) more) (is_stopped more) link (map Closes closes) phase.owing.owed),
-      record { stands = stands_closed core link more phase.stands; owing = owing_closed core.conf link closes more phase.owing },
+      record { stands = stands_closed core link more phase.stands; journal = phase.journal; owing = owing_closed core.conf link closes more phase.owing },
     )) run
 
 -- ---- numbers that rise differ
@@ -122,14 +125,14 @@ offered_length offered room left out is full = length-take offered out ∙ min_i
     min_is offered room left n is full = omega arith
 
 -- one offer is made, from what the core said
-pub run_offered : (s : Setting) (start now next : Option Told) (core new : CoreMeaning) (link : ℕ) (offers closes : List ℕ) (bytes : List ℕ) (outcome said : Sent) → setting_of core.conf ≡ s
+pub run_offered : (lines : List JournalLineSeen) (s : Setting) (start now next : Option Told) (core new : CoreMeaning) (link : ℕ) (offers closes : List ℕ) (bytes : List ℕ) (outcome said : Sent) → setting_of core.conf ≡ s
     → new.conf ≡ core.conf → is_member link offers ≡ false → IsOutcome bytes outcome → outcome ≡ said
     → ((h : History) → Stands core h → bytes ≡ take 65536 (untaken (setting_of core.conf) (trace_of (setting_of core.conf) h) link))
     → ((h : History) → Stands core h → Stands new (did.Sent link bytes said ∷ h))
     → next ≡ option_map (with_done (did.Sent link bytes outcome)) now
-    → AppendsRun s start now (Offering core (link ∷ offers) closes) → AppendsRun s start next (Offering new offers closes)
-run_offered s start now next core new link offers closes bytes outcome said same conf other part is given stands =
-    run_sends s start now next core new link offers closes bytes outcome same conf other part given (λ h st. subst (λ o. Stands new (did.Sent link bytes o ∷ h)) (sym is) (stands h st))
+    → AppendsRun s start now (Offering lines core (link ∷ offers) closes) → AppendsRun s start next (Offering lines new offers closes)
+run_offered lines s start now next core new link offers closes bytes outcome said same conf other part is given stands =
+    run_sends lines s start now next core new link offers closes bytes outcome same conf other part given (λ h st. subst (λ o. Stands new (did.Sent link bytes o ∷ h)) (sym is) (stands h st))
 
 pub member_at : (ns : List ℕ) (i d : ℕ) → i < length ns → is_member (get_or ns i d) ns ≡ true
 member_at [] i d lt = absurd (omega arith)

@@ -108,10 +108,10 @@ ended_cause o conf end result is read silent failed run = subst (λ st. Cause st
 at_files : (t : Task) (o : Outside) (files : List MemFile) (conf : ConfSeen) → o.files.told ≡ Some files → HasNamed t o.words o.files.told conf → HasNamed t o.words (Some files) conf
 at_files t o files conf tells read = subst (λ told. HasNamed t o.words told conf) tells read
 
-some_same : {X : Type 0} (r : Option X) (m n : X) → r ≡ Some m → r ≡ Some n → m ≡ n
+pub some_same : {X : Type 0} (r : Option X) (m n : X) → r ≡ Some m → r ≡ Some n → m ≡ n
 some_same r m n e f = cc
 
-ok_same : (r : Result ConfSeen ConfError) (m n : ConfSeen) → r ≡ Ok m → r ≡ Ok n → m ≡ n
+pub ok_same : (r : Result ConfSeen ConfError) (m n : ConfSeen) → r ≡ Ok m → r ≡ Ok n → m ≡ n
 ok_same r m n e f = cc
 
 -- the words name one file, and it has one text

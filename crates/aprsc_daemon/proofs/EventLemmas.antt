@@ -1,5 +1,5 @@
 -- Events that come one after another, up to the end of a round.
-use Rattle.std.proofs.Common.{◌≡◌, ℕ, zero, suc, ◌+◌, ◌<◌, ◌≤◌, Bool, true, false, not, ◌&&◌, List, [], ◌∷◌, ◌++◌, length, refl, sym, ap, ◌∙◌, subst, arith, Option, Some, None, max, IfSome, if◌then◌else◌, length-append, Result, Ok, Err, IfErr, OnErr, ◌||◌, ◌-◌, eq-eqb, ⊎_elim}
+use Rattle.std.proofs.Common.{◌≡◌, ℕ, zero, suc, ◌+◌, ◌<◌, ◌≤◌, Bool, true, false, not, ◌&&◌, List, [], ◌∷◌, ◌++◌, length, refl, sym, ap, ◌∙◌, subst, arith, Option, Some, None, max, IfSome, if◌then◌else◌, length-append, Result, Ok, Err, IfErr, OnErr, OnOk, ◌||◌, ◌-◌, eq-eqb, ⊎_elim}
 use Rattle.std.proofs.Math.Bool.{or-true}
 use Rattle.std.proofs.Math.Nat.{eq-or-lt_of_le}
 use Rattle.std.specs.Bool.{MatchBool}
@@ -8,6 +8,8 @@ use Rattle.std.specs.Option.{option_map}
 use Rattle.aprs_base.specs.Outside.{Told, with_done, CountsLink, new_link}
 use Rattle.aprs_base.specs.declared.events.Event.{Event}
 use Rattle.aprs_base.specs.declared.events.Happening.TheVariants as did
+use Rattle.aprs_base.specs.declared.events.WireError.TheVariants as wire_error
+use Rattle.aprs_base.specs.Journals.{JournalLineSeen}
 use Rattle.aprs_history.specs.Setting.{Setting}
 use Rattle.aprs_history.specs.History.{History, ends_round, is_round_event, is_stop, is_stopped, open_events, greater_link, greatest_link}
 use Rattle.aprs_history.specs.Rounds.{is_whole, with_events, AreFresh, greatest_after}
@@ -28,7 +30,7 @@ pub with_push : (events : List Event) (e : Event) (h : History) → with_events 
 with_push [] e h = refl
 with_push (x ∷ events) e h = with_push events e (did.Event x ∷ h)
 
-parts_of : (n : ℕ) (e : Event) (events : List Event) → is_partial n (e ∷ events) ≡ true → (ends_round n e ≡ false) × (is_partial (n + 1) events ≡ true)
+pub parts_of : (n : ℕ) (e : Event) (events : List Event) → is_partial n (e ∷ events) ≡ true → (ends_round n e ≡ false) × (is_partial (n + 1) events ≡ true)
 parts_of n e events partial =
     let parts = and_parts (not (ends_round n e)) (is_partial (n + 1) events) partial in (not_false (ends_round n e) parts.0, parts.1)
 
@@ -51,10 +53,10 @@ event_comes : (acts : List Act) (stopped : Bool) (e : Event) → acts ≡ [] →
 event_comes acts stopped e none going = subst (λ xs. MayCome xs stopped (did.Event e)) (sym none) (going, tt)
 
 -- one event more of the same round
-pub run_gathers : (s : Setting) (start now next : Option Told) (core : CoreMeaning) (events : List Event) (e : Event) → setting_of core.conf ≡ s → is_partial 0 events ≡ true
-    → next ≡ option_map (with_done (did.Event e)) now → AppendsRun s start now (Gathering core events) → AppendsRun s start next (Gathering core (events ++ e ∷ []))
-run_gathers s start now next core events e same partial is run =
-    run_goes_on s start now next (did.Event e) (with_done (did.Event e)) (Gathering core events) (Gathering core (events ++ e ∷ []))
+pub run_gathers : (lines : List JournalLineSeen) (s : Setting) (start now next : Option Told) (core : CoreMeaning) (events : List Event) (e : Event) → setting_of core.conf ≡ s → is_partial 0 events ≡ true
+    → next ≡ option_map (with_done (did.Event e)) now → AppendsRun s start now (Gathering lines core events) → AppendsRun s start next (Gathering lines core (events ++ e ∷ []))
+run_gathers lines s start now next core events e same partial is run =
+    run_goes_on s start now next (did.Event e) (with_done (did.Event e)) (Gathering lines core events) (Gathering lines core (events ++ e ∷ []))
     (tells_done s (did.Event e) refl refl refl) is (λ more phase.
     let none : due s more ≡ [] =
     ap (due s) phase.since
@@ -71,7 +73,7 @@ run_gathers s start now next core events e same partial is run =
     )) run
 
 -- where a part of a round is there, no act is due
-pub gathered_none : (s : Setting) (core : CoreMeaning) (events : List Event) (more : History) → setting_of core.conf ≡ s → is_partial 0 events ≡ true → Gathering core events more → due s more ≡ []
+pub gathered_none : {lines : List JournalLineSeen} (s : Setting) (core : CoreMeaning) (events : List Event) (more : History) → setting_of core.conf ≡ s → is_partial 0 events ≡ true → Gathering lines core events more → due s more ≡ []
 gathered_none s core events more same partial phase =
     ap (due s) phase.since ∙ due_partial s 0 events phase.before partial phase.resting.stands.finished (subst (λ t. due t phase.before ≡ []) same phase.resting.none)
 
@@ -176,22 +178,32 @@ events_fresh : (events : List Event) (h : History) → HasFreshLinks h → AreFr
 events_fresh [] h fresh above = fresh
 events_fresh (e ∷ events) h fresh above = events_fresh events (did.Event e ∷ h) (fresh, above.0) above.1
 
-pub gathered_fresh : (core : CoreMeaning) (events : List Event) (more : History) → AreFresh core.seen.greatest events → Gathering core events more → HasFreshLinks more
+pub gathered_fresh : {lines : List JournalLineSeen} (core : CoreMeaning) (events : List Event) (more : History) → AreFresh core.seen.greatest events → Gathering lines core events more → HasFreshLinks more
 gathered_fresh core events more fresh phase =
     subst HasFreshLinks (sym phase.since) (events_fresh events phase.before phase.resting.fresh (subst (λ g. AreFresh g events) phase.resting.stands.greatest fresh))
 
 -- and so do events that a wire counted
-pub counted_fresh : (core : CoreMeaning) (events : List Event) (first last : ℕ) (more : History) → core.seen.greatest ≤ first → Counted first events last → Gathering core events more → HasFreshLinks more
+pub counted_fresh : {lines : List JournalLineSeen} (core : CoreMeaning) (events : List Event) (first last : ℕ) (more : History) → core.seen.greatest ≤ first → Counted first events last → Gathering lines core events more → HasFreshLinks more
 counted_fresh core events first last more le counted = gathered_fresh core events more (fresh_above events core.seen.greatest first le counted.fresh).0
 
 -- where the wire failed within a round, no act is due
-pub gathering_idle : (core : CoreMeaning) (events : List Event) (first last : ℕ) (s : Setting) (more : History) → setting_of core.conf ≡ s → is_partial 0 events ≡ true → core.seen.greatest ≤ first → Counted first events last
-    → Gathering core events more → Idle s more
+pub gathering_idle : {lines : List JournalLineSeen} (core : CoreMeaning) (events : List Event) (first last : ℕ) (s : Setting) (more : History) → setting_of core.conf ≡ s → is_partial 0 events ≡ true → core.seen.greatest ≤ first → Counted first events last
+    → Gathering lines core events more → Idle s more
 gathering_idle core events first last s more same partial le counted phase = record {
   none = gathered_none s core events more same partial phase;
   all = phase.all ∙ ap (λ s. length s.listens) same;
   fresh = counted_fresh core events first last more le counted phase;
 }
+
+pub ok_is_no_err : {T E : Type 0} (result : Result T E) (x : T) (y : E) → result ≡ Ok x → result ≡ Err y → ⊥
+ok_is_no_err result x y is also = cc
+
+pub memory_is_no_fault : wire_error.Memory ≡ wire_error.Failed → ⊥
+memory_is_no_fault is = cc
+
+pub no_ok : {T E : Type 0} (P : Type 0) (result : Result T E) (y : E) → result ≡ Err y → OnOk result P
+no_ok P (Ok x) y is = absurd (ok_is_no_err (Ok x) x y refl is)
+no_ok P (Err e) y is = tt
 
 pub err_inside : {T E : Type 0} (result : Result T E) (y x : E) → result ≡ Err y → result ≡ Err x → y ≡ x
 err_inside result y x is also = cc

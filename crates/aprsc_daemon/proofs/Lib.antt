@@ -2,6 +2,7 @@ pub mod ActLemmas
 pub mod BringLemmas
 pub mod CauseLemmas
 pub mod EventLemmas
+pub mod JournalLemmas
 pub mod ReachLemmas
 mod Rows
 pub mod RunLemmas

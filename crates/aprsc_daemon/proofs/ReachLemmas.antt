@@ -11,6 +11,7 @@ use Rattle.aprs_base.specs.declared.events.Happening.TheVariants as did
 use Rattle.aprs_conf.specs.Seen.{ConfSeen}
 use Rattle.aprs_conf.specs.declared.types.PeerSpec.{PeerSpec}
 use Rattle.link_queue.specs.Lines.{ended_line}
+use Rattle.aprs_base.specs.Journals.{JournalLineSeen}
 use Rattle.aprs_history.specs.Setting.{Setting}
 use Rattle.aprs_history.specs.History.{History, is_stopped, trace_of}
 use Rattle.aprs_history.specs.Acts.{Act, Casts, Closes, Dials, MayCome, but_first, cast_act, due, offer_to}
@@ -57,27 +58,27 @@ owing_dialled : (conf : ConfSeen) (uplink : ℕ) (casts : List CastSeen) (offers
 unfolding due trace_of
 owing_dialled conf uplink casts offers closes more owing = record { round = owing.round; owed = ap but_first owing.owed; same = owing.same; all = owing.all; fresh = owing.fresh }
 
-due_dial : (s : Setting) (core : CoreMeaning) (uplink : ℕ) (casts : List CastSeen) (offers closes : List ℕ) (more : History) → setting_of core.conf ≡ s → Acting core (Some uplink) casts offers closes more
+due_dial : {lines : List JournalLineSeen} (s : Setting) (core : CoreMeaning) (uplink : ℕ) (casts : List CastSeen) (offers closes : List ℕ) (more : History) → setting_of core.conf ≡ s → Acting lines core (Some uplink) casts offers closes more
     → MayCome (due s more) (is_stopped more) (did.Dialled uplink)
 due_dial s core uplink casts offers closes more same phase =
     subst (λ t. MayCome (due t more) (is_stopped more) (did.Dialled uplink)) same
     (dial_comes (due (setting_of core.conf) more) (is_stopped more) uplink (map cast_act casts ++ (map (offer_to (setting_of core.conf) phase.owing.round) offers ++ map Closes closes)) phase.owing.owed)
 
-pub run_dials : (s : Setting) (start now next : Option Told) (core : CoreMeaning) (uplink : ℕ) (spec : UplinkSeen) (casts : List CastSeen) (offers closes : List ℕ) → setting_of core.conf ≡ s
+pub run_dials : (lines : List JournalLineSeen) (s : Setting) (start now next : Option Told) (core : CoreMeaning) (uplink : ℕ) (spec : UplinkSeen) (casts : List CastSeen) (offers closes : List ℕ) → setting_of core.conf ≡ s
     → slice_get core.conf.uplinks uplink ≡ Some spec → next ≡ option_map (with_dial uplink spec) now
-    → AppendsRun s start now (Acting core (Some uplink) casts offers closes) → AppendsRun s start next (Acting core None casts offers closes)
-run_dials s start now next core uplink spec casts offers closes same at is run =
-    run_goes_on s start now next (did.Dialled uplink) (with_dial uplink spec) (Acting core (Some uplink) casts offers closes) (Acting core None casts offers closes)
+    → AppendsRun s start now (Acting lines core (Some uplink) casts offers closes) → AppendsRun s start next (Acting lines core None casts offers closes)
+run_dials lines s start now next core uplink spec casts offers closes same at is run =
+    run_goes_on s start now next (did.Dialled uplink) (with_dial uplink spec) (Acting lines core (Some uplink) casts offers closes) (Acting lines core None casts offers closes)
     (tells_dial s uplink spec (ap (λ t. slice_get t.uplinks uplink) (sym same) ∙ at)) is (λ more phase. (
       due_dial s core uplink casts offers closes more same phase,
-      record { stands = stands_dialled core uplink more phase.stands; owing = owing_dialled core.conf uplink casts offers closes more phase.owing },
+      record { stands = stands_dialled core uplink more phase.stands; journal = phase.journal; owing = owing_dialled core.conf uplink casts offers closes more phase.owing },
     )) run
 
 -- a dial that is due is of an uplink that is there
-pub dial_there : (s : Setting) (start now : Option Told) (core : CoreMeaning) (uplink : ℕ) (casts : List CastSeen) (offers closes : List ℕ) → setting_of core.conf ≡ s → slice_get core.conf.uplinks uplink ≡ None
-    → AppendsRun s start now (Acting core (Some uplink) casts offers closes) → AppendsRun s start now (Acting core None casts offers closes)
-dial_there s None now core uplink casts offers closes same none run = run
-dial_there s (Some old) now core uplink casts offers closes same none run =
+pub dial_there : (lines : List JournalLineSeen) (s : Setting) (start now : Option Told) (core : CoreMeaning) (uplink : ℕ) (casts : List CastSeen) (offers closes : List ℕ) → setting_of core.conf ≡ s → slice_get core.conf.uplinks uplink ≡ None
+    → AppendsRun s start now (Acting lines core (Some uplink) casts offers closes) → AppendsRun s start now (Acting lines core None casts offers closes)
+dial_there lines s None now core uplink casts offers closes same none run = run
+dial_there lines s (Some old) now core uplink casts offers closes same none run =
     let lt = dials_are_of_uplinks s [] run.0 uplink (run.2, due_dial s core uplink casts offers closes run.0 same run.3) in
     absurd (none_within core.conf.uplinks uplink none (subst (λ t. uplink < length t.uplinks) (sym same) lt))
 
@@ -101,30 +102,30 @@ owing_cast : (conf : ConfSeen) (cast : CastSeen) (bytes : List ℕ) (casts : Lis
 unfolding due trace_of
 owing_cast conf cast bytes casts offers closes more owing = record { round = owing.round; owed = ap but_first owing.owed; same = owing.same; all = owing.all; fresh = owing.fresh }
 
-due_cast : (s : Setting) (core : CoreMeaning) (cast : CastSeen) (bytes : List ℕ) (casts : List CastSeen) (offers closes : List ℕ) (more : History) → setting_of core.conf ≡ s → bytes ≡ ended_line cast.line
-    → Acting core None (cast ∷ casts) offers closes more → MayCome (due s more) (is_stopped more) (did.Cast cast.peer bytes)
+due_cast : {lines : List JournalLineSeen} (s : Setting) (core : CoreMeaning) (cast : CastSeen) (bytes : List ℕ) (casts : List CastSeen) (offers closes : List ℕ) (more : History) → setting_of core.conf ≡ s → bytes ≡ ended_line cast.line
+    → Acting lines core None (cast ∷ casts) offers closes more → MayCome (due s more) (is_stopped more) (did.Cast cast.peer bytes)
 due_cast s core cast bytes casts offers closes more same line phase =
     subst (λ t. MayCome (due t more) (is_stopped more) (did.Cast cast.peer bytes)) same
     (cast_comes (due (setting_of core.conf) more) (is_stopped more) cast.peer bytes (ended_line cast.line) (map cast_act casts ++ (map (offer_to (setting_of core.conf) phase.owing.round) offers ++ map Closes closes)) phase.owing.owed line)
 
-pub run_casts : (s : Setting) (start now next : Option Told) (core : CoreMeaning) (cast : CastSeen) (peer : PeerSpec) (bytes : List ℕ) (casts : List CastSeen) (offers closes : List ℕ) → setting_of core.conf ≡ s
+pub run_casts : (lines : List JournalLineSeen) (s : Setting) (start now next : Option Told) (core : CoreMeaning) (cast : CastSeen) (peer : PeerSpec) (bytes : List ℕ) (casts : List CastSeen) (offers closes : List ℕ) → setting_of core.conf ≡ s
     → slice_get core.conf.peers cast.peer ≡ Some peer → bytes ≡ ended_line cast.line → next ≡ option_map (with_cast cast.peer peer.at bytes) now
-    → AppendsRun s start now (Acting core None (cast ∷ casts) offers closes) → AppendsRun s start next (Acting core None casts offers closes)
-run_casts s start now next core cast peer bytes casts offers closes same at line is run =
+    → AppendsRun s start now (Acting lines core None (cast ∷ casts) offers closes) → AppendsRun s start next (Acting lines core None casts offers closes)
+run_casts lines s start now next core cast peer bytes casts offers closes same at line is run =
     let to : option_map address_of (slice_get s.peers cast.peer) ≡ Some peer.at =
     ap (λ t. option_map address_of (slice_get t.peers cast.peer)) (sym same)
     ∙ ap (option_map address_of) (slice_get-map peer_of core.conf.peers cast.peer ∙ ap (option_map peer_of) at) in
-    run_goes_on s start now next (did.Cast cast.peer bytes) (with_cast cast.peer peer.at bytes) (Acting core None (cast ∷ casts) offers closes) (Acting core None casts offers closes)
+    run_goes_on s start now next (did.Cast cast.peer bytes) (with_cast cast.peer peer.at bytes) (Acting lines core None (cast ∷ casts) offers closes) (Acting lines core None casts offers closes)
     (tells_cast s cast.peer peer.at bytes to) is (λ more phase. (
       due_cast s core cast bytes casts offers closes more same line phase,
-      record { stands = stands_cast core cast.peer bytes more phase.stands; owing = owing_cast core.conf cast bytes casts offers closes more phase.owing },
+      record { stands = stands_cast core cast.peer bytes more phase.stands; journal = phase.journal; owing = owing_cast core.conf cast bytes casts offers closes more phase.owing },
     )) run
 
 -- a cast that is due is for a peer that is there
-pub cast_there : (s : Setting) (start now : Option Told) (core : CoreMeaning) (cast : CastSeen) (casts : List CastSeen) (offers closes : List ℕ) → setting_of core.conf ≡ s → slice_get core.conf.peers cast.peer ≡ None
-    → AppendsRun s start now (Acting core None (cast ∷ casts) offers closes) → AppendsRun s start now (Acting core None casts offers closes)
-cast_there s None now core cast casts offers closes same none run = run
-cast_there s (Some old) now core cast casts offers closes same none run =
+pub cast_there : (lines : List JournalLineSeen) (s : Setting) (start now : Option Told) (core : CoreMeaning) (cast : CastSeen) (casts : List CastSeen) (offers closes : List ℕ) → setting_of core.conf ≡ s → slice_get core.conf.peers cast.peer ≡ None
+    → AppendsRun s start now (Acting lines core None (cast ∷ casts) offers closes) → AppendsRun s start now (Acting lines core None casts offers closes)
+cast_there lines s None now core cast casts offers closes same none run = run
+cast_there lines s (Some old) now core cast casts offers closes same none run =
     let bytes = ended_line cast.line in
     let lt = (peers_get_submissions s [] run.0 cast.peer bytes (run.2, due_cast s core cast bytes casts offers closes run.0 same refl run.3)).0 in
     absurd (none_within core.conf.peers cast.peer none (subst (λ n. cast.peer < n) (length-map core.conf.peers peer_of) (subst (λ t. cast.peer < length t.peers) (sym same) lt)))

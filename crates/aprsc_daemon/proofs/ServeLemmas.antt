@@ -1,5 +1,5 @@
 -- From one round to the next.
-use Rattle.std.proofs.Common.{Some, None, length-append, drop, le_refl, arith, ⊎_elim, ◌≡◌, ℕ, ◌≤◌, true, false, List, [], ◌∷◌, length, refl, sym, ap, ◌∙◌, subst, Option}
+use Rattle.std.proofs.Common.{Some, None, length-append, drop, le_refl, arith, ⊎_elim, ◌≡◌, ℕ, ◌≤◌, true, false, List, [], ◌∷◌, ◌++◌, length, refl, sym, ap, ◌∙◌, subst, Option}
 use Rattle.std.proofs.lemmas.Bool.{cases_Bool}
 use Rattle.std.proofs.lemmas.List.{drop_all}
 use Rattle.aprs_conf.specs.declared.types.Listen.{Listen}
@@ -8,25 +8,32 @@ use Rattle.aprs_conf.specs.Sound.{IsSound}
 use Rattle.aprs_base.specs.Outside.{Told}
 use Rattle.aprs_base.specs.declared.events.Event.{Event}
 use Rattle.aprs_base.specs.declared.texts.Addr.{Addr}
+use Rattle.aprs_base.specs.Journals.{JournalLineSeen}
 use Rattle.aprs_history.specs.Setting.{Setting}
 use Rattle.aprs_history.specs.History.{History, trace_of}
 use Rattle.aprs_history.specs.Texts.{untaken}
-use Rattle.aprs_history.specs.Rounds.{AreFresh, with_events, listens_after, only_listens}
+use Rattle.aprs_history.specs.Rounds.{AreFresh, is_whole, with_events, listens_after, only_listens}
+use Rattle.aprs_history.specs.Journal.{journal_of}
 use Rattle.aprs_history.specs.Acts.{due, listens_from}
 use Rattle.aprs_history.specs.Runs.{AppendsRun}
 use Rattle.server_core.specs.ActsSeen.{ActsSeen}
 use Rattle.server_core.specs.Meaning.{AreActs, CoreMeaning, Stands, group_listens, listeners, numbered, setting_of}
-use Rattle.aprsc_daemon.specs.Phases.{Acting, Finished, Gathering, Listening, Offering, Resting}
+use Rattle.aprsc_daemon.specs.Phases.{Acting, AreOfRound, Gathering, Listening, Offering, Resting, Served}
+use Rattle.aprsc_daemon.specs.declared.serving.End.TheVariants as ended
 use Rattle.aprsc_daemon.proofs.EventLemmas.{gathered_fresh}
+use Rattle.aprsc_daemon.proofs.JournalLemmas.{listens_untold, round_added}
 use Rattle.aprsc_daemon.proofs.RunLemmas.{run_weaker}
 
-pub begins_acts : (s : Setting) (start now : Option Told) (core new : CoreMeaning) (events : List Event) (acts : ActsSeen) → new.conf ≡ core.conf
+pub begins_acts : (lines : List JournalLineSeen) (s : Setting) (start now : Option Told) (core new : CoreMeaning) (events : List Event) (acts : ActsSeen) (told : List JournalLineSeen) → new.conf ≡ core.conf
+    → is_whole 0 events ≡ true → AreOfRound core events told
     → AreFresh core.seen.greatest events → ((h : History) → Stands core h → Stands new (with_events events h)) → ((h : History) → Stands core h → AreActs (setting_of new.conf) (with_events events h) acts)
-    → AppendsRun s start now (Gathering core events) → AppendsRun s start now (Acting new acts.dial acts.casts acts.offers acts.closes)
-begins_acts s start now core new events acts conf fresh stands acts_are =
-    run_weaker s start now (Gathering core events) (Acting new acts.dial acts.casts acts.offers acts.closes) (λ more phase.
+    → AppendsRun s start now (Gathering lines core events) → AppendsRun s start now (Acting (lines ++ told) new acts.dial acts.casts acts.offers acts.closes)
+begins_acts lines s start now core new events acts told conf whole are fresh stands acts_are =
+    run_weaker s start now (Gathering lines core events) (Acting (lines ++ told) new acts.dial acts.casts acts.offers acts.closes) (λ more phase.
     record {
       stands = subst (Stands new) (sym phase.since) (stands phase.before phase.resting.stands);
+      journal = ap (λ c. journal_of (setting_of c) more) conf ∙ ap (journal_of (setting_of core.conf)) phase.since
+          ∙ round_added (setting_of core.conf) events phase.before lines told whole phase.resting.stands.finished phase.resting.journal (are phase.before phase.resting.stands);
       owing = record {
         round = trace_of (setting_of new.conf) (with_events events phase.before);
         owed = ap (due (setting_of new.conf)) phase.since ∙ (acts_are phase.before phase.resting.stands).due;
@@ -37,25 +44,28 @@ begins_acts s start now core new events acts conf fresh stands acts_are =
     })
 
 -- the same links, as a slice has them
-pub offers_listed : (s : Setting) (start now : Option Told) (core : CoreMeaning) (offers closes links closed : List ℕ) → links ≡ offers → closed ≡ closes
-    → AppendsRun s start now (Offering core offers closes) → AppendsRun s start now (Offering core links closed)
-offers_listed s start now core offers closes links closed offers_are closes_are run =
-    subst (λ ns. AppendsRun s start now (Offering core links ns)) (sym closes_are) (subst (λ ns. AppendsRun s start now (Offering core ns closes)) (sym offers_are) run)
+pub offers_listed : (lines : List JournalLineSeen) (s : Setting) (start now : Option Told) (core : CoreMeaning) (offers closes links closed : List ℕ) → links ≡ offers → closed ≡ closes
+    → AppendsRun s start now (Offering lines core offers closes) → AppendsRun s start now (Offering lines core links closed)
+offers_listed lines s start now core offers closes links closed offers_are closes_are run =
+    subst (λ ns. AppendsRun s start now (Offering lines core links ns)) (sym closes_are) (subst (λ ns. AppendsRun s start now (Offering lines core ns closes)) (sym offers_are) run)
 
-pub rests : (s : Setting) (start now : Option Told) (core : CoreMeaning) → AppendsRun s start now (Offering core [] []) → AppendsRun s start now (Resting core)
-rests s start now core = run_weaker s start now (Offering core [] []) (Resting core) (λ more phase. record { stands = phase.stands; none = phase.owing.owed; all = phase.owing.all; fresh = phase.owing.fresh })
+pub rests : (lines : List JournalLineSeen) (s : Setting) (start now : Option Told) (core : CoreMeaning) → AppendsRun s start now (Offering lines core [] []) → AppendsRun s start now (Resting lines core)
+rests lines s start now core = run_weaker s start now (Offering lines core [] []) (Resting lines core) (λ more phase. record { stands = phase.stands; journal = phase.journal; none = phase.owing.owed; all = phase.owing.all; fresh = phase.owing.fresh })
 
-pub begins_round : (s : Setting) (start now : Option Told) (core : CoreMeaning) → core.seen.stopped ≡ false → AppendsRun s start now (Resting core) → AppendsRun s start now (Gathering core [])
-begins_round s start now core going = run_weaker s start now (Resting core) (Gathering core []) (λ more phase.
+pub begins_round : (lines : List JournalLineSeen) (s : Setting) (start now : Option Told) (core : CoreMeaning) → core.seen.stopped ≡ false → AppendsRun s start now (Resting lines core) → AppendsRun s start now (Gathering lines core [])
+begins_round lines s start now core going = run_weaker s start now (Resting lines core) (Gathering lines core []) (λ more phase.
     record { before = more; since = refl; resting = phase; going = sym phase.stands.stopped ∙ going; all = phase.all })
 
-pub finishes : (s : Setting) (start now : Option Told) (core : CoreMeaning) → setting_of core.conf ≡ s → core.seen.stopped ≡ true → AppendsRun s start now (Resting core) → AppendsRun s start now (Finished s)
-finishes s start now core same stopped = run_weaker s start now (Resting core) (Finished s) (λ more phase.
-    record { stopped = sym phase.stands.stopped ∙ stopped; idle = record { none = subst (λ t. due t more ≡ []) same phase.none; all = phase.all ∙ ap (λ s. length s.listens) same; fresh = phase.fresh } })
+pub finishes : (lines : List JournalLineSeen) (s : Setting) (start now : Option Told) (core : CoreMeaning) → setting_of core.conf ≡ s → core.seen.stopped ≡ true → AppendsRun s start now (Resting lines core)
+    → AppendsRun s start now (Served s ended.Stopped lines)
+finishes lines s start now core same stopped = run_weaker s start now (Resting lines core) (Served s ended.Stopped lines) (λ more phase. (
+  record { stopped = sym phase.stands.stopped ∙ stopped; idle = record { none = subst (λ t. due t more ≡ []) same phase.none; all = phase.all ∙ ap (λ s. length s.listens) same; fresh = phase.fresh } },
+  ap (λ t. journal_of t more) (sym same) ∙ phase.journal,
+))
 
 -- where every listener is open, and nothing else happened, a new core stands for what happened
 pub listening_rests : (core : CoreMeaning) (conf : ConfSeen) (more : History) → core.conf ≡ conf → Stands core (only_listens (setting_of conf))
-    → Listening (setting_of conf) (length (listeners conf)) more → Resting core more
+    → Listening (setting_of conf) (length (listeners conf)) more → Resting [] core more
 listening_rests core conf more same stands phase =
     let listens = listeners conf in
     let n = length listens in
@@ -63,6 +73,7 @@ listening_rests core conf more same stands phase =
     let only : more ≡ only_listens (setting_of conf) = ap (λ specs. listens_after n specs more) (sym none) ∙ phase.rest in
     record {
       stands = subst (Stands core) (sym only) stands;
+      journal = ap (journal_of (setting_of core.conf)) only ∙ listens_untold (setting_of core.conf) 0 (setting_of conf).listens [];
       none = ap (λ c. due (setting_of c) more) same ∙ phase.due ∙ ap (listens_from n) none;
       all = phase.count ∙ ap (λ c. length (listeners c)) (sym same);
       fresh = phase.fresh;

@@ -2,4 +2,5 @@ pub mod Causes
 pub mod Configuring
 pub mod Phases
 pub mod Saying
+pub mod Telling
 pub mod Words

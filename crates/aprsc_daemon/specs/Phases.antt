@@ -1,13 +1,15 @@
 -- How far the serving of a wire has come: what holds of the happenings so far.
-use Rattle.std.specs.Prelude.{◌≡◌, ℕ, ◌+◌, ◌&&◌, Bool, true, false, not, List, [], ◌∷◌, ◌++◌, length, drop, map, Option, Some, None}
+use Rattle.std.specs.Prelude.{◌≡◌, ℕ, ◌+◌, ◌&&◌, Bool, true, false, not, List, [], ◌∷◌, ◌++◌, length, drop, map, Option, Some, None, if◌then◌else◌}
 use Rattle.aprs_base.specs.Outside.{Told}
 use Rattle.aprs_base.specs.declared.events.Event.{Event}
 use Rattle.aprs_base.specs.declared.events.Happening.{Happening}
 use Rattle.aprs_base.specs.declared.events.Happening.TheVariants as did
 use Rattle.aprs_history.specs.Setting.{Setting}
+use Rattle.aprs_base.specs.Journals.{JournalLineSeen}
 use Rattle.aprs_history.specs.Trace.{Trace, is_member}
 use Rattle.aprs_history.specs.Texts.{untaken}
-use Rattle.aprs_history.specs.History.{History, ends_round, is_stopped, trace_of}
+use Rattle.aprs_history.specs.History.{History, ends_round, is_stopped, open_events, trace_of}
+use Rattle.aprs_history.specs.Journal.{journal_of, round_lines}
 use Rattle.aprs_history.specs.Rounds.{AreFresh, greatest_after, listens_after, only_listens, with_events}
 use Rattle.aprs_history.specs.Acts.{Closes, cast_act, dials, due, listens_from, offer_to}
 use Rattle.aprs_history.specs.Dials.{CastSeen}
@@ -26,9 +28,10 @@ pub record Listening (setting : Setting) (n : ℕ) (more : History) : Type 0 whe
   pub only : are_listens more ≡ true
   pub fresh : HasFreshLinks more
 
--- every listener was opened, the core stands for the history, and no act is due
-pub record Resting (core : CoreMeaning) (more : History) : Type 0 where
+-- every listener was opened, the core stands for the history, no act is due, and these are the lines of the journal
+pub record Resting (lines : List JournalLineSeen) (core : CoreMeaning) (more : History) : Type 0 where
   pub stands : Stands core more
+  pub journal : journal_of (setting_of core.conf) more ≡ lines
   pub none : due (setting_of core.conf) more ≡ []
   pub all : listens_in more ≡ length (setting_of core.conf).listens
   pub fresh : HasFreshLinks more
@@ -45,10 +48,10 @@ pub record Finished (setting : Setting) (more : History) : Type 0 where
   pub idle : Idle setting more
 
 -- these events have come since
-pub record Gathering (core : CoreMeaning) (events : List Event) (more : History) : Type 0 where
+pub record Gathering (lines : List JournalLineSeen) (core : CoreMeaning) (events : List Event) (more : History) : Type 0 where
   pub before : History
   pub since : more ≡ with_events events before
-  pub resting : Resting core before
+  pub resting : Resting lines core before
   pub going : is_stopped before ≡ false
   pub all : listens_in more ≡ length (setting_of core.conf).listens
 
@@ -62,14 +65,15 @@ pub record Owing (conf : ConfSeen) (dial : Option ℕ) (casts : List CastSeen) (
   pub all : listens_in more ≡ length (setting_of conf).listens
   pub fresh : HasFreshLinks more
 
--- so much of a round's acts is still to be done
-pub record Acting (core : CoreMeaning) (dial : Option ℕ) (casts : List CastSeen) (offers closes : List ℕ) (more : History) : Type 0 where
+-- so much of a round's acts is still to be done, and these are the lines of the journal
+pub record Acting (lines : List JournalLineSeen) (core : CoreMeaning) (dial : Option ℕ) (casts : List CastSeen) (offers closes : List ℕ) (more : History) : Type 0 where
   pub stands : Stands core more
+  pub journal : journal_of (setting_of core.conf) more ≡ lines
   pub owing : Owing core.conf dial casts offers closes more
 
 -- the dial and the casts are done
-abbrev pub Offering : CoreMeaning → (offers closes : List ℕ) → History → Type 0
-Offering core offers closes more = Acting core None [] offers closes more
+abbrev pub Offering : List JournalLineSeen → CoreMeaning → (offers closes : List ℕ) → History → Type 0
+Offering lines core offers closes more = Acting lines core None [] offers closes more
 
 -- a part of a round: none of the events ends it
 abbrev pub is_partial : ℕ → List Event → Bool
@@ -92,8 +96,53 @@ abbrev pub Brings : List Event → Option Told → Option Told → Type 0
 Brings events None new = new ≡ None
 Brings events (Some old) new = (told : Told) × (more : List Happening) × (new ≡ Some told) × (told.done ≡ old.done ++ more) × (events_in more ≡ events)
 
+-- ---- the journal
+
+-- its lines but for those of the last round that is finished
+abbrev pub lines_but_last : Setting → History → List JournalLineSeen
+lines_but_last setting [] = []
+lines_but_last setting (did.Event e ∷ earlier) = if ends_round (open_events earlier) e then journal_of setting earlier else lines_but_last setting earlier
+lines_but_last setting (x ∷ earlier) = lines_but_last setting earlier
+
+-- these are first lines of the journal, and those of its last finished round alone may be missing
+pub record AreFirst (setting : Setting) (lines : List JournalLineSeen) (more : History) : Type 0 where
+  pub rest : List JournalLineSeen
+  pub some : List JournalLineSeen
+  pub first : journal_of setting more ≡ lines ++ rest
+  pub most : lines ≡ lines_but_last setting more ++ some
+
+-- memory was wanting: links were numbered freshly, and these lines were told
+pub record Broken (setting : Setting) (lines : List JournalLineSeen) (more : History) : Type 0 where
+  pub fresh : HasFreshLinks more
+  pub told : AreFirst setting lines more
+
+-- no act is due, and these are the lines of the journal
+pub record Idling (setting : Setting) (lines : List JournalLineSeen) (more : History) : Type 0 where
+  pub idle : Idle setting more
+  pub journal : journal_of setting more ≡ lines
+
+-- which lines the journals were told where the serving of a wire ended
+abbrev pub AreTold : Setting → End → List JournalLineSeen → History → Type 0
+AreTold setting ended.Stopped lines more = journal_of setting more ≡ lines
+AreTold setting ended.Failed lines more = journal_of setting more ≡ lines
+AreTold setting ended.Memory lines more = AreFirst setting lines more
+
+-- these are the lines of the round with these events
+abbrev pub AreOfRound : CoreMeaning → List Event → List JournalLineSeen → Type 0
+AreOfRound core events lines = (h : History) → Stands core h → lines ≡ round_lines (setting_of core.conf) (trace_of (setting_of core.conf) (with_events events h))
+
 -- what is so where the serving of a wire ended
 abbrev pub Ends : Setting → End → History → Type 0
 Ends setting ended.Stopped more = Finished setting more
 Ends setting ended.Failed more = Idle setting more
 Ends setting ended.Memory more = HasFreshLinks more
+
+-- and of the lines that the journals were told
+abbrev pub Served : Setting → End → List JournalLineSeen → History → Type 0
+Served setting end lines more = Ends setting end more × AreTold setting end lines more
+
+-- which lines the journals were told where the call ended with this status: those of the journal, but after 6 perhaps not those
+-- of the last finished round
+pub record JournalTold (code : ℕ) (setting : Setting) (lines : List JournalLineSeen) (more : History) : Type 0 where
+  pub first : AreFirst setting lines more
+  pub whole : (code ≡ 6 → ⊥) → journal_of setting more ≡ lines

@@ -3,6 +3,11 @@
 
 mod configuring;
 #[cfg(test)]
+mod journal_runs;
+#[cfg(test)]
+mod journal_tests;
+mod journals;
+#[cfg(test)]
 mod memory_run;
 #[cfg(test)]
 mod network_tests;
@@ -18,5 +23,6 @@ mod words;
 #[cfg(test)]
 mod words_tests;
 
+pub use journals::{ErrorJournal, FileJournal};
 pub use program::aprsc;
 pub use real::{RealFiles, RealSink};

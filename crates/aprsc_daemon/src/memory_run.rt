@@ -1,8 +1,8 @@
 //! A run of the program over files, a wire and a sink in memory, and what it left.
 use crate::aprsc;
 use aprs_base::{
-    Addr, Chunk, Event, Happening, ListenSpec, MemFile, MemFiles, MemSink, MemWire, Sent, Take,
-    Text, UplinkSpec,
+    Addr, Chunk, Event, Happening, ListenSpec, MemFile, MemFiles, MemSink, MemWire, Sent, Slot,
+    Take, Text, UplinkSpec,
 };
 use std::alloc::Global;
 use std::hash::RandomState;
@@ -37,6 +37,7 @@ pub(crate) struct Outside {
     pub fail_next: Option<u64>,
     pub fail_sink: Vec<u64>,
     pub words: &'static [&'static str],
+    pub journals: Vec<Slot>,
 }
 
 impl Outside {
@@ -47,6 +48,7 @@ impl Outside {
             fail_next: None,
             fail_sink: Vec::new(alloc),
             words: &["-c", "c"],
+            journals: Vec::new(alloc),
         }
     }
 }
@@ -60,6 +62,7 @@ pub(crate) struct Left {
     pub listened: Vec<ListenSpec>,
     pub dialled: Vec<UplinkSpec>,
     pub cast_to: Vec<Addr>,
+    pub journals: Vec<Slot>,
 }
 
 impl Left {
@@ -102,7 +105,7 @@ pub(crate) fn run_over<R: Threads + Sync + Wait + RandomSource>(
     alloc: Global,
     conf: &[u8],
     events: Vec<Event>,
-    outside: Outside,
+    mut outside: Outside,
 ) -> Result<Left, Fail> {
     let mut words = Vec::new(alloc);
     for word in outside.words {
@@ -131,6 +134,7 @@ pub(crate) fn run_over<R: Threads + Sync + Wait + RandomSource>(
         &mut wire,
         &mut sink,
         &RandomState::new(rt)?,
+        &mut outside.journals,
     );
     Ok(Left {
         status,
@@ -139,6 +143,7 @@ pub(crate) fn run_over<R: Threads + Sync + Wait + RandomSource>(
         listened: wire.listened,
         dialled: wire.dialled,
         cast_to: wire.cast_to,
+        journals: outside.journals,
     })
 }
 

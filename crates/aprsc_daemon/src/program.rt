@@ -1,8 +1,13 @@
 //! The program: what its words name is read and served.
-ghost use Rattle.std.specs.Prelude.{◌≡◌, ◌⊎◌, ◌≤◌, ◌<◌, ℕ, List, Option, Ok, Some, IfOk, IfErr, OnErr, length, map, string_bytes};
+ghost use Rattle.std.specs.Prelude.{◌≡◌, ◌⊎◌, ◌≤◌, ◌<◌, ℕ, List, Option, Ok, Some, IfOk, IfErr, OnErr, length, map, string_bytes, true};
 ghost use Rattle.aprs_base.specs.Outside.{Rose, Told, WireShown};
 ghost use Rattle.aprs_base.specs.Stores.{FilesShown, Holds, SinkShown};
+ghost use Rattle.aprs_base.specs.Journals.{JournalLineSeen};
+ghost use Rattle.aprs_base.specs.Slots.{TakesDue, TakesLines};
+ghost use Rattle.aprs_base.specs.Stores.{bytes_named};
 ghost use Rattle.aprs_base.specs.declared.files.MemFile.{MemFile};
+ghost use Rattle.aprs_history.specs.Runs.{are_listens};
+ghost use Rattle.std.specs.List.{AllZip};
 ghost use Rattle.aprs_history.specs.Headline.{HasFreshLinks};
 ghost use Rattle.aprs_history.specs.Runs.{AppendsRun};
 ghost use Rattle.aprs_conf.specs.Seen.{ConfSeen};
@@ -10,14 +15,14 @@ ghost use Rattle.aprs_conf.specs.Sound.{IsSound};
 ghost use Rattle.aprs_conf.specs.Grammar.{conf_of};
 ghost use Rattle.server_core.specs.Meaning.{listeners, setting_of};
 ghost use Rattle.aprsc_daemon.specs.Causes.{Asks, Cause, Ended, HasCause, HasNamed, KeepsPromise, Opening, OpensOnly, Said, code_of_status, status_of};
-ghost use Rattle.aprsc_daemon.specs.Phases.{Ends, Listening};
+ghost use Rattle.aprsc_daemon.specs.Phases.{JournalTold, Listening, Served};
 ghost use Rattle.aprsc_daemon.specs.Words.{ServerWordsSeen, asked_of};
 
 use crate::configuring::{Unfit, listeners, read_conf};
 use crate::saying::{listen_failed, too_large, trouble, unread, usage, valid, write_all};
 use crate::serving::{End, ListenError, listen_all, serve};
 use crate::words::{ServerWords, Task, WordsError, read_words};
-use aprs_base::{FileError, Files, Memory, Sink, SinkError, Wire};
+use aprs_base::{FileError, Files, Memory, Sink, SinkError, Slot, Wire};
 use aprs_conf::Conf;
 use server_core::Core;
 use std::alloc::Global;
@@ -60,7 +65,7 @@ impl Status {
     }
 }
 
-/// Serves a wire whose listeners are open.
+/// Serves a wire whose listeners are open. The journals are told the lines of its rounds.
 fn serve_conf<R: Threads + Sync + Wait, W: Wire>(
     rt: &R,
     alloc: Global,
@@ -68,17 +73,19 @@ fn serve_conf<R: Threads + Sync + Wait, W: Wire>(
     workers: u32,
     wire: &mut W,
     hasher: &RandomState,
+    journals: &mut Vec<Slot>,
 ) -> End
     requires sound { IsSound conf }
     requires some { 1 ≤ workers }
     requires most { workers ≤ 64 }
-    ensures run { (start : Option Told) → AppendsRun (setting_of conf) start (W.shown wire.old).told (Listening (setting_of conf) (length (listeners conf)))
-        → AppendsRun (setting_of conf) start (W.shown wire.new).told (Ends (setting_of conf) result) }
+    ensures run { (told : List JournalLineSeen) × AllZip (TakesLines journal_shown told) journals.old.items journals.new.items
+        × ((start : Option Told) → AppendsRun (setting_of conf) start (W.shown wire.old).told (Listening (setting_of conf) (length (listeners conf)))
+        → AppendsRun (setting_of conf) start (W.shown wire.new).told (Served (setting_of conf) result told)) }
     ensures failed { result ≡ End.Failed → Rose (W.shown wire.old).stops (W.shown wire.new).stops }
     ensures stops { (W.shown wire.old).stops ≤ (W.shown wire.new).stops }
 {
     match Core::new(alloc, hasher, conf, workers) {
-        Ok(mut core) => serve(rt, alloc, &mut core, wire),
+        Ok(mut core) => serve(rt, alloc, &mut core, wire, journals),
         Err(Memory) => End::Memory,
     }
 }
@@ -91,22 +98,25 @@ fn open_and_serve<R: Threads + Sync + Wait, W: Wire>(
     workers: u32,
     wire: &mut W,
     hasher: &RandomState,
+    journals: &mut Vec<Slot>,
 ) -> Result<End, ListenError>
     requires sound { IsSound conf }
     requires some { 1 ≤ workers }
     requires most { workers ≤ 64 }
-    ensures run { IfOk result (λ end. AppendsRun (setting_of conf) (W.shown wire.old).told (W.shown wire.new).told (Ends (setting_of conf) end)) }
+    ensures run { IfOk result (λ end. (told : List JournalLineSeen) × AllZip (TakesLines journal_shown told) journals.old.items journals.new.items
+        × AppendsRun (setting_of conf) (W.shown wire.old).told (W.shown wire.new).told (Served (setting_of conf) end told)) }
     ensures failed { IfOk result (λ end. end ≡ End.Failed → Rose (W.shown wire.old).stops (W.shown wire.new).stops) }
     ensures listen { IfErr result (λ e. (n : ℕ) → e ≡ ListenError.Failed n → Rose (W.shown wire.old).stops (W.shown wire.new).stops
         × AppendsRun (setting_of conf) (W.shown wire.old).told (W.shown wire.new).told (OpensOnly n)) }
     ensures within { IfErr result (λ e. (n : ℕ) → e ≡ ListenError.Failed n → n < length (listeners conf)) }
-    ensures err { OnErr result (AppendsRun (setting_of conf) (W.shown wire.old).told (W.shown wire.new).told HasFreshLinks) }
+    ensures err { OnErr result (AppendsRun (setting_of conf) (W.shown wire.old).told (W.shown wire.new).told (λ more. HasFreshLinks more × (are_listens more ≡ true))) }
+    ensures still { OnErr result (journals.new ≡ journals.old) }
 {
     let Ok(listens) = listeners(alloc, &conf) else {
         return Err(ListenError::Memory);
     };
     listen_all(wire, listens.as_slice())?;
-    Ok(serve_conf(rt, alloc, conf, workers, wire, hasher))
+    Ok(serve_conf(rt, alloc, conf, workers, wire, hasher, journals))
 }
 
 fn ended(end: End) -> Status
@@ -149,11 +159,14 @@ fn run_conf<R: Threads + Sync + Wait, W: Wire, S: Sink>(
     wire: &mut W,
     out: &mut S,
     hasher: &RandomState,
+    journals: &mut Vec<Slot>,
 ) -> Status
     requires sound { IsSound conf }
     requires some { 1 ≤ workers }
     requires most { workers ≤ 64 }
-    ensures { (words : List (List ℕ)) (files files_after : FilesShown) → HasNamed Task.Serve words files.told conf
+    ensures journals { (told : List JournalLineSeen) × AllZip (TakesLines journal_shown told) journals.old.items journals.new.items
+        × AppendsRun (setting_of conf) (W.shown wire.old).told (W.shown wire.new).told (JournalTold (code_of_status result) (setting_of conf) told) }
+    ensures cause { (words : List (List ℕ)) (files files_after : FilesShown) → HasNamed Task.Serve words files.told conf
         → Cause result (record {
           words = words;
           files = files;
@@ -164,7 +177,7 @@ fn run_conf<R: Threads + Sync + Wait, W: Wire, S: Sink>(
           sink_after = S.shown out.new;
         }) }
 {
-    match open_and_serve(rt, alloc, conf, workers, wire, hasher) {
+    match open_and_serve(rt, alloc, conf, workers, wire, hasher, journals) {
         Ok(end) => ended(end),
         Err(ListenError::Failed(n)) => say_made(out, listen_failed(alloc, n), Status::NoListener),
         Err(ListenError::Memory) => Status::NoMemory,
@@ -180,11 +193,15 @@ fn run_text<R: Threads + Sync + Wait, W: Wire, S: Sink>(
     wire: &mut W,
     out: &mut S,
     hasher: &RandomState,
+    journals: &mut Vec<Slot>,
 ) -> Status
     requires short { length text.now ≤ 65536 }
     requires some { 1 ≤ asked.now.workers }
     requires most { asked.now.workers ≤ 64 }
-    ensures checks { asked.now.task ≡ Task.Check → wire.new ≡ wire.old }
+    ensures journals { (conf : ConfSeen) → asked.now.task ≡ Task.Serve → conf_of text.now ≡ Ok conf
+        → (told : List JournalLineSeen) × AllZip (TakesLines journal_shown told) journals.old.items journals.new.items
+        × AppendsRun (setting_of conf) (W.shown wire.old).told (W.shown wire.new).told (JournalTold (code_of_status result) (setting_of conf) told) }
+    ensures checks { asked.now.task ≡ Task.Check → (wire.new ≡ wire.old) × (journals.new ≡ journals.old) }
     ensures cause { (words : List (List ℕ)) (files files_after : FilesShown) → asked_of words ≡ Some asked.now → Holds files.told asked.now.file text.now
         → Cause result (record {
           words = words;
@@ -198,7 +215,7 @@ fn run_text<R: Threads + Sync + Wait, W: Wire, S: Sink>(
 {
     match read_conf(alloc, text) {
         Ok(conf) => match asked.task {
-            Task::Serve => run_conf(rt, alloc, conf, asked.workers, wire, out, hasher),
+            Task::Serve => run_conf(rt, alloc, conf, asked.workers, wire, out, hasher, journals),
             Task::Check => say_made(out, valid(alloc, asked.file), Status::Checked),
         },
         Err(Unfit::Trouble(why)) => say_made(out, trouble(alloc, asked.file, why), Status::BadFile),
@@ -215,10 +232,15 @@ fn run_file<R: Threads + Sync + Wait, F: Files, W: Wire, S: Sink>(
     wire: &mut W,
     out: &mut S,
     hasher: &RandomState,
+    journals: &mut Vec<Slot>,
 ) -> Status
     requires some { 1 ≤ asked.now.workers }
     requires most { asked.now.workers ≤ 64 }
-    ensures checks { asked.now.task ≡ Task.Check → wire.new ≡ wire.old }
+    ensures journals { (conf : ConfSeen) (told_files : List MemFile) (bytes : List ℕ) → (F.shown files.old).told ≡ Some told_files
+        → asked.now.task ≡ Task.Serve → bytes_named asked.now.file told_files ≡ Some bytes → conf_of bytes ≡ Ok conf
+        → (told : List JournalLineSeen) × AllZip (TakesLines journal_shown told) journals.old.items journals.new.items
+        × AppendsRun (setting_of conf) (W.shown wire.old).told (W.shown wire.new).told (JournalTold (code_of_status result) (setting_of conf) told) }
+    ensures checks { asked.now.task ≡ Task.Check → (wire.new ≡ wire.old) × (journals.new ≡ journals.old) }
     ensures cause { (words : List (List ℕ)) → asked_of words ≡ Some asked.now
         → Cause result (record {
           words = words;
@@ -232,7 +254,16 @@ fn run_file<R: Threads + Sync + Wait, F: Files, W: Wire, S: Sink>(
 {
     let mut text = Vec::new(alloc);
     match files.read(asked.file, MOST_READ, &mut text) {
-        Ok(()) => run_text(rt, alloc, asked, text.as_slice(), wire, out, hasher),
+        Ok(()) => run_text(
+            rt,
+            alloc,
+            asked,
+            text.as_slice(),
+            wire,
+            out,
+            hasher,
+            journals,
+        ),
         Err(FileError::Big) => say_made(out, too_large(alloc, asked.file), Status::BadFile),
         Err(FileError::Failed) => say_made(out, unread(alloc, asked.file), Status::UnreadFile),
         Err(FileError::Memory) => Status::NoMemory,
@@ -247,8 +278,15 @@ fn run<R: Threads + Sync + Wait, F: Files, W: Wire, S: Sink>(
     wire: &mut W,
     out: &mut S,
     hasher: &RandomState,
+    journals: &mut Vec<Slot>,
 ) -> Status
-    ensures checks { (asked : ServerWordsSeen) → asked_of (map string_bytes words.now) ≡ Some asked → asked.task ≡ Task.Check → wire.new ≡ wire.old }
+    ensures journals { (conf : ConfSeen) (told_files : List MemFile) → (F.shown files.old).told ≡ Some told_files
+        → HasNamed Task.Serve (map string_bytes words.now) (F.shown files.old).told conf
+        → (told : List JournalLineSeen) × AllZip (TakesLines journal_shown told) journals.old.items journals.new.items
+        × AppendsRun (setting_of conf) (W.shown wire.old).told (W.shown wire.new).told (JournalTold (code_of_status result) (setting_of conf) told) }
+    ensures checks { (asked : ServerWordsSeen) → asked_of (map string_bytes words.now) ≡ Some asked → asked.task ≡ Task.Check
+        → (wire.new ≡ wire.old) × (journals.new ≡ journals.old) }
+    ensures refused { asked_of (map string_bytes words.now) ≡ None → journals.new ≡ journals.old }
     ensures cause { Cause result (record {
       words = map string_bytes words.now;
       files = F.shown files.old;
@@ -260,7 +298,7 @@ fn run<R: Threads + Sync + Wait, F: Files, W: Wire, S: Sink>(
     }) }
 {
     match read_words(alloc, words) {
-        Ok(asked) => run_file(rt, alloc, &asked, files, wire, out, hasher),
+        Ok(asked) => run_file(rt, alloc, &asked, files, wire, out, hasher, journals),
         Err(WordsError::Refused) => say(out, usage(), Status::BadWords),
         Err(WordsError::Memory) => Status::NoMemory,
     }
@@ -283,6 +321,7 @@ pub fn aprsc<R: Threads + Sync + Wait, F: Files, W: Wire, S: Sink>(
     wire: &mut W,
     out: &mut S,
     hasher: &RandomState,
+    journals: &mut Vec<Slot>,
 ) -> u8
     // Where the words ask for a run and the files tell what they hold, the happenings that the call appended are a run for
     // the named configuration.
@@ -293,8 +332,16 @@ pub fn aprsc<R: Threads + Sync + Wait, F: Files, W: Wire, S: Sink>(
     ensures headline { (conf : ConfSeen) (told : List MemFile) → (F.shown files.old).told ≡ Some told
         → HasNamed Task.Serve (map string_bytes words.now) (F.shown files.old).told conf
         → AppendsRun (setting_of conf) (W.shown wire.old).told (W.shown wire.new).told (KeepsPromise (setting_of conf)) }
-    // Where the words ask for a check, the wire stays as it was.
-    ensures checks { (asked : ServerWordsSeen) → asked_of (map string_bytes words.now) ≡ Some asked → asked.task ≡ Task.Check → wire.new ≡ wire.old }
+    // The journals were told the lines of the history, each those of its kinds, as far as they didn't fail; after status 6
+    // the lines of the last finished round may be missing.
+    ensures journals { (conf : ConfSeen) (told_files : List MemFile) → (F.shown files.old).told ≡ Some told_files
+        → HasNamed Task.Serve (map string_bytes words.now) (F.shown files.old).told conf
+        → (told : List JournalLineSeen) × AllZip (TakesDue journal_shown told) journals.old.items journals.new.items
+        × AppendsRun (setting_of conf) (W.shown wire.old).told (W.shown wire.new).told (JournalTold result (setting_of conf) told) }
+    // Where the words ask for a check, the wire and the journals stay as they were.
+    ensures checks { (asked : ServerWordsSeen) → asked_of (map string_bytes words.now) ≡ Some asked → asked.task ≡ Task.Check
+        → (wire.new ≡ wire.old) × (journals.new ≡ journals.old) }
+    ensures refused { asked_of (map string_bytes words.now) ≡ None → journals.new ≡ journals.old }
     // Each status has its cause, and its text stands on the sink.
     ensures cause { HasCause result (record {
       words = map string_bytes words.now;
@@ -318,5 +365,5 @@ pub fn aprsc<R: Threads + Sync + Wait, F: Files, W: Wire, S: Sink>(
         → result ≡ 7
         → AppendsRun (setting_of conf) (W.shown wire.old).told (W.shown wire.new).told (Opening (setting_of conf)) }
 {
-    run(rt, alloc, words, files, wire, out, hasher).code()
+    run(rt, alloc, words, files, wire, out, hasher, journals).code()
 }

@@ -6,15 +6,21 @@ ghost use Rattle.aprs_history.specs.Dials.{CastSeen};
 ghost use Rattle.link_queue.specs.Lines.{ended_line};
 ghost use Rattle.aprs_history.specs.History.{History, ends_round, is_stopped};
 ghost use Rattle.aprs_history.specs.Headline.{HasFreshLinks};
-ghost use Rattle.aprs_history.specs.Rounds.{AreFresh, greatest_after, is_whole};
+ghost use Rattle.aprs_history.specs.Rounds.{AreFresh, greatest_after, is_whole, with_events};
 ghost use Rattle.aprs_history.specs.Runs.{AppendsRun};
 ghost use Rattle.aprs_history.specs.Trace.{is_member};
 ghost use Rattle.server_core.specs.LinkSteps.{AreServed, Rises, has_number, numbers};
 ghost use Rattle.server_core.specs.Meaning.{CoreMeaning, setting_of};
-ghost use Rattle.aprsc_daemon.specs.Phases.{Acting, Brings, Counted, Ends, Gathering, Idle, Listening, Offering, Resting, is_partial};
+ghost use Rattle.aprsc_daemon.specs.Phases.{Acting, AreOfRound, Brings, Broken, Counted, Gathering, Idling, Listening, Offering, Resting, Served, is_partial};
+ghost use Rattle.aprs_base.specs.Journals.{JournalLineSeen};
+ghost use Rattle.aprs_base.specs.Slots.{TakesLines};
+ghost use Rattle.aprs_history.specs.Runs.{are_listens};
+ghost use Rattle.std.specs.List.{AllZip};
+ghost use Rattle.server_core.specs.Meaning.{AreActs, Stands};
 ghost use Rattle.server_core.specs.Steps.{SameRest};
 
-use aprs_base::{Event, Line, ListenSpec, Memory, Sent, UplinkSpec, Wire, WireError};
+use crate::journals::tell_all;
+use aprs_base::{Event, Line, ListenSpec, Memory, Sent, Slot, UplinkSpec, Wire, WireError};
 use aprs_conf::{Conf, PeerSpec};
 use arrayvec::ArrayVec;
 use server_core::{Acts, CastOut, Core};
@@ -43,7 +49,7 @@ pub(crate) fn listen_all<W: Wire>(wire: &mut W, listens: &[ListenSpec]) -> Resul
         × ((s : Setting) → s.listens ≡ listens.now → AppendsRun s (W.shown wire.old).told (W.shown wire.new).told (Listening s n))) }
     ensures within { IfErr result (λ e. (n : ℕ) → e ≡ ListenError.Failed n → n < length listens.now) }
     ensures err { (s : Setting) → s.listens ≡ listens.now
-        → OnErr result (AppendsRun s (W.shown wire.old).told (W.shown wire.new).told HasFreshLinks) }
+        → OnErr result (AppendsRun s (W.shown wire.old).told (W.shown wire.new).told (λ more. HasFreshLinks more × (are_listens more ≡ true))) }
     ensures stops { (W.shown wire.old).stops ≤ (W.shown wire.new).stops }
 {
     let mut n = 0;
@@ -73,15 +79,15 @@ fn take_next<W: Wire>(wire: &mut W, events: &mut Vec<Event>) -> Result<bool, Wir
         → OnOk result (Brings events.new.items start (W.shown wire.new).told) }
     ensures counted { (first : ℕ) → Counted first events.old.items (W.shown wire.old).links
         → OnOk result (Counted first events.new.items (W.shown wire.new).links) }
-    ensures run { (s : Setting) (start : Option Told) (core : CoreMeaning) → setting_of core.conf ≡ s
-        → AppendsRun s start (W.shown wire.old).told (Gathering core events.old.items)
-        → OnOk result (AppendsRun s start (W.shown wire.new).told (Gathering core events.new.items)) }
+    ensures run { (s : Setting) (start : Option Told) (lines : List JournalLineSeen) (core : CoreMeaning) → setting_of core.conf ≡ s
+        → AppendsRun s start (W.shown wire.old).told (Gathering lines core events.old.items)
+        → OnOk result (AppendsRun s start (W.shown wire.new).told (Gathering lines core events.new.items)) }
     ensures failed { IsErrOf result WireError.Failed → Rose (W.shown wire.old).stops (W.shown wire.new).stops
         × (events.new.items ≡ events.old.items) × ((W.shown wire.new).told ≡ (W.shown wire.old).told) }
-    ensures err { (s : Setting) (start : Option Told) (core : CoreMeaning) (first : ℕ) → setting_of core.conf ≡ s
+    ensures err { (s : Setting) (start : Option Told) (lines : List JournalLineSeen) (core : CoreMeaning) (first : ℕ) → setting_of core.conf ≡ s
         → core.seen.greatest ≤ first → Counted first events.old.items (W.shown wire.old).links
-        → AppendsRun s start (W.shown wire.old).told (Gathering core events.old.items)
-        → OnErr result (AppendsRun s start (W.shown wire.new).told HasFreshLinks) }
+        → AppendsRun s start (W.shown wire.old).told (Gathering lines core events.old.items)
+        → OnErr result (AppendsRun s start (W.shown wire.new).told (Broken s lines)) }
     ensures stops { (W.shown wire.old).stops ≤ (W.shown wire.new).stops }
 {
     let event = wire.next()?;
@@ -96,18 +102,18 @@ fn gather<W: Wire>(wire: &mut W, events: &mut Vec<Event>) -> Result<(), WireErro
     ensures whole { OnOk result (is_whole 0 events.new.items ≡ true) }
     ensures brings { OnOk result (Brings events.new.items (W.shown wire.old).told (W.shown wire.new).told) }
     ensures counted { OnOk result (Counted (W.shown wire.old).links events.new.items (W.shown wire.new).links) }
-    ensures run { (s : Setting) (start : Option Told) (core : CoreMeaning) → setting_of core.conf ≡ s
-        → AppendsRun s start (W.shown wire.old).told (Gathering core [])
-        → OnOk result (AppendsRun s start (W.shown wire.new).told (Gathering core events.new.items)) }
+    ensures run { (s : Setting) (start : Option Told) (lines : List JournalLineSeen) (core : CoreMeaning) → setting_of core.conf ≡ s
+        → AppendsRun s start (W.shown wire.old).told (Gathering lines core [])
+        → OnOk result (AppendsRun s start (W.shown wire.new).told (Gathering lines core events.new.items)) }
     ensures failed { IsErrOf result WireError.Failed → Rose (W.shown wire.old).stops (W.shown wire.new).stops }
-    ensures idle { (s : Setting) (start : Option Told) (core : CoreMeaning) → setting_of core.conf ≡ s
+    ensures idle { (s : Setting) (start : Option Told) (lines : List JournalLineSeen) (core : CoreMeaning) → setting_of core.conf ≡ s
         → core.seen.greatest ≤ (W.shown wire.old).links
-        → AppendsRun s start (W.shown wire.old).told (Gathering core [])
-        → IsErrOf result WireError.Failed → AppendsRun s start (W.shown wire.new).told (Idle s) }
-    ensures err { (s : Setting) (start : Option Told) (core : CoreMeaning) → setting_of core.conf ≡ s
+        → AppendsRun s start (W.shown wire.old).told (Gathering lines core [])
+        → IsErrOf result WireError.Failed → AppendsRun s start (W.shown wire.new).told (Idling s lines) }
+    ensures err { (s : Setting) (start : Option Told) (lines : List JournalLineSeen) (core : CoreMeaning) → setting_of core.conf ≡ s
         → core.seen.greatest ≤ (W.shown wire.old).links
-        → AppendsRun s start (W.shown wire.old).told (Gathering core [])
-        → OnErr result (AppendsRun s start (W.shown wire.new).told HasFreshLinks) }
+        → AppendsRun s start (W.shown wire.old).told (Gathering lines core [])
+        → OnErr result (AppendsRun s start (W.shown wire.new).told (Broken s lines)) }
     ensures stops { (W.shown wire.old).stops ≤ (W.shown wire.new).stops }
 {
     let mut whole = false;
@@ -126,9 +132,9 @@ fn send_one<W: Wire>(
 ) -> Result<(), Memory>
     requires served { has_number link core.old.seen.links ≡ true }
     requires room { length buffer.old ≡ 65536 }
-    ensures run { (s : Setting) (start : Option Told) (offers closes : List ℕ) → setting_of core.old.conf ≡ s → is_member link offers ≡ false
-        → AppendsRun s start (W.shown wire.old).told (Offering core.old (link ∷ offers) closes)
-        → OnOk result (AppendsRun s start (W.shown wire.new).told (Offering core.new offers closes)) }
+    ensures run { (s : Setting) (start : Option Told) (lines : List JournalLineSeen) (offers closes : List ℕ) → setting_of core.old.conf ≡ s → is_member link offers ≡ false
+        → AppendsRun s start (W.shown wire.old).told (Offering lines core.old (link ∷ offers) closes)
+        → OnOk result (AppendsRun s start (W.shown wire.new).told (Offering lines core.new offers closes)) }
     ensures brings { OnOk result (Brings [] (W.shown wire.old).told (W.shown wire.new).told) }
     ensures err { OnErr result ((W.shown wire.new).told ≡ (W.shown wire.old).told) }
     ensures rest { SameRest core.old core.new }
@@ -154,12 +160,12 @@ fn send_all<W: Wire>(
     requires served { AreServed offers.now core.old.seen.links }
     requires rising { (high : ℕ) × Rises 0 offers.now high }
     requires room { length buffer.old ≡ 65536 }
-    ensures run { (s : Setting) (start : Option Told) (closes : List ℕ) → setting_of core.old.conf ≡ s
-        → AppendsRun s start (W.shown wire.old).told (Offering core.old offers.now closes)
-        → OnOk result (AppendsRun s start (W.shown wire.new).told (Offering core.new [] closes)) }
-    ensures err { (s : Setting) (start : Option Told) (closes : List ℕ) → setting_of core.old.conf ≡ s
-        → AppendsRun s start (W.shown wire.old).told (Offering core.old offers.now closes)
-        → OnErr result (AppendsRun s start (W.shown wire.new).told HasFreshLinks) }
+    ensures run { (s : Setting) (start : Option Told) (lines : List JournalLineSeen) (closes : List ℕ) → setting_of core.old.conf ≡ s
+        → AppendsRun s start (W.shown wire.old).told (Offering lines core.old offers.now closes)
+        → OnOk result (AppendsRun s start (W.shown wire.new).told (Offering lines core.new [] closes)) }
+    ensures err { (s : Setting) (start : Option Told) (lines : List JournalLineSeen) (closes : List ℕ) → setting_of core.old.conf ≡ s
+        → AppendsRun s start (W.shown wire.old).told (Offering lines core.old offers.now closes)
+        → OnErr result (AppendsRun s start (W.shown wire.new).told (Broken s lines)) }
     ensures brings { OnOk result (Brings [] (W.shown wire.old).told (W.shown wire.new).told) }
     ensures rest { SameRest core.old core.new }
     ensures stops { (W.shown wire.new).stops ≡ (W.shown wire.old).stops }
@@ -173,12 +179,12 @@ fn send_all<W: Wire>(
 
 /// Closes each of these links.
 fn close_all<W: Wire>(wire: &mut W, closes: &[u32]) -> Result<(), Memory>
-    ensures run { (s : Setting) (start : Option Told) (core : CoreMeaning) → setting_of core.conf ≡ s
-        → AppendsRun s start (W.shown wire.old).told (Offering core [] closes.now)
-        → OnOk result (AppendsRun s start (W.shown wire.new).told (Offering core [] [])) }
-    ensures err { (s : Setting) (start : Option Told) (core : CoreMeaning) → setting_of core.conf ≡ s
-        → AppendsRun s start (W.shown wire.old).told (Offering core [] closes.now)
-        → OnErr result (AppendsRun s start (W.shown wire.new).told HasFreshLinks) }
+    ensures run { (s : Setting) (start : Option Told) (lines : List JournalLineSeen) (core : CoreMeaning) → setting_of core.conf ≡ s
+        → AppendsRun s start (W.shown wire.old).told (Offering lines core [] closes.now)
+        → OnOk result (AppendsRun s start (W.shown wire.new).told (Offering lines core [] [])) }
+    ensures err { (s : Setting) (start : Option Told) (lines : List JournalLineSeen) (core : CoreMeaning) → setting_of core.conf ≡ s
+        → AppendsRun s start (W.shown wire.old).told (Offering lines core [] closes.now)
+        → OnErr result (AppendsRun s start (W.shown wire.new).told (Broken s lines)) }
     ensures brings { OnOk result (Brings [] (W.shown wire.old).told (W.shown wire.new).told) }
     ensures stops { (W.shown wire.new).stops ≡ (W.shown wire.old).stops }
     ensures links { (W.shown wire.new).links ≡ (W.shown wire.old).links }
@@ -191,10 +197,10 @@ fn close_all<W: Wire>(wire: &mut W, closes: &[u32]) -> Result<(), Memory>
 
 /// Begins the dial that is due.
 fn dial_due<W: Wire>(wire: &mut W, uplinks: &[UplinkSpec], dial: Option<u16>) -> Result<(), Memory>
-    ensures run { (s : Setting) (start : Option Told) (core : CoreMeaning) (casts : List CastSeen) (offers closes : List ℕ)
+    ensures run { (s : Setting) (start : Option Told) (lines : List JournalLineSeen) (core : CoreMeaning) (casts : List CastSeen) (offers closes : List ℕ)
         → setting_of core.conf ≡ s → core.conf.uplinks ≡ uplinks.now
-        → AppendsRun s start (W.shown wire.old).told (Acting core dial casts offers closes)
-        → OnOk result (AppendsRun s start (W.shown wire.new).told (Acting core None casts offers closes)) }
+        → AppendsRun s start (W.shown wire.old).told (Acting lines core dial casts offers closes)
+        → OnOk result (AppendsRun s start (W.shown wire.new).told (Acting lines core None casts offers closes)) }
     ensures err { OnErr result ((W.shown wire.new).told ≡ (W.shown wire.old).told) }
     ensures brings { OnOk result (Brings [] (W.shown wire.old).told (W.shown wire.new).told) }
     ensures stops { (W.shown wire.new).stops ≡ (W.shown wire.old).stops }
@@ -222,10 +228,10 @@ fn datagram_of(line: &Line) -> ArrayVec<u8, 512>
 
 /// Casts a line to its peer.
 fn cast_one<W: Wire>(wire: &mut W, peers: &[PeerSpec], cast: &CastOut) -> Result<(), Memory>
-    ensures run { (s : Setting) (start : Option Told) (core : CoreMeaning) (casts : List CastSeen) (offers closes : List ℕ)
+    ensures run { (s : Setting) (start : Option Told) (lines : List JournalLineSeen) (core : CoreMeaning) (casts : List CastSeen) (offers closes : List ℕ)
         → setting_of core.conf ≡ s → core.conf.peers ≡ peers.now
-        → AppendsRun s start (W.shown wire.old).told (Acting core None (cast.now ∷ casts) offers closes)
-        → OnOk result (AppendsRun s start (W.shown wire.new).told (Acting core None casts offers closes)) }
+        → AppendsRun s start (W.shown wire.old).told (Acting lines core None (cast.now ∷ casts) offers closes)
+        → OnOk result (AppendsRun s start (W.shown wire.new).told (Acting lines core None casts offers closes)) }
     ensures err { OnErr result ((W.shown wire.new).told ≡ (W.shown wire.old).told) }
     ensures brings { OnOk result (Brings [] (W.shown wire.old).told (W.shown wire.new).told) }
     ensures stops { (W.shown wire.new).stops ≡ (W.shown wire.old).stops }
@@ -239,14 +245,14 @@ fn cast_one<W: Wire>(wire: &mut W, peers: &[PeerSpec], cast: &CastOut) -> Result
 
 /// Makes each cast, in order.
 fn cast_all<W: Wire>(wire: &mut W, peers: &[PeerSpec], casts: &[CastOut]) -> Result<(), Memory>
-    ensures run { (s : Setting) (start : Option Told) (core : CoreMeaning) (offers closes : List ℕ)
+    ensures run { (s : Setting) (start : Option Told) (lines : List JournalLineSeen) (core : CoreMeaning) (offers closes : List ℕ)
         → setting_of core.conf ≡ s → core.conf.peers ≡ peers.now
-        → AppendsRun s start (W.shown wire.old).told (Acting core None casts.now offers closes)
-        → OnOk result (AppendsRun s start (W.shown wire.new).told (Offering core offers closes)) }
-    ensures err { (s : Setting) (start : Option Told) (core : CoreMeaning) (offers closes : List ℕ)
+        → AppendsRun s start (W.shown wire.old).told (Acting lines core None casts.now offers closes)
+        → OnOk result (AppendsRun s start (W.shown wire.new).told (Offering lines core offers closes)) }
+    ensures err { (s : Setting) (start : Option Told) (lines : List JournalLineSeen) (core : CoreMeaning) (offers closes : List ℕ)
         → setting_of core.conf ≡ s → core.conf.peers ≡ peers.now
-        → AppendsRun s start (W.shown wire.old).told (Acting core None casts.now offers closes)
-        → OnErr result (AppendsRun s start (W.shown wire.new).told HasFreshLinks) }
+        → AppendsRun s start (W.shown wire.old).told (Acting lines core None casts.now offers closes)
+        → OnErr result (AppendsRun s start (W.shown wire.new).told (Broken s lines)) }
     ensures brings { OnOk result (Brings [] (W.shown wire.old).told (W.shown wire.new).told) }
     ensures stops { (W.shown wire.new).stops ≡ (W.shown wire.old).stops }
     ensures links { (W.shown wire.new).links ≡ (W.shown wire.old).links }
@@ -259,12 +265,12 @@ fn cast_all<W: Wire>(wire: &mut W, peers: &[PeerSpec], casts: &[CastOut]) -> Res
 
 /// Does what is due for other servers: the dial, and then the casts.
 fn reach_out<W: Wire>(wire: &mut W, conf: &Conf, acts: &Acts) -> Result<(), Memory>
-    ensures run { (s : Setting) (start : Option Told) (core : CoreMeaning) → setting_of core.conf ≡ s → core.conf ≡ conf.now
-        → AppendsRun s start (W.shown wire.old).told (Acting core acts.now.dial acts.now.casts acts.now.offers acts.now.closes)
-        → OnOk result (AppendsRun s start (W.shown wire.new).told (Offering core acts.now.offers acts.now.closes)) }
-    ensures err { (s : Setting) (start : Option Told) (core : CoreMeaning) → setting_of core.conf ≡ s → core.conf ≡ conf.now
-        → AppendsRun s start (W.shown wire.old).told (Acting core acts.now.dial acts.now.casts acts.now.offers acts.now.closes)
-        → OnErr result (AppendsRun s start (W.shown wire.new).told HasFreshLinks) }
+    ensures run { (s : Setting) (start : Option Told) (lines : List JournalLineSeen) (core : CoreMeaning) → setting_of core.conf ≡ s → core.conf ≡ conf.now
+        → AppendsRun s start (W.shown wire.old).told (Acting lines core acts.now.dial acts.now.casts acts.now.offers acts.now.closes)
+        → OnOk result (AppendsRun s start (W.shown wire.new).told (Offering lines core acts.now.offers acts.now.closes)) }
+    ensures err { (s : Setting) (start : Option Told) (lines : List JournalLineSeen) (core : CoreMeaning) → setting_of core.conf ≡ s → core.conf ≡ conf.now
+        → AppendsRun s start (W.shown wire.old).told (Acting lines core acts.now.dial acts.now.casts acts.now.offers acts.now.closes)
+        → OnErr result (AppendsRun s start (W.shown wire.new).told (Broken s lines)) }
     ensures brings { OnOk result (Brings [] (W.shown wire.old).told (W.shown wire.new).told) }
     ensures stops { (W.shown wire.new).stops ≡ (W.shown wire.old).stops }
     ensures links { (W.shown wire.new).links ≡ (W.shown wire.old).links }
@@ -273,25 +279,54 @@ fn reach_out<W: Wire>(wire: &mut W, conf: &Conf, acts: &Acts) -> Result<(), Memo
     cast_all(wire, conf.peers.as_slice(), acts.casts.as_slice())
 }
 
-/// Does what is due after a round, and says whether the server stopped with it.
+/// The core takes one whole round of events, and the journals are told its lines.
+fn tell_round<R: Threads + Sync>(
+    rt: &R,
+    alloc: Global,
+    core: &mut Core,
+    events: &[Event],
+    journals: &mut Vec<Slot>,
+) -> Result<Acts, Memory>
+    requires whole { is_whole 0 events.now ≡ true }
+    requires fresh { AreFresh core.old.seen.greatest events.now }
+    requires going { core.old.seen.stopped ≡ false }
+    ensures told { (told : List JournalLineSeen) × AllZip (TakesLines journal_shown told) journals.old.items journals.new.items
+        × OnOk result (AreOfRound core.old events.now told) × OnErr result (told ≡ []) }
+    ensures conf { OnOk result (core.new.conf ≡ core.old.conf) }
+    ensures greatest { OnOk result (core.new.seen.greatest ≡ greatest_after events.now core.old.seen.greatest) }
+    ensures done { IfOk result (λ acts. acts.done ≡ core.new.seen.stopped) }
+    ensures rising { IfOk result (λ acts. Rises 0 acts.offers core.new.seen.greatest) }
+    ensures served { IfOk result (λ acts. AreServed acts.offers core.new.seen.links) }
+    ensures stands { (h : History) → Stands core.old h → OnOk result (Stands core.new (with_events events.now h)) }
+    ensures due { (h : History) → Stands core.old h
+        → IfOk result (λ acts. AreActs (setting_of core.new.conf) (with_events events.now h) acts) }
+{
+    let mut lines = Vec::new(alloc);
+    let acts = core.round_lines(rt, alloc, events, &mut lines)?;
+    tell_all(journals, lines.as_slice());
+    Ok(acts)
+}
+
+/// Does what is due after a round, and says whether the server stopped with it. The journals are told the round's lines
+/// before anything else is done.
 fn act<R: Threads + Sync, W: Wire>(
     rt: &R,
     alloc: Global,
     core: &mut Core,
     wire: &mut W,
     events: &[Event],
+    journals: &mut Vec<Slot>,
     buffer: &mut [u8],
 ) -> Result<bool, Memory>
     requires whole { is_whole 0 events.now ≡ true }
     requires fresh { AreFresh core.old.seen.greatest events.now }
     requires going { core.old.seen.stopped ≡ false }
     requires room { length buffer.old ≡ 65536 }
-    ensures run { (s : Setting) (start : Option Told) → setting_of core.old.conf ≡ s
-        → AppendsRun s start (W.shown wire.old).told (Gathering core.old events.now)
-        → OnOk result (AppendsRun s start (W.shown wire.new).told (Resting core.new)) }
-    ensures err { (s : Setting) (start : Option Told) → setting_of core.old.conf ≡ s
-        → AppendsRun s start (W.shown wire.old).told (Gathering core.old events.now)
-        → OnErr result (AppendsRun s start (W.shown wire.new).told HasFreshLinks) }
+    ensures run { (told : List JournalLineSeen) × AllZip (TakesLines journal_shown told) journals.old.items journals.new.items
+        × ((s : Setting) (start : Option Told) (lines : List JournalLineSeen) → setting_of core.old.conf ≡ s
+        → AppendsRun s start (W.shown wire.old).told (Gathering lines core.old events.now)
+        → OnOk result (AppendsRun s start (W.shown wire.new).told (Resting (lines ++ told) core.new))
+        × OnErr result (AppendsRun s start (W.shown wire.new).told (Broken s (lines ++ told)))) }
     ensures brings { OnOk result (Brings [] (W.shown wire.old).told (W.shown wire.new).told) }
     ensures conf { OnOk result (core.new.conf ≡ core.old.conf) }
     ensures greatest { OnOk result (core.new.seen.greatest ≡ greatest_after events.now core.old.seen.greatest) }
@@ -299,7 +334,7 @@ fn act<R: Threads + Sync, W: Wire>(
     ensures stops { (W.shown wire.new).stops ≡ (W.shown wire.old).stops }
     ensures links { (W.shown wire.new).links ≡ (W.shown wire.old).links }
 {
-    let acts = core.round(rt, alloc, events)?;
+    let acts = tell_round(rt, alloc, core, events, journals)?;
     reach_out(wire, core.conf(), &acts)?;
     send_all(core, wire, acts.offers.as_slice(), buffer)?;
     close_all(wire, acts.closes.as_slice())?;
@@ -307,27 +342,25 @@ fn act<R: Threads + Sync, W: Wire>(
 }
 
 /// Serves one round, and says whether the server stopped with it. The events are those of a whole round; where the wire
-/// tells what happened, it brought them and no other in this call.
+/// tells what happened, it brought them and no other in this call. The journals are told the round's lines, or none.
 fn serve_round<R: Threads + Sync, W: Wire>(
     rt: &R,
     alloc: Global,
     core: &mut Core,
     wire: &mut W,
     events: &mut Vec<Event>,
+    journals: &mut Vec<Slot>,
     buffer: &mut [u8],
 ) -> Result<bool, WireError>
     requires going { core.old.seen.stopped ≡ false }
     requires numbered { core.old.seen.greatest ≤ (W.shown wire.old).links }
     requires room { length buffer.old ≡ 65536 }
-    ensures run { (s : Setting) (start : Option Told) → setting_of core.old.conf ≡ s
-        → AppendsRun s start (W.shown wire.old).told (Resting core.old)
-        → OnOk result (AppendsRun s start (W.shown wire.new).told (Resting core.new)) }
-    ensures idle { (s : Setting) (start : Option Told) → setting_of core.old.conf ≡ s
-        → AppendsRun s start (W.shown wire.old).told (Resting core.old)
-        → IsErrOf result WireError.Failed → AppendsRun s start (W.shown wire.new).told (Idle s) }
-    ensures err { (s : Setting) (start : Option Told) → setting_of core.old.conf ≡ s
-        → AppendsRun s start (W.shown wire.old).told (Resting core.old)
-        → OnErr result (AppendsRun s start (W.shown wire.new).told HasFreshLinks) }
+    ensures run { (told : List JournalLineSeen) × AllZip (TakesLines journal_shown told) journals.old.items journals.new.items
+        × ((s : Setting) (start : Option Told) (lines : List JournalLineSeen) → setting_of core.old.conf ≡ s
+        → AppendsRun s start (W.shown wire.old).told (Resting lines core.old)
+        → OnOk result (AppendsRun s start (W.shown wire.new).told (Resting (lines ++ told) core.new))
+        × OnErr result (AppendsRun s start (W.shown wire.new).told (Broken s (lines ++ told)))
+        × (IsErrOf result WireError.Failed → AppendsRun s start (W.shown wire.new).told (Idling s (lines ++ told)))) }
     ensures whole { OnOk result (is_whole 0 events.new.items ≡ true) }
     ensures brings { OnOk result (Brings events.new.items (W.shown wire.old).told (W.shown wire.new).told) }
     ensures failed { IsErrOf result WireError.Failed → Rose (W.shown wire.old).stops (W.shown wire.new).stops }
@@ -338,7 +371,7 @@ fn serve_round<R: Threads + Sync, W: Wire>(
 {
     events.clear();
     gather(wire, events)?;
-    match act(rt, alloc, core, wire, events.as_slice(), buffer) {
+    match act(rt, alloc, core, wire, events.as_slice(), journals, buffer) {
         Ok(done) => Ok(done),
         Err(Memory) => Err(WireError::Memory),
     }
@@ -354,25 +387,27 @@ pub(crate) enum End {
     Memory,
 }
 
-/// Serves a wire, round after round, until a stop or a fault.
+/// Serves a wire, round after round, until a stop or a fault. The journals are told the lines of the rounds.
 pub(crate) fn serve<R: Threads + Sync + Wait, W: Wire>(
     rt: &R,
     alloc: Global,
     core: &mut Core,
     wire: &mut W,
+    journals: &mut Vec<Slot>,
 ) -> End
     requires going { core.old.seen.stopped ≡ false }
     requires numbered { core.old.seen.greatest ≤ (W.shown wire.old).links }
-    ensures run { (s : Setting) (start : Option Told) → setting_of core.old.conf ≡ s
-        → AppendsRun s start (W.shown wire.old).told (Resting core.old)
-        → AppendsRun s start (W.shown wire.new).told (Ends s result) }
+    ensures run { (told : List JournalLineSeen) × AllZip (TakesLines journal_shown told) journals.old.items journals.new.items
+        × ((s : Setting) (start : Option Told) (lines : List JournalLineSeen) → setting_of core.old.conf ≡ s
+        → AppendsRun s start (W.shown wire.old).told (Resting lines core.old)
+        → AppendsRun s start (W.shown wire.new).told (Served s result (lines ++ told))) }
     ensures failed { result ≡ End.Failed → Rose (W.shown wire.old).stops (W.shown wire.new).stops }
     ensures stops { (W.shown wire.old).stops ≤ (W.shown wire.new).stops }
 {
     let mut events = Vec::new(alloc);
     let mut buffer = [0u8; MOST_OFFERED];
     for _ in rt.forever() {
-        match serve_round(rt, alloc, core, wire, &mut events, &mut buffer) {
+        match serve_round(rt, alloc, core, wire, &mut events, journals, &mut buffer) {
             Ok(false) => {}
             Ok(true) => return End::Stopped,
             Err(WireError::Failed) => return End::Failed,

@@ -56,6 +56,7 @@ where
         &mut wire,
         &mut sink,
         &hasher,
+        &mut Vec::new(alloc),
     ))
 }
 

@@ -1,6 +1,8 @@
 use Rattle.std.proofs.Common.{◌≡◌, ◌⊎◌, sym, ◌∙◌, subst}
 use Rattle.aprs_history.specs.Runs.{AppendsRun}
+use Rattle.aprs_base.proofs.SlotLemmas.{each_takes_due}
 use Rattle.server_core.specs.Meaning.{setting_of}
+use Rattle.aprsc_daemon.specs.Phases.{JournalTold}
 use Rattle.aprsc_daemon.specs.Causes.{Ended}
 use Rattle.aprsc_daemon.proofs.CauseLemmas.{complete, early, headline, keeps_promise}
 use Rattle.aprsc_daemon.proofs.program.aprsc.Goals as goal
@@ -24,3 +26,11 @@ returns-clause-complete g c = λ code asks sound going taken.
 pub returns-clause-early : goal.returns-clause-early
 returns-clause-early g c = λ conf told tells read sound lost.
     early _ told conf c.run.result tells read sound (sym c.code.ensures ∙ lost) c.run.ensures.cause
+
+pub returns-clause-journals : goal.returns-clause-journals
+returns-clause-journals g c = λ conf told_files tells read.
+    let told = c.run.ensures.journals conf told_files tells read in (
+      told.0,
+      each_takes_due (λ z. (goal.Journal-dyn g z).journal_shown z.1) told.0 c.args.journals.now.items c.run.new.journals.items told.1,
+      subst (λ n. AppendsRun (setting_of conf) (g.W.Wire.shown c.args.wire.now).told (g.W.Wire.shown c.run.new.wire).told (JournalTold n (setting_of conf) told.0)) (sym c.code.ensures) told.2,
+    )

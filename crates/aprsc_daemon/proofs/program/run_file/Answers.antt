@@ -1,6 +1,13 @@
-use Rattle.std.proofs.Common.{◌∙◌, Err, Some, ap, inl, refl, sym}
+use Rattle.std.proofs.Common.{◌≡◌, ◌∙◌, ◌++◌, [], Err, Some, ap, inl, refl, subst, sym}
+use Rattle.aprs_base.specs.Stores.{Holds, bytes_named}
+use Rattle.aprs_conf.specs.Grammar.{conf_of}
+use Rattle.aprs_base.proofs.SlotLemmas.{each_takes-none}
+use Rattle.server_core.specs.Meaning.{setting_of}
+use Rattle.aprsc_daemon.specs.Causes.{code_of_status}
+use Rattle.aprsc_daemon.specs.declared.program.Status.TheVariants as status
+use Rattle.aprsc_daemon.proofs.JournalLemmas.{untouched}
 use Rattle.aprsc_daemon.specs.Saying.{too_large_text, unread_text}
-use Rattle.aprsc_daemon.proofs.CauseLemmas.{memory_cause, off_cause, unread_cause}
+use Rattle.aprsc_daemon.proofs.CauseLemmas.{memory_cause, off_cause, some_same, unread_cause}
 use Rattle.aprsc_daemon.proofs.program.run_file.Goals as goal
 
 pub returns-in-Err-Big-clause-cause : goal.returns-in-Err-Big-clause-cause
@@ -17,3 +24,20 @@ returns-in-Err-Failed-clause-cause g c = λ words named.
 
 pub returns-clause-cause : goal.returns-clause-cause
 returns-clause-cause g c = λ words named. memory_cause _ refl (inl refl)
+
+pub returns-in-Ok-clause-journals : goal.returns-in-Ok-clause-journals
+returns-in-Ok-clause-journals g c = λ conf told_files bytes tells serve named reads.
+    let found = c.in-Ok.ensures.ok in
+    let holds : bytes_named c.asked.inside.file.now told_files ≡ Some found.0 = subst (λ told. Holds told c.asked.inside.file.now found.0) tells found.1 in
+    let same : bytes ≡ found.0 = some_same (bytes_named c.asked.inside.file.now told_files) bytes found.0 (subst (λ asked. bytes_named asked.file told_files ≡ Some bytes) (sym c.asked.view_is) named) holds in
+    let text : c.as_slice.result.now ≡ bytes = c.as_slice.ensures.value ∙ found.3 ∙ ap (λ front. front ++ found.0) c.new-text.ensures.items ∙ sym same in
+    c.run_text.ensures.journals conf serve (ap conf_of text ∙ reads)
+
+pub returns-in-Err-Big-clause-journals : goal.returns-in-Err-Big-clause-journals
+returns-in-Err-Big-clause-journals g c = λ conf told_files bytes tells serve named reads. ([], each_takes-none (λ z. (goal.Journal-dyn g z).journal_shown z.1) c.args.journals.now.items, untouched (setting_of conf) (g.W.Wire.shown c.args.wire.now).told (code_of_status _))
+
+pub returns-in-Err-Failed-clause-journals : goal.returns-in-Err-Failed-clause-journals
+returns-in-Err-Failed-clause-journals g c = λ conf told_files bytes tells serve named reads. ([], each_takes-none (λ z. (goal.Journal-dyn g z).journal_shown z.1) c.args.journals.now.items, untouched (setting_of conf) (g.W.Wire.shown c.args.wire.now).told (code_of_status _))
+
+pub returns-clause-journals : goal.returns-clause-journals
+returns-clause-journals g c = λ conf told_files bytes tells serve named reads. ([], each_takes-none (λ z. (goal.Journal-dyn g z).journal_shown z.1) c.args.journals.now.items, untouched (setting_of conf) (g.W.Wire.shown c.args.wire.now).told (code_of_status status.NoMemory))

@@ -1,4 +1,5 @@
 use Rattle.std.proofs.Common.{◌≡◌, ℕ, List, None, [], drop, Option}
+use Rattle.aprs_base.specs.Journals.{JournalLineSeen}
 use Rattle.aprs_base.specs.Outside.{Told}
 use Rattle.aprs_history.specs.Setting.{Setting}
 use Rattle.aprs_history.specs.Runs.{AppendsRun}
@@ -11,6 +12,6 @@ invariant-loop-cast g l =
     ((g.W.Wire.shown l.wire).stops ≡ (g.W.Wire.shown l.initial.wire).stops)
     × ((g.W.Wire.shown l.wire).links ≡ (g.W.Wire.shown l.initial.wire).links)
     × Brings [] (g.W.Wire.shown l.initial.wire).told (g.W.Wire.shown l.wire).told
-    × ((s : Setting) (start : Option Told) (core : CoreMeaning) (offers closes : List ℕ) → setting_of core.conf ≡ s → core.conf.peers ≡ l.peers
-    → AppendsRun s start (g.W.Wire.shown l.initial.wire).told (Acting core None l.casts offers closes)
-    → AppendsRun s start (g.W.Wire.shown l.wire).told (Acting core None (drop l.cast-index l.casts) offers closes))
+    × ((s : Setting) (start : Option Told) (lines : List JournalLineSeen) (core : CoreMeaning) (offers closes : List ℕ) → setting_of core.conf ≡ s → core.conf.peers ≡ l.peers
+    → AppendsRun s start (g.W.Wire.shown l.initial.wire).told (Acting lines core None l.casts offers closes)
+    → AppendsRun s start (g.W.Wire.shown l.wire).told (Acting lines core None (drop l.cast-index l.casts) offers closes))

@@ -1,4 +1,5 @@
-use Rattle.std.proofs.Common.{◌≡◌, [], drop, Option}
+use Rattle.std.proofs.Common.{List, ◌≡◌, [], drop, Option}
+use Rattle.aprs_base.specs.Journals.{JournalLineSeen}
 use Rattle.aprs_base.specs.Outside.{Told}
 use Rattle.aprs_history.specs.Setting.{Setting}
 use Rattle.aprs_history.specs.Runs.{AppendsRun}
@@ -11,6 +12,6 @@ invariant-loop-link g l =
     ((g.W.Wire.shown l.wire).stops ≡ (g.W.Wire.shown l.initial.wire).stops)
     × ((g.W.Wire.shown l.wire).links ≡ (g.W.Wire.shown l.initial.wire).links)
     × Brings [] (g.W.Wire.shown l.initial.wire).told (g.W.Wire.shown l.wire).told
-    × ((s : Setting) (start : Option Told) (core : CoreMeaning) → setting_of core.conf ≡ s
-    → AppendsRun s start (g.W.Wire.shown l.initial.wire).told (Offering core [] l.closes)
-    → AppendsRun s start (g.W.Wire.shown l.wire).told (Offering core [] (drop l.link-index l.closes)))
+    × ((s : Setting) (start : Option Told) (lines : List JournalLineSeen) (core : CoreMeaning) → setting_of core.conf ≡ s
+    → AppendsRun s start (g.W.Wire.shown l.initial.wire).told (Offering lines core [] l.closes)
+    → AppendsRun s start (g.W.Wire.shown l.wire).told (Offering lines core [] (drop l.link-index l.closes)))

@@ -1,5 +1,6 @@
-use Rattle.std.proofs.Common.{◌≡◌, ◌≤◌, ◌-◌, [], true, Option, length, if◌then◌else◌}
+use Rattle.std.proofs.Common.{List, ◌≡◌, ◌≤◌, ◌-◌, [], true, Option, length, if◌then◌else◌}
 use Rattle.std.specs.Bool.{MatchBool}
+use Rattle.aprs_base.specs.Journals.{JournalLineSeen}
 use Rattle.aprs_base.specs.Outside.{Told}
 use Rattle.aprs_history.specs.Setting.{Setting}
 use Rattle.aprs_history.specs.Rounds.{is_whole}
@@ -14,8 +15,8 @@ invariant-loop-whole g l =
     × Counted (g.W.Wire.shown l.initial.wire).links l.events.items (g.W.Wire.shown l.wire).links
     × Brings l.events.items (g.W.Wire.shown l.initial.wire).told (g.W.Wire.shown l.wire).told
     × ((g.W.Wire.shown l.initial.wire).stops ≤ (g.W.Wire.shown l.wire).stops)
-    × ((s : Setting) (start : Option Told) (core : CoreMeaning) → setting_of core.conf ≡ s → AppendsRun s start (g.W.Wire.shown l.initial.wire).told (Gathering core [])
-    → AppendsRun s start (g.W.Wire.shown l.wire).told (Gathering core l.events.items))
+    × ((s : Setting) (start : Option Told) (lines : List JournalLineSeen) (core : CoreMeaning) → setting_of core.conf ≡ s → AppendsRun s start (g.W.Wire.shown l.initial.wire).told (Gathering lines core [])
+    → AppendsRun s start (g.W.Wire.shown l.wire).told (Gathering lines core l.events.items))
 
 abbrev pub decreases-loop-whole : goal.decreases-loop-whole
 decreases-loop-whole g l = if l.whole then 0 else 513 - length l.events.items

@@ -1,5 +1,6 @@
-use Rattle.std.proofs.Common.{◌≡◌, refl, arith, le_refl, ◌<◌, length}
+use Rattle.std.proofs.Common.{◌≡◌, true, refl, arith, le_refl, ◌<◌, length}
 use Rattle.aprs_history.specs.Headline.{HasFreshLinks}
+use Rattle.aprs_history.specs.Runs.{are_listens}
 use Rattle.aprsc_daemon.specs.Phases.{Listening}
 use Rattle.aprsc_daemon.proofs.RunLemmas.{run_begins, listened, listed_at, run_weaker, run_told, listens_begin}
 use Rattle.aprsc_daemon.proofs.serving.listen_all.Goals as goal
@@ -9,12 +10,12 @@ loop-spec-init g c = (refl, le_refl _, λ s is. run_begins s (g.W.Wire.shown c.a
 
 pub returns-in-Err-Failed-clause-err : goal.returns-in-Err-Failed-clause-err
 returns-in-Err-Failed-clause-err g c = λ s is.
-    run_weaker s _ _ (Listening s c.loop-spec.n) HasFreshLinks (λ more phase. phase.fresh)
+    run_weaker s _ _ (Listening s c.loop-spec.n) (λ more. HasFreshLinks more × (are_listens more ≡ true)) (λ more phase. (phase.fresh, phase.only))
     (run_told s _ (g.W.Wire.shown c.loop-spec.wire).told (g.W.Wire.shown c.listen.new.self).told (Listening s c.loop-spec.n) c.in-Err-Failed.ensures.err (c.loop-spec.invariant.2 s is))
 
 pub returns-in-Err-Memory-clause-err : goal.returns-in-Err-Memory-clause-err
 returns-in-Err-Memory-clause-err g c = λ s is.
-    run_weaker s _ _ (Listening s c.loop-spec.n) HasFreshLinks (λ more phase. phase.fresh)
+    run_weaker s _ _ (Listening s c.loop-spec.n) (λ more. HasFreshLinks more × (are_listens more ≡ true)) (λ more phase. (phase.fresh, phase.only))
     (run_told s _ (g.W.Wire.shown c.loop-spec.wire).told (g.W.Wire.shown c.listen.new.self).told (Listening s c.loop-spec.n) c.in-Err-Memory.ensures.err (c.loop-spec.invariant.2 s is))
 
 pub loop-spec-preserved : goal.loop-spec-preserved

@@ -1,4 +1,4 @@
-use Rattle.std.proofs.Common.{◌+◌, [], drop, sym, ap, ◌∙◌, subst, get_or}
+use Rattle.std.proofs.Common.{◌+◌, [], None, drop, sym, ap, ◌∙◌, subst, get_or}
 use Rattle.aprs_history.specs.Trace.{is_member}
 use Rattle.aprs_history.specs.Runs.{AppendsRun}
 use Rattle.server_core.specs.Meaning.{setting_of}
@@ -8,6 +8,9 @@ use Rattle.aprsc_daemon.specs.Phases.{Offering}
 use Rattle.aprsc_daemon.proofs.BringLemmas.{brings_on}
 use Rattle.aprsc_daemon.proofs.ActLemmas.{first_differs, member_at}
 use Rattle.aprsc_daemon.proofs.RunLemmas.{same_at}
+use Rattle.aprsc_daemon.specs.Phases.{Broken}
+use Rattle.aprsc_daemon.proofs.EventLemmas.{err_any}
+use Rattle.aprsc_daemon.proofs.JournalLemmas.{acts_broken}
 use Rattle.aprsc_daemon.proofs.serving.send_all.Goals as goal
 
 pub send_one-requires-clause-served : goal.send_one-requires-clause-served
@@ -33,7 +36,13 @@ loop-link-preserved g c =
       c.send_one.ensures.links ∙ c.loop-link.invariant.3,
       brings_on [] (g.W.Wire.shown c.args.wire.now).told (g.W.Wire.shown c.loop-link.wire).told (g.W.Wire.shown c.send_one.new.wire).told c.loop-link.invariant.4 c.in_ok-send_one.ensures.brings,
       c.send_one.auto.buffer ∙ c.loop-link.invariant.5,
-      λ s start closes same run.
-          c.in_ok-send_one.ensures.run s start (drop (i + 1) offers) closes (ap setting_of was.conf ∙ same) (first_differs 0 c.requires.rising.0 offers i (get_or offers i 0) (drop (i + 1) offers) c.requires.rising.1 left)
-          (subst (λ links. AppendsRun s start (g.W.Wire.shown c.loop-link.wire).told (Offering c.loop-link.core links closes)) left (c.loop-link.invariant.6 s start closes same run)),
+      λ s start lines closes same run.
+          c.in_ok-send_one.ensures.run s start lines (drop (i + 1) offers) closes (ap setting_of was.conf ∙ same) (first_differs 0 c.requires.rising.0 offers i (get_or offers i 0) (drop (i + 1) offers) c.requires.rising.1 left)
+          (subst (λ links. AppendsRun s start (g.W.Wire.shown c.loop-link.wire).told (Offering lines c.loop-link.core links closes)) left (c.loop-link.invariant.6 s start lines closes same run)),
     )
+
+pub returns-in_err-send_one-clause-err : goal.returns-in_err-send_one-clause-err
+returns-in_err-send_one-clause-err g c = λ s start lines closes same run.
+    err_any {P = AppendsRun s start (g.W.Wire.shown c.send_one.new.wire).told (Broken s lines)} c.from_residual.result
+    (acts_broken lines s start (g.W.Wire.shown c.loop-link.wire).told (g.W.Wire.shown c.send_one.new.wire).told c.loop-link.core None [] (drop c.loop-link.link-index c.args.offers.now) closes
+    (ap setting_of c.loop-link.invariant.0.conf ∙ same) c.in_err-send_one.ensures.err (c.loop-link.invariant.6 s start lines closes same run))

@@ -1,5 +1,8 @@
-use Rattle.std.proofs.Common.{◌≡◌, ◌≤◌, false, Option}
+use Rattle.std.proofs.Common.{◌≡◌, ◌≤◌, ◌++◌, List, false, Option}
+use Rattle.std.specs.List.{AllZip}
+use Rattle.aprs_base.specs.Journals.{JournalLineSeen}
 use Rattle.aprs_base.specs.Outside.{Told}
+use Rattle.aprs_base.specs.Slots.{TakesLines}
 use Rattle.aprs_history.specs.Setting.{Setting}
 use Rattle.aprs_history.specs.Runs.{AppendsRun}
 use Rattle.server_core.specs.Meaning.{setting_of}
@@ -14,6 +17,8 @@ invariant-loop g l =
     × (l.core.seen.stopped ≡ false)
     × (l.core.seen.greatest ≤ (g.W.Wire.shown l.wire).links)
     × ((g.W.Wire.shown l.initial.wire).stops ≤ (g.W.Wire.shown l.wire).stops)
-    × ((s : Setting) (start : Option Told) → setting_of l.initial.core.conf ≡ s
-    → AppendsRun s start (g.W.Wire.shown l.initial.wire).told (Resting l.initial.core)
-    → AppendsRun s start (g.W.Wire.shown l.wire).told (Resting l.core))
+    × (told : List JournalLineSeen)
+    × AllZip (TakesLines (λ z. (goal.Journal-dyn g z).journal_shown z.1) told) l.initial.journals.items l.journals.items
+    × ((s : Setting) (start : Option Told) (lines : List JournalLineSeen) → setting_of l.initial.core.conf ≡ s
+    → AppendsRun s start (g.W.Wire.shown l.initial.wire).told (Resting lines l.initial.core)
+    → AppendsRun s start (g.W.Wire.shown l.wire).told (Resting (lines ++ told) l.core))
