@@ -53,7 +53,18 @@ where
 /// Serves until it is ended from outside, or until the wire or memory fails.
 fn run<R>(rt: &R, hasher: &RandomState) -> Result<u8, AllocError>
 where
-    R: AllocGlobal + Clock + Clone + Drop + Env + Eprint + Files + Net + Print + Sync + Threads + Wait,
+    R: AllocGlobal
+        + Clock
+        + Clone
+        + Drop
+        + Env
+        + Eprint
+        + Files
+        + Net
+        + Print
+        + Sync
+        + Threads
+        + Wait,
 {
     let alloc = rt.alloc();
     let words = words(rt)?;
