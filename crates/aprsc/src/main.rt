@@ -35,7 +35,7 @@ fn words<R: AllocGlobal + Env>(rt: &R) -> Result<Vec<String>, AllocError> {
 /// The journals of the system: one on the standard error, and one in a file.
 fn journals<R>(rt: &R) -> Result<Vec<Slot>, AllocError>
 where
-    R: AllocGlobal + Clone + Drop + Eprint + Files,
+    R: AllocGlobal + Clone + Drop + Eprint + Files + 'static,
 {
     let alloc = rt.alloc();
     let mut slots = Vec::new(alloc);
@@ -64,7 +64,8 @@ where
         + Print
         + Sync
         + Threads
-        + Wait,
+        + Wait
+        + 'static,
 {
     let alloc = rt.alloc();
     let words = words(rt)?;
