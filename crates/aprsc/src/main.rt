@@ -8,7 +8,7 @@ use std::alloc::AllocError;
 use std::env::{self, Env};
 use std::fs::Files;
 use std::hash::RandomState;
-use std::io::{Eprint, Print};
+use std::io::Print;
 use std::marker::Sync;
 use std::net::Net;
 use std::process::ExitCode;
@@ -32,47 +32,16 @@ fn words<R: AllocGlobal + Env>(rt: &R) -> Result<Vec<String>, AllocError> {
     Ok(words)
 }
 
-/// The journals of the system: one on the standard error, and one in a file.
-fn journals<R>(rt: &R) -> Result<Vec<Slot>, AllocError>
-where
-    R: AllocGlobal + Clone + Drop + Eprint + Files + 'static,
-{
-    let alloc = rt.alloc();
-    let mut slots = Vec::new(alloc);
-    slots.push(Slot::Live {
-        journal: Box::new(alloc, ErrorJournal::new(rt.clone()?))?,
-        lines: 0,
-    })?;
-    slots.push(Slot::Live {
-        journal: Box::new(alloc, FileJournal::new(rt.clone()?))?,
-        lines: 0,
-    })?;
-    Ok(slots)
-}
-
 /// Serves until it is ended from outside, or until the wire or memory fails.
-fn run<R>(rt: &R, hasher: &RandomState) -> Result<u8, AllocError>
+fn run<R>(rt: &R, hasher: &RandomState, mut journals: Vec<Slot>) -> Result<u8, AllocError>
 where
-    R: AllocGlobal
-        + Clock
-        + Clone
-        + Drop
-        + Env
-        + Eprint
-        + Files
-        + Net
-        + Print
-        + Sync
-        + Threads
-        + Wait
-        + 'static,
+    R: AllocGlobal + Clock + Env + Files + Net + Print + Sync + Threads + Wait,
 {
     let alloc = rt.alloc();
     let words = words(rt)?;
     let mut files = RealFiles::new(rt);
     let mut wire = MioWire::new(rt, alloc, None);
     let mut out = RealSink::new(rt);
-    let mut journals = journals(rt)?;
     Ok(aprsc(
         rt,
         alloc,
@@ -85,9 +54,35 @@ where
     ))
 }
 
+/// The journals are made here, since a function can't hand out what it has boxed.
 fn main(rt: HostRuntime) -> ExitCode {
     let Ok(hasher) = RandomState::new(&rt) else {
         return ExitCode::from(NO_RANDOM);
     };
-    ExitCode::from(run(&rt, &hasher).unwrap_or(NO_MEMORY))
+    let alloc = rt.alloc();
+    let first: Result<_, _> = rt.clone();
+    let second: Result<_, _> = rt.clone();
+    let (Ok(for_errors), Ok(for_file)) = (first, second) else {
+        return ExitCode::from(NO_MEMORY);
+    };
+    let Ok(errors) = Box::new(alloc, ErrorJournal::new(for_errors)) else {
+        return ExitCode::from(NO_MEMORY);
+    };
+    let Ok(file) = Box::new(alloc, FileJournal::new(for_file)) else {
+        return ExitCode::from(NO_MEMORY);
+    };
+    let slots = [
+        Slot::Live {
+            journal: errors,
+            lines: 0,
+        },
+        Slot::Live {
+            journal: file,
+            lines: 0,
+        },
+    ];
+    let Ok(journals) = Vec::from_array(alloc, slots) else {
+        return ExitCode::from(NO_MEMORY);
+    };
+    ExitCode::from(run(&rt, &hasher, journals).unwrap_or(NO_MEMORY))
 }
