@@ -89,10 +89,11 @@ abbrev pub put_to_all : Setting → Entry → (earlier : Trace) → List ℕ →
 put_to_all setting entry earlier [] = 0
 put_to_all setting entry earlier (link ∷ links) = put_to setting entry earlier link + put_to_all setting entry earlier links
 
--- all that were put into the texts of links, as long as they lived
+-- all that were put into the texts of links: only what is said puts any, into those of links that live
 abbrev pub put_in : Setting → Trace → ℕ
 put_in setting [] = 0
-put_in setting (entry ∷ earlier) = put_in setting earlier + put_to_all setting entry earlier (live_links earlier)
+put_in setting (Said from cut verdict ∷ earlier) = put_in setting earlier + put_to_all setting (Said from cut verdict) earlier (live_links earlier)
+put_in setting (entry ∷ earlier) = put_in setting earlier
 
 -- ---- the counts
 

@@ -110,6 +110,7 @@ pub record Follows (setting : Setting) (core : CoreSeen) (trace : Trace) : Type 
   pub links : core.links ≡ map (link_seen setting trace) (served_links trace)
   pub tables : Keeps core.accepted core.stations core.heard trace
   pub took : TookNoMore setting trace
+  pub totals : core.totals ≡ totals_of setting trace
 
 -- a core stands for a history whose rounds are finished
 pub record StandsFor (setting : Setting) (core : CoreSeen) (history : History) : Type 0 where
@@ -117,4 +118,3 @@ pub record StandsFor (setting : Setting) (core : CoreSeen) (history : History) :
   pub follows : Follows setting core (trace_of setting history)
   pub greatest : core.greatest ≡ greatest_link history
   pub stopped : core.stopped ≡ is_stopped history
-  pub totals : core.totals ≡ totals_of setting (trace_of setting history)

@@ -4,10 +4,11 @@ ghost use Rattle.aprs_base.specs.Bytes.{is_station};
 ghost use Rattle.aprs_conf.specs.Sound.{IsGroup};
 ghost use Rattle.aprs_history.specs.Stands.{reach_of};
 ghost use Rattle.aprs_history.specs.History.{History, trace_of};
+ghost use Rattle.aprs_history.specs.Counts.{totals_of};
 ghost use Rattle.aprs_history.specs.Journal.{round_lines};
 ghost use Rattle.aprs_history.specs.Rounds.{AreFresh, greatest_after, is_whole, only_listens, stopped_after, with_events};
 ghost use Rattle.aprs_history.specs.Texts.{untaken};
-ghost use Rattle.server_core.specs.LinkSteps.{AreServed, Rises, has_number, numbers, pending_at};
+ghost use Rattle.server_core.specs.LinkSteps.{AreServed, Rises, has_number, more, numbers, pending_at};
 ghost use Rattle.aprs_base.specs.declared.events.Happening.{Happening};
 ghost use Rattle.aprs_base.specs.declared.events.Sent.{Sent};
 ghost use Rattle.server_core.specs.Meaning.{AreActs, Stands, numbered, setting_of};
@@ -31,7 +32,7 @@ use crate::conf::uplink_timeout;
 use crate::link::Link;
 use crate::links::{lose, offer, take};
 use crate::reach::Reach;
-use aprs_base::{Event, JournalLine, Memory, Packet};
+use aprs_base::{Event, JournalLine, Memory, Packet, Totals};
 use aprs_conf::Conf;
 use heard_routing::Heard;
 use station_table::Stations;
@@ -50,6 +51,13 @@ fn reach_for(alloc: Global, conf: &Conf) -> Reach
 {
     let count = u16::try_from(conf.uplinks.len()).unwrap_or(0);
     Reach::new(alloc, count, uplink_timeout(conf))
+}
+
+/// A count raised by so many, which stays at the greatest u64.
+fn raised(count: u64, n: usize) -> u64
+    ensures { result ≡ more n count }
+{
+    count.saturating_add(u64::try_from(n).unwrap_or(u64::MAX))
 }
 
 /// The core of a server.
@@ -71,6 +79,7 @@ pub struct Core {
     reach: Reach,
     greatest: u32,
     stopped: bool,
+    totals: Totals,
 }
 
 impl Model for Core {
@@ -79,9 +88,9 @@ impl Model for Core {
 
     ghost Value = { CoreMeaning };
 
-    ghost view = { λ c. record { conf = c.conf; seen = record { moment = c.moment; links = c.links.items; turned = c.turned.items; closing = c.closing.items; accepted = c.accepted.items; stations = c.stations; heard = c.heard; reach = c.reach; greatest = c.greatest; stopped = c.stopped } } };
+    ghost view = { λ c. record { conf = c.conf; seen = record { moment = c.moment; links = c.links.items; turned = c.turned.items; closing = c.closing.items; accepted = c.accepted.items; stations = c.stations; heard = c.heard; reach = c.reach; greatest = c.greatest; stopped = c.stopped; totals = c.totals } } };
 
-    ghost invariant = { λ c. IsKept (record { conf = c.conf; seen = record { moment = c.moment; links = c.links.items; turned = c.turned.items; closing = c.closing.items; accepted = c.accepted.items; stations = c.stations; heard = c.heard; reach = c.reach; greatest = c.greatest; stopped = c.stopped } }) };
+    ghost invariant = { λ c. IsKept (record { conf = c.conf; seen = record { moment = c.moment; links = c.links.items; turned = c.turned.items; closing = c.closing.items; accepted = c.accepted.items; stations = c.stations; heard = c.heard; reach = c.reach; greatest = c.greatest; stopped = c.stopped; totals = c.totals } }) };
 }
 
 impl Core {
@@ -116,6 +125,12 @@ impl Core {
             reach,
             greatest: 0,
             stopped: false,
+            totals: Totals {
+                accepted: 0,
+                duplicate: 0,
+                refused: 0,
+                queued: 0,
+            },
         })
     }
 
@@ -124,6 +139,14 @@ impl Core {
         ensures { result.now ≡ self.now.conf }
     {
         &self.conf
+    }
+
+    /// What it has counted since it was made.
+    pub fn totals(&self) -> Totals
+        ensures kept { result ≡ self.now.seen.totals }
+        ensures counts { (h : History) → Stands self.now h → result ≡ totals_of (setting_of self.now.conf) (trace_of (setting_of self.now.conf) h) }
+    {
+        self.totals
     }
 
     /// Takes one whole round of events, and says what is to be done. After `Memory` the core is spent.

@@ -15,7 +15,7 @@ reply-requires c = rises_to 0 c.self.inside.greatest (2 ^ 32) _ c.self.invariant
 pub returns-in_ok-line-in-Denied : goal.returns-in_ok-line-in-Denied
 returns-in_ok-line-in-Denied c =
     let i = c.self.inside in
-    let core : CoreMeaning = record { conf = i.conf; seen = record { moment = i.moment; links = i.links.items; turned = i.turned.items; closing = i.closing.items; accepted = i.accepted.items; stations = i.stations; heard = i.heard; reach = i.reach; greatest = i.greatest; stopped = i.stopped } } in
+    let core : CoreMeaning = record { conf = i.conf; seen = record { moment = i.moment; links = i.links.items; turned = i.turned.items; closing = i.closing.items; accepted = i.accepted.items; stations = i.stations; heard = i.heard; reach = i.reach; greatest = i.greatest; stopped = i.stopped; totals = i.totals } } in
     ap (λ links. relinked links core) (c.reply.ensures.exact
     ∙ ap (λ line. map (at_link c.args.number (with_text line)) i.links.items) (c.in_ok-line-in-Denied.ensures.ok ∙ c.in_ok-denied_line-in-Denied.ensures))
     ∙ ap (with_verdict (source.Link c.args.number) (Filtered (Denied c.in-Denied.fault))) c.self.view_is
