@@ -16,13 +16,13 @@ use Rattle.aprs_history.proofs.Rows.{client, crlf, listen}
 
 -- a packet that one other link is sent
 sent_on : totals_of setting (trace_of setting two_clients) ≡ record { accepted = 1; duplicate = 0; refused = 0; queued = 1 }
-unfolding trace_of setting two_clients listening client crlf digits parts_of text_of via_of head_of login_of passcode_of process_of given_drops built_drops built_row rows body_of
+unfolding totals_of trace_of setting two_clients listening client crlf digits parts_of text_of via_of head_of login_of passcode_of process_of given_drops built_drops built_row rows body_of
 sent_on = refl
 
 -- the same packet again, one whose second element is none, and a filter at a port that has none
 refused : totals_of setting (trace_of setting (says 2 (codes "#filter b/K1") ∷ says 1 (codes "N0CALL>APRS,WIDE1-1,:>hi") ∷ says 1 (codes "N0CALL>APRS:>hi") ∷ two_clients))
     ≡ record { accepted = 1; duplicate = 1; refused = 2; queued = 1 }
-unfolding trace_of setting two_clients listening client crlf digits parts_of text_of via_of head_of login_of passcode_of process_of given_drops built_drops built_row rows body_of
+unfolding totals_of trace_of setting two_clients listening client crlf digits parts_of text_of via_of head_of login_of passcode_of process_of given_drops built_drops built_row rows body_of
 refused = refl
 
 -- a duplicate is put into the texts of those that are shown such
@@ -33,5 +33,5 @@ shown : totals_of with_dupes (trace_of with_dupes (
     says 1 (codes "N0CALL>APRS:>hi") ∷ says 1 (codes "N0CALL>APRS,WIDE1-1:>hi") ∷ says 2 (codes "user K1ABC pass 14993 vers t 1") ∷ says 1 (codes "user N0CALL pass 13023 vers t 1")
     ∷ opens 1 2 ∷ opens 0 1 ∷ at_moment 1000 ∷ listening))
     ≡ record { accepted = 1; duplicate = 1; refused = 0; queued = 1 }
-unfolding trace_of with_dupes setting listening client crlf digits parts_of text_of via_of head_of login_of passcode_of process_of given_drops built_drops built_row rows body_of
+unfolding totals_of trace_of with_dupes setting listening client crlf digits parts_of text_of via_of head_of login_of passcode_of process_of given_drops built_drops built_row rows body_of
 shown = refl

@@ -101,7 +101,7 @@ put_in setting (entry ∷ earlier) = put_in setting earlier
 abbrev pub capped : ℕ → ℕ
 capped n = min n (2 ^ 64 - 1)
 
-abbrev pub totals_of : Setting → Trace → Totals
+unfoldable pub totals_of : Setting → Trace → Totals
 totals_of setting trace = record {
   accepted = capped (counted is_accepted trace);
   duplicate = capped (counted is_duplicate trace);

@@ -5,7 +5,10 @@ use Rattle.std.proofs.lemmas.Bool.{true≢false, cases_Bool}
 use Rattle.std.proofs.lemmas.List.{length-map}
 use Rattle.aprs_base.specs.Held.{held_after}
 use Rattle.aprs_base.specs.declared.texts.Addr.{Addr}
+use Rattle.aprs_base.specs.PacketSeen.{PacketSeen}
 use Rattle.aprs_base.specs.declared.cutting.Cut.{Cut}
+use Rattle.aprs_base.specs.declared.cutting.Cut.TheVariants as cut
+use Rattle.aprs_base.specs.declared.packets.Parts.{Parts}
 use Rattle.aprs_base.specs.declared.packets.PortKind.TheVariants as port
 use Rattle.aprs_base.specs.declared.packets.Source.{Source}
 use Rattle.aprs_base.specs.declared.packets.Source.TheVariants as source
@@ -22,7 +25,9 @@ use Rattle.aprs_history.specs.declared.verdicts.Verdict.{Verdict}
 use Rattle.aprs_history.specs.declared.verdicts.Verdict.TheVariants.{PassedOver, Refused, LoggedIn, Filtered, Accepted}
 use Rattle.aprs_history.specs.Setting.{Setting, kind_at}
 use Rattle.aprs_history.specs.Scenes.{datagram_scene, logins_of, others_of, scene_of, speaker_of, verified_login}
-use Rattle.aprs_history.specs.Verdicts.{Visitor, verdict_of}
+use Rattle.tnc2_line.specs.Packet.{parts_of, text_of}
+use Rattle.aprs_history.specs.declared.verdicts.Refusal.TheVariants as refusal
+use Rattle.aprs_history.specs.Verdicts.{Visitor, carried_verdict, is_comment, is_duplicate, packet_verdict, read_and_routed, verdict_of}
 use Rattle.aprs_history.specs.declared.verdicts.Admission.{Admission}
 use Rattle.aprs_history.specs.declared.verdicts.Admission.TheVariants.{NoPort, NotAsked, Served, TurnedAway}
 use Rattle.aprs_history.specs.Trace.{Trace, AtListener, ByUplink, Dated, Looked, Unjoined, RoundBegan, Ticked, Opened, Brought, Said, Roomed, Ended, is_live, is_member, is_other, live_links, moment_of, placed_all, stopped_links, last_moment}
@@ -460,18 +465,29 @@ follows_stop core conf stopped t ends closing heard reach walks same stops are f
     subst (λ (c : ConfSeen). Follows (setting_of c) (record core.seen { heard = heard; reach = reach; closing = closing }) (end_stopped stopped t)) same
     (stop_follows core stopped t ends closing heard reach walks stops are forgotten reached closed)
 
--- what a line of a datagram can't be changes nothing
-pub carried_quiet : (core : CoreMeaning) (from : Source) (session : Session) (answer : Option FilterAnswer) → IsDatagram from → core ≡ with_verdict from (LoggedIn session answer) core
-carried_quiet core (source.Link number) session answer datagram = absurd datagram
-carried_quiet core (source.Submit listener) session None datagram = refl
-carried_quiet core (source.Submit listener) session (Some answer) datagram = refl
-carried_quiet core (source.Peer peer) session None datagram = refl
-carried_quiet core (source.Peer peer) session (Some answer) datagram = refl
+-- what a line of a datagram comes to is no login and no filter
+abbrev pub is_carried : Verdict → Bool
+is_carried PassedOver = true
+is_carried (Refused why) = true
+is_carried (LoggedIn session answer) = false
+is_carried (Filtered answer) = false
+is_carried (Accepted parts line) = true
 
-pub carried_unset : (core : CoreMeaning) (from : Source) (answer : FilterAnswer) → IsDatagram from → core ≡ with_verdict from (Filtered answer) core
-carried_unset core (source.Link number) answer datagram = absurd datagram
-carried_unset core (source.Submit listener) answer datagram = refl
-carried_unset core (source.Peer peer) answer datagram = refl
+packet_carried : (now : ℕ) (accepted : List PacketSeen) (read : Result Parts Refusal) → is_carried (packet_verdict now accepted read) ≡ true
+packet_carried now accepted (Err why) = refl
+packet_carried now accepted (Ok parts) = by (is_duplicate now accepted parts)
+  where
+    by : (b : Bool) → is_carried (if b then Refused (refusal.Duplicate parts (text_of parts)) else Accepted parts (text_of parts)) ≡ true
+    by true = refl
+    by false = refl
+
+pub line_carried : (core : CoreMeaning) (from : Origin) (cut : Cut) → is_carried (verdict_of (carried_at from core) cut) ≡ true
+line_carried core from cut.Long = refl
+line_carried core from (cut.Line text) = by (is_comment text)
+  where
+    by : (b : Bool) → is_carried (if b then PassedOver else carried_verdict (carried_at from core) from text) ≡ true
+    by true = refl
+    by false = packet_carried core.seen.moment core.seen.accepted (read_and_routed core.conf.server from (logins_at core.seen.links) (parts_of text))
 
 -- ---- comment lines
 

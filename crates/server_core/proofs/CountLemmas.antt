@@ -71,12 +71,16 @@ are_plain (line ∷ lines) = not (is_packet_line line) && are_plain lines
 
 plain_put : (taken : ℕ) (lines : List TextLine) (text : Text) → are_plain lines ≡ true → packet_lines (with_text_lines taken lines text) ≡ packet_lines text
 plain_put taken [] text plain = refl
-plain_put taken (line ∷ lines) text plain = by (is_packet_line line) refl plain
+plain_put taken (line ∷ lines) text plain = by (is_packet_line line) refl plain (plain_put taken lines (with_text_line taken line text))
   where
-    by : (b : Bool) → is_packet_line line ≡ b → (not b && are_plain lines) ≡ true → packet_lines (with_text_lines taken lines (with_text_line taken line text)) ≡ packet_lines text
-    by true is others = absurd (true≢false (sym others))
-    by false is others =
-        plain_put taken lines (with_text_line taken line text) others ∙ line_put taken line text
+    now : Text
+    now = with_text_line taken line text
+
+    by : (b : Bool) → is_packet_line line ≡ b → (not b && are_plain lines) ≡ true → (are_plain lines ≡ true → packet_lines (with_text_lines taken lines now) ≡ packet_lines now)
+        → packet_lines (with_text_lines taken lines now) ≡ packet_lines text
+    by true is others later = absurd (true≢false (sym others))
+    by false is others later =
+        later others ∙ line_put taken line text
         ∙ ap (λ b. packet_lines text + one_if (fits taken text && b)) is ∙ ap (λ b. packet_lines text + one_if b) (and_false (fits taken text)) ∙ omega arith
 
 -- a packet line, where the link wants it
@@ -129,6 +133,7 @@ module _ (s : Setting) (t : Trace) (from : Source) (cut : Cut) where
 
   pub quiet_totals : (verdict : Verdict) → is_accepted verdict ≡ false → is_duplicate verdict ≡ false → is_refused verdict ≡ false → ((j : ℕ) → are_plain (added_by s t from verdict j) ≡ true)
       → totals_of s (after verdict) ≡ totals_of s t
+  unfolding totals_of
   quiet_totals verdict unaccepted single unrefused plain =
       rw (unaccepted, single, unrefused, plain_puts verdict plain (live_links t)) (ap (λ n. record (totals_of s t) { queued = capped n }) (zero (put_in s t)))
     where
@@ -137,6 +142,7 @@ module _ (s : Setting) (t : Trace) (from : Source) (cut : Cut) where
 
   refused_more : (verdict : Verdict) → is_accepted verdict ≡ false → is_duplicate verdict ≡ false → is_refused verdict ≡ true → ((j : ℕ) → are_plain (added_by s t from verdict j) ≡ true)
       → with_refused (totals_of s t) ≡ totals_of s (after verdict)
+  unfolding totals_of
   refused_more verdict unaccepted single refused plain =
       rw (unaccepted, single, refused, plain_puts verdict plain (live_links t))
       (ap (λ n. record (totals_of s t) { refused = n }) (capped_more 1 (counted is_refused t) ∙ ap capped (next (counted is_refused t)))
@@ -189,6 +195,7 @@ module _ (s : Setting) (t : Trace) (from : Source) (cut : Cut) where
         ∙ wanted_put (taken_by t j) (shown (packet_of from (moment_of t) parts line)) (text_to s t j) refl (is_shown_at from (link_seen s t j)))
 
     pub duplicate_totals : with_duplicate (put_to_all s (Said from cut (Refused (refusal.Duplicate parts line))) t (live_links t)) (totals_of s t) ≡ totals_of s (after (Refused (refusal.Duplicate parts line)))
+    unfolding totals_of
     duplicate_totals =
         let put = put_to_all s (Said from cut (Refused (refusal.Duplicate parts line))) t (live_links t) in
         ap (λ n. record (totals_of s t) { duplicate = n; queued = more put (capped (put_in s t)) }) (one (counted is_duplicate t))
@@ -211,6 +218,7 @@ module _ (s : Setting) (t : Trace) (from : Source) (cut : Cut) where
         ∙ wanted_put (taken_by t j) (relayed packet) (text_to s t j) refl (wants_packet packet (source_in t from parts) hearers owed (link_seen s t j)))
 
     pub accepted_totals : with_accepted (put_to_all s (Said from cut (Accepted parts line)) t (live_links t)) (totals_of s t) ≡ totals_of s (after (Accepted parts line))
+    unfolding totals_of
     accepted_totals =
         let put = put_to_all s (Said from cut (Accepted parts line)) t (live_links t) in
         ap (λ n. record (totals_of s t) { accepted = n; queued = more put (capped (put_in s t)) }) (one (counted is_accepted t))

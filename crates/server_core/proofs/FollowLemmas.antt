@@ -40,7 +40,7 @@ use Rattle.aprs_history.specs.Texts.{Text, TextLine, comment_line, first_line, i
 use Rattle.aprs_history.specs.Stands.{LinkSeen, link_seen, TookNoMore}
 use Rattle.server_core.specs.Pending.{with_line, pending_bytes}
 use Rattle.server_core.specs.declared.link.SourcePlace.{SourcePlace}
-use Rattle.server_core.specs.LinkSteps.{is_shown_at, wants_packet, picked_at, at_link, at_moment, with_answer, with_room, when_gone, with_taken, with_bytes, with_text, with_session, with_date, with_packet, with_places, with_shown, new_link_seen}
+use Rattle.server_core.specs.LinkSteps.{has_room, is_shown_at, wants_packet, picked_at, at_link, at_moment, with_answer, with_room, when_gone, with_taken, with_bytes, with_text, with_session, with_date, with_packet, with_places, with_shown, new_link_seen}
 use Rattle.server_core.proofs.SightLemmas.{friends_later, login_later, places_kept, told_at}
 
 -- where a packet's source was last seen, whether it is a gate, and whether the packet was submitted here
@@ -220,6 +220,23 @@ pushed_over line link now before after is queue same open' full =
     ∙ ap (λ (q : Queued). record link { queue = q; over = true }) queue
     ∙ text_over line link open' (sym (ap (λ (q : Queued). length q.lines) queue) ∙ full)
     ∙ ap (with_text line) is
+
+-- whether a line fits, by the queue that it goes into
+pub fits_not_after : (link : LinkSeen) → link.over ≡ true → false ≡ has_room link
+fits_not_after link over = rw over refl
+
+pub fits_open : (link now : LinkSeen) (before : QueueSeen) → link ≡ now → plain_queue before ≡ link.queue → link.over ≡ false → (length before.lines ≡ most_waiting → ⊥) → true ≡ has_room now
+fits_open link now before is queue open' room =
+    let not_full : (length link.queue.lines == most_waiting) ≡ false =
+    false_from_ne_true _ (λ full. room (ap (λ (q : Queued). length q.lines) queue ∙ eqb-true (length link.queue.lines) most_waiting full)) in
+    let here : true ≡ has_room link = rw (open', not_full) refl in
+    here ∙ ap has_room is
+
+pub fits_not_full : (link now : LinkSeen) (before : QueueSeen) → link ≡ now → plain_queue before ≡ link.queue → link.over ≡ false → length before.lines ≡ most_waiting → false ≡ has_room now
+fits_not_full link now before is queue open' full =
+    let is_full : (length link.queue.lines == most_waiting) ≡ true = eq-eqb (length link.queue.lines) most_waiting (sym (ap (λ (q : Queued). length q.lines) queue) ∙ full) in
+    let here : false ≡ has_room link = rw (open', is_full) refl in
+    here ∙ ap has_room is
 
 -- another filter and a line more, in either order
 filter_then_text : (terms : List TermSeen) (friends : List (Option Seen)) (line : List ℕ) (link : LinkSeen)

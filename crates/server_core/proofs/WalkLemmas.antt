@@ -161,6 +161,7 @@ module _ (s : Setting) (core : CoreSeen) (t : Trace) (follows : Follows s core t
 
   -- a round begins
   pub follows_began : Follows s (record core { turned = []; closing = []; reach = record core.reach { dial = None; casts = [] } }) (RoundBegan ∷ t)
+  unfolding totals_of
   follows_began = record {
     moment = follows.moment;
     reach = ap (λ (reach : ReachSeen). record reach { dial = None; casts = [] }) follows.reach;
@@ -173,6 +174,7 @@ module _ (s : Setting) (core : CoreSeen) (t : Trace) (follows : Follows s core t
   }
 
   pub follows_ticked : (m : ℕ) → Follows s (with_moment (max (min m last_moment) core.moment) core) (Ticked m ∷ t)
+  unfolding totals_of
   follows_ticked m = record {
     moment = ap (max (min m last_moment)) follows.moment;
     reach = follows.reach;
@@ -187,6 +189,7 @@ module _ (s : Setting) (core : CoreSeen) (t : Trace) (follows : Follows s core t
   }
 
   pub follows_roomed : (k : ℕ) → Follows s (with_links (map (at_link k with_room) core.links) core) (Roomed k ∷ t)
+  unfolding totals_of
   follows_roomed k = record {
     moment = follows.moment;
     reach = follows.reach;
@@ -199,6 +202,7 @@ module _ (s : Setting) (core : CoreSeen) (t : Trace) (follows : Follows s core t
   }
 
   pub follows_lost : (k : ℕ) → Follows s (with_links (map (at_link k when_gone) core.links) core) (Lost k ∷ t)
+  unfolding totals_of
   follows_lost k = record {
     moment = follows.moment;
     reach = follows.reach;
@@ -212,6 +216,7 @@ module _ (s : Setting) (core : CoreSeen) (t : Trace) (follows : Follows s core t
 
   pub follows_took : (k offered n : ℕ) → taken_by t k + n ≤ length (text_bytes (lines_of s t k))
       → Follows s (with_links (map (at_link k (with_taken offered n)) core.links) core) (Took k offered n ∷ t)
+  unfolding totals_of
   follows_took k offered n le = record {
     moment = follows.moment;
     reach = follows.reach;
@@ -232,6 +237,7 @@ module _ (s : Setting) (core : CoreSeen) (t : Trace) (follows : Follows s core t
   pub follows_brought : (k : ℕ) (bytes : List ℕ)
       → Follows s (with_reach (record core.reach { uplinks = uplinks_after (up.Heard k) core.moment core.reach.uplinks })
       (with_links (map (at_link k (with_bytes core.moment (held_after (brought_by t k ++ bytes)))) core.links) core)) (Brought k bytes ∷ t)
+  unfolding totals_of
   follows_brought k bytes = record {
     moment = follows.moment;
     reach = stepped_reach (uplinks_after (up.Heard k));
@@ -251,6 +257,7 @@ module _ (s : Setting) (core : CoreSeen) (t : Trace) (follows : Follows s core t
     uplinks = uplinks_after up.Tick core.moment core.reach.uplinks;
     dial = (acts_at up.Tick core.moment core.reach.uplinks).dial;
   }) core) (Looked ∷ t)
+  unfolding totals_of
   follows_looked = record {
     moment = follows.moment;
     reach = ap (λ m. record core.reach { uplinks = uplinks_after up.Tick m core.reach.uplinks; dial = (acts_at up.Tick m core.reach.uplinks).dial }) follows.moment
@@ -264,6 +271,7 @@ module _ (s : Setting) (core : CoreSeen) (t : Trace) (follows : Follows s core t
   }
 
   pub follows_unjoined : (uplink : ℕ) → Follows s (with_reach (record core.reach { uplinks = uplinks_after (up.Unjoined uplink) core.moment core.reach.uplinks }) core) (Unjoined uplink ∷ t)
+  unfolding totals_of
   follows_unjoined uplink = record {
     moment = follows.moment;
     reach = stepped_reach (uplinks_after (up.Unjoined uplink));
@@ -533,6 +541,7 @@ module _ (s : Setting) (core : CoreSeen) (t : Trace) (follows : Follows s core t
   -- a link that is served
   pub follows_opened : (door : Door) (kind : LinkKind) (k high : ℕ) (from : Addr) → Rises 0 (numbers core.links) high → high < k
       → Follows s (with_reach (reach_with door k) (with_links (core.links ++ new_link_seen k (record { kind = kind; from = from; moment = core.moment }) (first_line s kind).line ∷ []) core)) (Opened door (Served kind) k from ∷ t)
+  unfolding totals_of
   follows_opened door kind k high from rises above =
       let seen = link_seen s (Opened door (Served kind) k from ∷ t) in
       let new : ℕ → LinkSeen = λ m. new_link_seen k (record { kind = kind; from = from; moment = m }) (first_line s kind).line in
@@ -559,6 +568,7 @@ module _ (s : Setting) (core : CoreSeen) (t : Trace) (follows : Follows s core t
   -- a link that comes where none is served, as many are there as may, or nobody asked for it
   follows_turned : (door : Door) (admission : Admission) (k high : ℕ) (from : Addr) → opened_link admission k ≡ [] → Rises 0 (numbers core.links) high → high < k
       → Follows s (with_reach (reach_with door k) (record core { turned = turned_links (Opened door admission k from ∷ t) })) (Opened door admission k from ∷ t)
+  unfolding totals_of
   follows_turned door admission k high from none rises above =
       let seen = link_seen s (Opened door admission k from ∷ t) in
       record {
@@ -596,6 +606,7 @@ module _ (s : Setting) (core : CoreSeen) (t : Trace) (follows : Follows s core t
 
   -- the clients that live are told the date
   pub follows_dated : stopped_links t ≡ [] → (moment : ℕ) → Follows s (with_links (map (with_date (comment_text s.server moment)) core.links) core) (Dated moment ∷ t)
+  unfolding totals_of
   follows_dated going moment =
       let told = with_date (comment_text s.server moment) in
       record {
@@ -633,6 +644,7 @@ module _ (s : Setting) (core : CoreSeen) (t : Trace) (follows : Follows s core t
 
   pub follows_ended : stopped_links t ≡ [] → (k : ℕ) → Follows s (with_reach (record core.reach { uplinks = uplinks_after (up.Ended k) core.moment core.reach.uplinks })
       (with_heard (without_link k core.heard) (with_links (filter (is_another k) core.links) core))) (Ended k ByPeer ∷ t)
+  unfolding totals_of
   follows_ended going k = record {
     moment = follows.moment;
     reach = stepped_reach (uplinks_after (up.Ended k));
@@ -696,6 +708,7 @@ took_after s reason ks t took j =
     subst (λ n. n ≤ length (text_bytes (lines_of s (end_each reason ks t) j))) (sym taken) (subst (λ ls. taken_by t j ≤ length (text_bytes ls)) (sym lines) (took j))
 
 totals_after : (s : Setting) (reason : ℕ → EndReason) (ks : List ℕ) (t : Trace) → totals_of s (end_each reason ks t) ≡ totals_of s t
+unfolding totals_of
 totals_after s = same_after (totals_of s) (λ k why t. refl)
 
 -- ends that no stop makes

@@ -87,9 +87,8 @@ pub(crate) fn share(
 {
     let mut count = 0;
     for link in links.iter_mut() {
-        if link.hear(packet, source, hearers, owed)? {
-            count += 1;
-        }
+        let took = link.hear(packet, source, hearers, owed)?;
+        count += usize::from(took);
     }
     Ok(count)
 }
@@ -106,9 +105,8 @@ pub(crate) fn show_all(
 {
     let mut count = 0;
     for link in links.iter_mut() {
-        if link.show(from, line)? {
-            count += 1;
-        }
+        let took = link.show(from, line)?;
+        count += usize::from(took);
     }
     Ok(count)
 }

@@ -149,33 +149,9 @@ impl Core {
         self.totals
     }
 
-    /// Takes one whole round of events, and says what is to be done. After `Memory` the core is spent.
+    /// Takes one whole round of events, and says what is to be done. The lines that the round has for the journals come
+    /// after those that are there. After `Memory` the core is spent.
     pub fn round<R: Threads + Sync>(
-        &mut self,
-        rt: &R,
-        alloc: Global,
-        events: &[Event],
-    ) -> Result<Acts, Memory>
-        requires whole { is_whole 0 events.now ≡ true }
-        requires fresh { AreFresh self.old.seen.greatest events.now }
-        requires going { self.old.seen.stopped ≡ false }
-        ensures conf { OnOk result (self.new.conf ≡ self.old.conf) }
-        ensures greatest { OnOk result (self.new.seen.greatest ≡ greatest_after events.now self.old.seen.greatest) }
-        ensures stopped { OnOk result (self.new.seen.stopped ≡ stopped_after events.now false) }
-        ensures done { IfOk result (λ acts. acts.done ≡ self.new.seen.stopped) }
-        ensures rising { IfOk result (λ acts. Rises 0 acts.offers self.new.seen.greatest) }
-        ensures served { IfOk result (λ acts. AreServed acts.offers self.new.seen.links) }
-        // The core stands for the history with the round, and the acts are those that are due after it.
-        ensures stands { (h : History) → Stands self.old h → OnOk result (Stands self.new (with_events events.now h)) }
-        ensures due { (h : History) → Stands self.old h
-            → IfOk result (λ acts. AreActs (setting_of self.new.conf) (with_events events.now h) acts) }
-    {
-        let mut lines = Vec::new(alloc);
-        self.round_lines(rt, alloc, events, &mut lines)
-    }
-
-    /// The same, and puts the lines that the round has for the journals after those that are there.
-    pub fn round_lines<R: Threads + Sync>(
         &mut self,
         _rt: &R,
         alloc: Global,

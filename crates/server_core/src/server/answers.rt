@@ -120,9 +120,9 @@ impl Core {
         match answer {
             FilterAnswer::Active(filter, line) => self.set_filter(alloc, number, filter, line),
             FilterAnswer::Denied(fault) => {
-                self.count_refused();
                 let line = Arc::new(alloc, denied_line(alloc, fault)?)?;
                 reply(&mut self.links, number, line);
+                self.count_refused();
                 Ok(())
             }
         }
