@@ -19,8 +19,6 @@ use Rattle.uplinks_peers.specs.Uplinks.{acts_at, uplinks_after}
 use Rattle.aprs_history.specs.Dials.{uplinks_of}
 use Rattle.aprs_history.specs.declared.verdicts.LinkKind.TheVariants.{Uplink}
 use Rattle.aprs_history.specs.declared.verdicts.Refusal.{Refusal}
-use Rattle.aprs_history.specs.declared.verdicts.FilterAnswer.{FilterAnswer}
-use Rattle.aprs_history.specs.declared.verdicts.Session.{Session}
 use Rattle.aprs_history.specs.declared.verdicts.Verdict.{Verdict}
 use Rattle.aprs_history.specs.declared.verdicts.Verdict.TheVariants.{PassedOver, Refused, LoggedIn, Filtered, Accepted}
 use Rattle.aprs_history.specs.Setting.{Setting, kind_at}

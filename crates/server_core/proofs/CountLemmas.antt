@@ -1,5 +1,5 @@
 -- What is said is counted, as the trace counts it.
-use Rattle.std.proofs.Common.{◌≡◌, ℕ, suc, ◌+◌, ◌-◌, ◌^◌, ◌==◌, Bool, true, false, not, ◌&&◌, List, [], ◌∷◌, ◌++◌, length, map, filter, refl, sym, ap, ◌∙◌, subst, arith, Option, Some, None, ⊎_elim, append_assoc, length-append, eq-eqb, min, cond, if◌then◌else◌}
+use Rattle.std.proofs.Common.{◌≡◌, ℕ, suc, ◌+◌, ◌-◌, ◌==◌, Bool, true, false, not, ◌&&◌, List, [], ◌∷◌, ◌++◌, length, map, filter, refl, sym, ap, ◌∙◌, subst, arith, Option, Some, None, ⊎_elim, append_assoc, length-append, eq-eqb, cond, if◌then◌else◌}
 use Rattle.std.proofs.lemmas.Bool.{cases_Bool, true≢false}
 use Rattle.std.proofs.lemmas.List.Elements.{filter-append}
 use Rattle.aprs_base.specs.declared.totals.Totals.{Totals}
@@ -13,16 +13,16 @@ use Rattle.aprs_history.specs.declared.verdicts.Session.{Session}
 use Rattle.aprs_history.specs.declared.verdicts.Refusal.{Refusal}
 use Rattle.aprs_history.specs.declared.verdicts.Refusal.TheVariants as refusal
 use Rattle.aprs_history.specs.declared.verdicts.Verdict.{Verdict}
-use Rattle.aprs_history.specs.declared.verdicts.Verdict.TheVariants.{PassedOver, Refused, LoggedIn, Filtered, Accepted}
+use Rattle.aprs_history.specs.declared.verdicts.Verdict.TheVariants.{Refused, LoggedIn, Filtered, Accepted}
 use Rattle.aprs_history.specs.Setting.{Setting}
 use Rattle.aprs_history.specs.Trace.{Trace, Said, is_from, is_live, is_member, live_links, moment_of}
 use Rattle.aprs_history.specs.Links.{is_client_link, opening_of, taken_by}
 use Rattle.aprs_history.specs.Scenes.{packet_of}
 use Rattle.aprs_history.specs.Messages.{is_owed, is_to_heard}
-use Rattle.aprs_history.specs.Texts.{Text, TextLine, added_by, filter_reply, is_shown, login_filter_reply, login_reply, most_waiting, refused_lines, refusal_reply, relayed, reply_lines, reply_of, shown, text_to, waiting_lines, wants, with_text_line, with_text_lines}
+use Rattle.aprs_history.specs.Texts.{Text, TextLine, added_by, filter_reply, login_filter_reply, login_reply, most_waiting, refused_lines, refusal_reply, relayed, reply_lines, reply_of, shown, text_to, waiting_lines, with_text_line, with_text_lines}
 use Rattle.aprs_history.specs.Counts.{capped, counted, is_accepted, is_duplicate, is_duplicate_refusal, is_other_refusal, is_packet_line, is_refused, packet_lines, put_in, put_to, put_to_all, totals_of}
 use Rattle.aprs_history.specs.Stands.{LinkSeen, link_seen}
-use Rattle.server_core.specs.LinkSteps.{answer_counted, has_room, is_shown_at, more, takes_packet, takes_shown, wants_packet, with_accepted, with_duplicate, with_refused}
+use Rattle.server_core.specs.LinkSteps.{answer_counted, is_shown_at, more, takes_packet, takes_shown, wants_packet, with_accepted, with_duplicate, with_refused}
 use Rattle.server_core.proofs.FollowLemmas.{shows_seen, source_in, wants_seen}
 
 -- ---- counters

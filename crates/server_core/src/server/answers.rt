@@ -8,8 +8,7 @@ ghost use Rattle.aprs_history.specs.declared.verdicts.Verdict.{Verdict};
 ghost use Rattle.server_core.specs.LinkSteps.{after_login, takes_shown, with_duplicate, with_refused, with_reply, with_shown};
 ghost use Rattle.server_core.specs.Steps.{with_verdict};
 
-use super::Core;
-use super::raised;
+use super::{Core, raised};
 use crate::conf::server_of;
 use crate::link::Link;
 use crate::links::{log_in, reply, set_filter, show_all, take};

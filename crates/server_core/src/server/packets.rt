@@ -7,8 +7,7 @@ ghost use Rattle.server_core.specs.LinkSteps.{after_packet, cast_with, noted_fro
 ghost use Rattle.server_core.specs.Meaning.{peer_of};
 ghost use Rattle.server_core.specs.Steps.{with_verdict};
 
-use super::Core;
-use super::raised;
+use super::{Core, raised};
 use crate::conf::peers_of;
 use crate::link::SourcePlace;
 use crate::links::{is_submitted, share};

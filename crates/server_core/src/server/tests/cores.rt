@@ -212,16 +212,6 @@ pub(super) fn round<R: Threads + Sync + Abort>(
     core.round(rt, alloc, events, lines).expect(rt, "memory")
 }
 
-/// Takes a round of these events, and tells nothing.
-pub(super) fn quiet_round<R: Threads + Sync + Abort>(
-    rt: &R,
-    alloc: Global,
-    core: &mut Core,
-    events: &[Event],
-) -> Acts {
-    round(rt, alloc, core, events, &mut Vec::new(alloc))
-}
-
 pub(super) fn is_served(core: &Core, link: u32) -> bool
     ensures { result ≡ has_number link core.now.seen.links }
 {

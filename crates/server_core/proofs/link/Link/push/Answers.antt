@@ -1,4 +1,4 @@
-use Rattle.std.proofs.Common.{true, refl, ap, sym, ◌∙◌}
+use Rattle.std.proofs.Common.{refl, ap, sym, ◌∙◌}
 use Rattle.std.proofs.lemmas.Bool.{false≢true}
 use Rattle.std.specs.Arc.{arc_value}
 use Rattle.aprs_history.specs.Stands.{LinkSeen}
