@@ -38,7 +38,7 @@ quiet_hundreds : (xs hundreds : List ℕ) → IsQuiet (flat_map (hundred_of xs) 
 quiet_hundreds xs [] n rest = refl
 quiet_hundreds xs (h ∷ hundreds) n rest =
     rw (flat_map-cons (hundred_of xs) h hundreds)
-      (quiet_both (hundred_of xs h) (flat_map (hundred_of xs) hundreds) (quiet_hundred xs h) (quiet_hundreds xs hundreds) n rest)
+    (quiet_both (hundred_of xs h) (flat_map (hundred_of xs) hundreds) (quiet_hundred xs h) (quiet_hundreds xs hundreds) n rest)
 
 openings_numbered : (links n : ℕ) (rest : List Event) → are_numbered n (map opening_of (range_with_len (n + 1) links) ++ rest) ≡ are_numbered (n + links) rest
 openings_numbered zero n rest = rw (add-zero n) refl
