@@ -1,5 +1,5 @@
 -- The name of a link is a call.
-use Rattle.std.proofs.Common.{◌≡◌, ℕ, suc, ◌+◌, ◌<◌, ◌≤◌, ◌^◌, Bool, true, false, cond, not, ◌&&◌, List, [], ◌∷◌, take, length, refl, ap, arith, rules}
+use Rattle.std.proofs.Common.{◌≡◌, ℕ, ◌<◌, ◌≤◌, ◌^◌, true, false, List, [], ◌∷◌, length, refl, arith, rules}
 use Rattle.std.specs.Prelude.{◌==◌, nat_le}
 use Rattle.std.specs.Fmt.{decimal}
 use Rattle.std.specs.Int.{IsInRange}
@@ -10,7 +10,7 @@ use Rattle.std.proofs.lemmas.Bool.Decides.{nat_tests}
 use Rattle.std.proofs.lemmas.Fmt.{decimal_is_IsNumeral, length-decimal-le}
 use Rattle.std.proofs.lemmas.List.{take_all}
 use Rattle.std.proofs.lemmas.Str.Parse.{tells_digits}
-use Rattle.aprs_base.specs.Bytes.{is_alphanumeric, is_call, is_dash, is_digit, is_letter, IsCall}
+use Rattle.aprs_base.specs.Bytes.{is_alphanumeric, is_call, is_dash, IsCall}
 use Rattle.drill_plan.specs.Drill.{link_name}
 
 alphanumeric_in : (c : ℕ) → IsInRange 48 57 c → is_alphanumeric c ≡ true

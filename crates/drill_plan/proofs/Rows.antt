@@ -4,7 +4,6 @@ use Rattle.std.specs.Fmt.{digits}
 use Rattle.aprs_base.specs.declared.events.Event.{Event}
 use Rattle.aprs_base.specs.declared.events.Event.TheVariants as event
 use Rattle.login_pass.specs.Passcode.{passcode_of}
-use Rattle.drill_plan.specs.declared.plan.Plan.{Plan}
 use Rattle.drill_plan.specs.Drill.{body_text, drill_events, drill_line, drill_login, next_state, nowhere, states}
 
 -- ---- lines

@@ -1,5 +1,4 @@
-use Rattle.std.proofs.Common.{◌≡◌, ◌∙◌, ◌+◌, ◌-◌, ◌++◌, ◌∷◌, [], map, ap, arith}
-use Rattle.std.specs.List.{range_with_len}
+use Rattle.std.proofs.Common.{◌≡◌, ◌∙◌, ◌+◌, ◌-◌, ◌++◌, ◌∷◌, [], ap, arith}
 use Rattle.aprs_base.specs.declared.events.Event.TheVariants as event
 use Rattle.drill_plan.specs.Drill.{login_of}
 use Rattle.drill_plan.proofs.StateLemmas.{links_on}

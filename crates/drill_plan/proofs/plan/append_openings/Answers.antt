@@ -1,5 +1,4 @@
-use Rattle.std.proofs.Common.{◌≡◌, ◌∙◌, ◌+◌, ◌-◌, ◌++◌, ◌∷◌, [], map, ap, arith}
-use Rattle.std.specs.List.{range_with_len}
+use Rattle.std.proofs.Common.{◌≡◌, ◌∙◌, ◌+◌, ◌-◌, ◌++◌, ◌∷◌, [], ap, arith}
 use Rattle.drill_plan.specs.Drill.{opening_of}
 use Rattle.drill_plan.proofs.StateLemmas.{links_on}
 use Rattle.drill_plan.proofs.plan.append_openings.Goals as goal
