@@ -88,7 +88,7 @@ fn append_traffic(events: &mut Vec<Event>, seed: u32, lines: u32) -> Result<(), 
 }
 
 /// The events of a drill: a tick, the openings and the logins of the links, the lines with a tick after each hundred and
-/// after the last, and the stop. There may be 1,000 links.
+/// after the last, and the stop. The links are 1,000 at most.
 pub fn events(alloc: Global, plan: Plan) -> Result<Vec<Event>, Memory>
     requires { plan.links ≤ 1000 }
     ensures exact { IfOk result (λ events. events.items ≡ drill_events plan) }
