@@ -121,11 +121,54 @@ fn loops_and_refusals_have_their_lines(rt: HostRuntime) -> Result<(), Fail> {
     events.push(Event::Stop)?;
     let mut outside = Outside::well(alloc);
     outside.journals.push(keeping(alloc, ALL, None)?)?;
+    outside.journals.push(keeping(alloc, LOOPS, None)?)?;
     let left = run_over(&rt, alloc, CONF, events, outside)?;
     assert!(rt; left.status == 0);
     let lines: &[u8] =
         b"1000 join 1 0\n1000 loop 1 names-server\n1000 refused u2 unverified\n1000 end 1 stop\n";
     assert!(rt; told(&left) == Some(lines));
+    let loops: Option<&[u8]> = Some(b"1000 loop 1 names-server\n");
+    assert!(rt; left.journals.last().map(kept) == Some((1, loops)));
+    Ok(())
+}
+
+/// Forty packets of the first station, each different, from this number on.
+fn forty_packets(alloc: Global, first: u32) -> Result<Event, Fail> {
+    let mut text = Vec::new(alloc);
+    for number in first..first + 40 {
+        let line = format!(in alloc; "N0CALL>APRS:>{number}\r\n")?;
+        text.extend_from_slice(line.as_bytes())?;
+    }
+    said(1, text.as_slice())
+}
+
+/// A link for which a thousand lines wait ends with the round, and what it says until then counts.
+#[test]
+fn overfull_links_have_their_line(rt: HostRuntime) -> Result<(), Fail> {
+    let alloc = rt.alloc();
+    let mut events = Vec::new(alloc);
+    events.push(Event::Tick(1000))?;
+    events.push(opened(1))?;
+    events.push(opened(2))?;
+    events.push(said(1, FIRST_LOGIN)?)?;
+    events.push(said(2, SECOND_LOGIN)?)?;
+    for forty in 0..25 {
+        events.push(forty_packets(alloc, forty * 40)?)?;
+    }
+    events.push(said(2, b"K1ABC>APRS:>last\r\n")?)?;
+    events.push(Event::Tick(1001))?;
+    events.push(Event::Stop)?;
+    let mut outside = Outside::well(alloc);
+    outside.journals.push(keeping(alloc, ALL, None)?)?;
+    let left = run_over(&rt, alloc, CONF, events, outside)?;
+    assert!(rt; left.status == 0);
+    let lines: &[u8] = b"1000 open 1 0\n1000 open 2 0\n\
+1000 login 1 N0CALL verified\n1000 login 2 K1ABC verified\n\
+1001 end 2 overfull\n1001 end 1 stop\n";
+    assert!(rt; told(&left) == Some(lines));
+    assert!(rt; left.taken(alloc, 2)?.is_empty());
+    let first = left.taken(alloc, 1)?;
+    assert!(rt; first.as_slice().ends_with(b"K1ABC>APRS,TCPIP*,qAC,T2TEST:>last\r\n"));
     Ok(())
 }
 
