@@ -156,7 +156,7 @@ fn overfull_links_have_their_line(rt: HostRuntime) -> Result<(), Fail> {
         events.push(forty_packets(alloc, forty * 40)?)?;
     }
     events.push(said(2, b"K1ABC>APRS:>last\r\n")?)?;
-    events.push(Event::Tick(1001))?;
+    events.push(Event::Tick(1000))?;
     events.push(Event::Stop)?;
     let mut outside = Outside::well(alloc);
     outside.journals.push(keeping(alloc, ALL, None)?)?;
@@ -164,7 +164,7 @@ fn overfull_links_have_their_line(rt: HostRuntime) -> Result<(), Fail> {
     assert!(rt; left.status == 0);
     let lines: &[u8] = b"1000 open 1 0\n1000 open 2 0\n\
 1000 login 1 N0CALL verified\n1000 login 2 K1ABC verified\n\
-1001 end 2 overfull\n1001 end 1 stop\n";
+1000 end 2 overfull\n1000 end 1 stop\n";
     assert!(rt; told(&left) == Some(lines));
     assert!(rt; left.taken(alloc, 2)?.is_empty());
     let first = left.taken(alloc, 1)?;
