@@ -28,16 +28,20 @@ MaxClients 10000
 """
 
 RUNS = {
-    "paced10": "feed clients=10 lines=10000 rate=1000",
-    "paced100": "feed clients=100 lines=5000 rate=1000",
+    "paced10": "feed clients=10 lines=2000 rate=500",
+    "paced100": "feed clients=100 lines=2000 rate=500",
     "paced1000": "feed clients=1000 lines=500 rate=100",
-    "fast10": "feed clients=10 lines=50000 rate=0 batch=10 readers=2",
-    "fast100": "feed clients=100 lines=50000 rate=0 batch=10 readers=2",
-    "fast1000": "feed clients=1000 lines=10000 rate=0 batch=10 readers=2",
-    "senders100": "feed clients=100 senders=50 lines=20000 rate=0 batch=10 readers=2",
+    "mixed200": "feed clients=100 filtered=100 senders=4 lines=2000 rate=500",
+    "fast10": "feed clients=10 lines=2000 rate=0 batch=10 readers=2",
+    "fast100": "feed clients=100 lines=2000 rate=0 batch=10 readers=2",
+    "fast1000": "feed clients=1000 lines=2000 rate=0 batch=10 readers=2",
+    "senders100": "feed clients=100 senders=50 lines=2000 rate=0 batch=10 readers=2",
     "idle1000": "idle clients=1000 seconds=5",
     "idle9000": "idle clients=9000 seconds=20",
 }
+
+# Drills of the server alone: their time and the most memory that they take.
+DRILLS = ["drill 7 20000 200", "drill 7 100000 40"]
 
 # What a run prints, by the names of the table.
 FIGURES = {
@@ -63,7 +67,7 @@ def build(folder):
 
 def measure(folder, server, words):
     """One run against a fresh server."""
-    with subprocess.Popen(server, cwd=folder) as process:
+    with subprocess.Popen(server, cwd=folder, stderr=subprocess.DEVNULL) as process:
         try:
             time.sleep(0.3)
             ports = [f"full=127.0.0.1:{FULL}", f"igate=127.0.0.1:{IGATE}", f"pid={process.pid}"]
@@ -82,7 +86,7 @@ def measure(folder, server, words):
 
 
 def median(runs, name):
-    return statistics.median(run.get(name, 0.0) for run in runs)
+    return statistics.median(run.get(name, 0.0) for run in runs) if runs else 0.0
 
 
 def ratio(runs, bare, name):
@@ -120,6 +124,18 @@ def head(name):
     return text + "\n" + "|---" * (text.count("|") - 1) + "|"
 
 
+def drill(program, words):
+    """The seconds of a drill, its processor seconds, the most megabytes that it takes, and what it prints."""
+    began = time.monotonic()
+    with subprocess.Popen([program, *words.split()], stdout=subprocess.PIPE, text=True) as process:
+        printed = process.stdout.read().strip()
+        _, status, used = os.wait4(process.pid, 0)
+        process.returncode = os.waitstatus_to_exitcode(status)
+    if process.returncode != 0:
+        sys.exit(f"{words}: status {process.returncode}")
+    return time.monotonic() - began, used.ru_utime + used.ru_stime, used.ru_maxrss / 1024, printed
+
+
 def loads():
     with open("/proc/loadavg", encoding="ascii") as file:
         return file.read().split()[0]
@@ -146,8 +162,14 @@ def main():
             runs = {server: [] for server in servers}
             for _ in range(times):
                 for server, command in servers.items():
-                    runs[server].append(measure(folder, command, RUNS[name]))
+                    # The bare server knows no filters.
+                    if server == "server" or "filtered" not in RUNS[name]:
+                        runs[server].append(measure(folder, command, RUNS[name]))
             print(row(name, runs["server"], runs["bare"]), flush=True)
+        print("\n| drill | seconds | processor seconds | MB | what it prints |\n|---|---|---|---|---|")
+        for words in [] if names != list(RUNS) else DRILLS:
+            seconds, used, megabytes, printed = drill(program, words)
+            print(f"| {words} | {seconds:.1f} | {used:.1f} | {megabytes:.0f} | {printed} |", flush=True)
     print(f"\nload {loads()}")
 
 
