@@ -2,6 +2,7 @@
 #![tactic(auto)]
 
 mod configuring;
+mod drill;
 #[cfg(test)]
 mod journal_runs;
 #[cfg(test)]
