@@ -21,7 +21,7 @@ use Rattle.aprs_history.proofs.EndingRows.{at_moment}
 use Rattle.aprs_history.proofs.Rows.{client, crlf, listen, server_on}
 
 -- a full port, one with filters, one for submissions, and the peer group; an uplink, and a peer
-setting : Setting
+unfoldable pub setting : Setting
 setting = record (server_on (listen port.Full 10152 ∷ listen port.Igate 14580 ∷ listen port.Submit 8080 ∷ listen port.Core 9000 ∷ [])) {
   uplinks = record { host = codes "10.0.0.9"; port = 10152 } ∷ [];
   peers = record { call = codes "T2HUB"; at = record { ip = 10 ∷ 0 ∷ 0 ∷ 8 ∷ []; port = 9000 } } ∷ [];
@@ -30,16 +30,16 @@ setting = record (server_on (listen port.Full 10152 ∷ listen port.Igate 14580 
 uplink : Addr
 uplink = record { ip = 10 ∷ 0 ∷ 0 ∷ 9 ∷ []; port = 10152 }
 
-abbrev says : ℕ → List ℕ → Happening
+abbrev pub says : ℕ → List ℕ → Happening
 says link line = did.Event (event.Bytes link (line ++ crlf))
 
-abbrev opens : ℕ → ℕ → Happening
+abbrev pub opens : ℕ → ℕ → Happening
 opens listener link = did.Event (event.Opened listener link client)
 
 abbrev submits : ℕ → List ℕ → Happening
 submits listener text = did.Event (event.Datagram listener client text)
 
-listening : History
+unfoldable pub listening : History
 listening = did.Listen 3 ∷ did.Listen 2 ∷ did.Listen 1 ∷ did.Listen 0 ∷ []
 
 -- the steps of sessions, the refusals and the loops
@@ -54,7 +54,7 @@ loop moment text = line_of kind.Loop moment text
 
 -- ---- sessions
 
-two_clients : History
+unfoldable pub two_clients : History
 two_clients =
     says 1 (codes "N0CALL>APRS,WIDE1-1:>hi") ∷ says 2 (codes "user K1ABC pass 14993 vers t 1") ∷ says 1 (codes "user N0CALL pass 13023 vers t 1")
     ∷ opens 0 2 ∷ opens 0 1 ∷ at_moment 1000 ∷ listening

@@ -2,12 +2,14 @@
 use Rattle.std.specs.Prelude.{◌≡◌, ℕ, ◌≤◌, Bool, List, length, map, Option, None, if◌then◌else◌}
 use Rattle.aprs_base.specs.Held.{Held, held_after}
 use Rattle.aprs_base.specs.PacketSeen.{PacketSeen}
+use Rattle.aprs_base.specs.declared.totals.Totals.{Totals}
 use Rattle.filter_lang.specs.Terms.{TermSeen}
 use Rattle.filter_eval.specs.declared.seen.Seen.{Seen}
 use Rattle.station_table.specs.Stations.{StationsSeen}
 use Rattle.station_table.specs.Last.{Agrees}
 use Rattle.heard_routing.specs.Entries.{HasEachOnce}
 use Rattle.heard_routing.specs.Heard.{HeardSeen, heard_at, promised_at}
+use Rattle.aprs_history.specs.Counts.{totals_of}
 use Rattle.aprs_history.specs.Setting.{Setting}
 use Rattle.aprs_history.specs.declared.verdicts.Session.{Session}
 use Rattle.aprs_history.specs.Trace.{Trace, closed_links, is_live, moment_of, served_links, turned_links}
@@ -55,6 +57,8 @@ pub record CoreSeen : Type 0 where
   pub heard : HeardSeen
   pub greatest : ℕ
   pub stopped : Bool
+  -- what it has counted
+  pub totals : Totals
 
 -- what there is to keep of a link: its opening, its last bytes' moment, the rest of its bytes, its login, its filter with where
 -- the calls that it names were last seen, where its own login was, the lines that it hasn't wholly taken, and whether it is
@@ -106,6 +110,7 @@ pub record Follows (setting : Setting) (core : CoreSeen) (trace : Trace) : Type 
   pub links : core.links ≡ map (link_seen setting trace) (served_links trace)
   pub tables : Keeps core.accepted core.stations core.heard trace
   pub took : TookNoMore setting trace
+  pub totals : core.totals ≡ totals_of setting trace
 
 -- a core stands for a history whose rounds are finished
 pub record StandsFor (setting : Setting) (core : CoreSeen) (history : History) : Type 0 where

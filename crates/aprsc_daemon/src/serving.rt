@@ -337,7 +337,7 @@ fn tell_round<R: Threads + Sync>(
         → IfOk result (λ acts. AreActs (setting_of core.new.conf) (with_events events.now h) acts) }
 {
     let mut lines = Vec::new(alloc);
-    let acts = core.round_lines(rt, alloc, events, &mut lines)?;
+    let acts = core.round(rt, alloc, events, &mut lines)?;
     tell_all(journals, lines.as_slice());
     Ok(acts)
 }

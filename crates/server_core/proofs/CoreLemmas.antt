@@ -5,7 +5,10 @@ use Rattle.std.proofs.lemmas.Bool.{true≢false, cases_Bool}
 use Rattle.std.proofs.lemmas.List.{length-map}
 use Rattle.aprs_base.specs.Held.{held_after}
 use Rattle.aprs_base.specs.declared.texts.Addr.{Addr}
+use Rattle.aprs_base.specs.PacketSeen.{PacketSeen}
 use Rattle.aprs_base.specs.declared.cutting.Cut.{Cut}
+use Rattle.aprs_base.specs.declared.cutting.Cut.TheVariants as cut
+use Rattle.aprs_base.specs.declared.packets.Parts.{Parts}
 use Rattle.aprs_base.specs.declared.packets.PortKind.TheVariants as port
 use Rattle.aprs_base.specs.declared.packets.Source.{Source}
 use Rattle.aprs_base.specs.declared.packets.Source.TheVariants as source
@@ -16,13 +19,13 @@ use Rattle.uplinks_peers.specs.Uplinks.{acts_at, uplinks_after}
 use Rattle.aprs_history.specs.Dials.{uplinks_of}
 use Rattle.aprs_history.specs.declared.verdicts.LinkKind.TheVariants.{Uplink}
 use Rattle.aprs_history.specs.declared.verdicts.Refusal.{Refusal}
-use Rattle.aprs_history.specs.declared.verdicts.FilterAnswer.{FilterAnswer}
-use Rattle.aprs_history.specs.declared.verdicts.Session.{Session}
 use Rattle.aprs_history.specs.declared.verdicts.Verdict.{Verdict}
 use Rattle.aprs_history.specs.declared.verdicts.Verdict.TheVariants.{PassedOver, Refused, LoggedIn, Filtered, Accepted}
 use Rattle.aprs_history.specs.Setting.{Setting, kind_at}
 use Rattle.aprs_history.specs.Scenes.{datagram_scene, logins_of, others_of, scene_of, speaker_of, verified_login}
-use Rattle.aprs_history.specs.Verdicts.{Visitor, verdict_of}
+use Rattle.tnc2_line.specs.Packet.{parts_of, text_of}
+use Rattle.aprs_history.specs.declared.verdicts.Refusal.TheVariants as refusal
+use Rattle.aprs_history.specs.Verdicts.{Visitor, carried_verdict, is_comment, is_duplicate, packet_verdict, read_and_routed, verdict_of}
 use Rattle.aprs_history.specs.declared.verdicts.Admission.{Admission}
 use Rattle.aprs_history.specs.declared.verdicts.Admission.TheVariants.{NoPort, NotAsked, Served, TurnedAway}
 use Rattle.aprs_history.specs.Trace.{Trace, AtListener, ByUplink, Dated, Looked, Unjoined, RoundBegan, Ticked, Opened, Brought, Said, Roomed, Ended, is_live, is_member, is_other, live_links, moment_of, placed_all, stopped_links, last_moment}
@@ -240,16 +243,16 @@ module _ (core : CoreMeaning) (t : Trace) (walks : Walks core t) (k : ℕ) (from
       → Walks (record core { seen = admitted_in (setting_of core.conf) outcome k from core.seen }) (Opened (AtListener listener) outcome k from ∷ t)
   walks_admitted listener NoPort =
       let follows = follows_unserved (setting_of core.conf) core.seen t walks.follows (AtListener listener) k core.seen.greatest from rising above in
-      record { follows = record { moment = follows.moment; reach = follows.reach; turned = follows.turned; closing = follows.closing; links = follows.links; tables = follows.tables; took = follows.took }; going = walks.going }
+      record { follows = record { moment = follows.moment; reach = follows.reach; turned = follows.turned; closing = follows.closing; links = follows.links; tables = follows.tables; took = follows.took; totals = follows.totals }; going = walks.going }
   walks_admitted listener TurnedAway =
       let follows = follows_turned_away (setting_of core.conf) core.seen t walks.follows (AtListener listener) k core.seen.greatest from rising above in
-      record { follows = record { moment = follows.moment; reach = follows.reach; turned = follows.turned; closing = follows.closing; links = follows.links; tables = follows.tables; took = follows.took }; going = walks.going }
+      record { follows = record { moment = follows.moment; reach = follows.reach; turned = follows.turned; closing = follows.closing; links = follows.links; tables = follows.tables; took = follows.took; totals = follows.totals }; going = walks.going }
   walks_admitted listener NotAsked =
       let follows = follows_unasked (setting_of core.conf) core.seen t walks.follows (AtListener listener) k core.seen.greatest from rising above in
-      record { follows = record { moment = follows.moment; reach = follows.reach; turned = follows.turned; closing = follows.closing; links = follows.links; tables = follows.tables; took = follows.took }; going = walks.going }
+      record { follows = record { moment = follows.moment; reach = follows.reach; turned = follows.turned; closing = follows.closing; links = follows.links; tables = follows.tables; took = follows.took; totals = follows.totals }; going = walks.going }
   walks_admitted listener (Served kind) =
       let follows = follows_opened (setting_of core.conf) core.seen t walks.follows (AtListener listener) kind k core.seen.greatest from rising above in
-      record { follows = record { moment = follows.moment; reach = follows.reach; turned = follows.turned; closing = follows.closing; links = follows.links; tables = follows.tables; took = follows.took }; going = walks.going }
+      record { follows = record { moment = follows.moment; reach = follows.reach; turned = follows.turned; closing = follows.closing; links = follows.links; tables = follows.tables; took = follows.took; totals = follows.totals }; going = walks.going }
 
   pub walks_opened : (listener : ℕ) (outcome : Admission) → outcome ≡ admitted core.conf.max_clients (clients_in core.seen.links) (kind_at (setting_of core.conf) listener)
       → Walks (record core { seen = admitted_in (setting_of core.conf) outcome k from core.seen }) (Opened (AtListener listener) (admission (setting_of core.conf) t listener) k from ∷ t)
@@ -265,10 +268,10 @@ module _ (core : CoreMeaning) (t : Trace) (walks : Walks core t) (k : ℕ) (from
       → Walks (record core { seen = admitted_in (setting_of core.conf) (joined_outcome uplink asked) k from (joined_core uplink) }) (Opened (ByUplink uplink) (joined_outcome uplink asked) k from ∷ t)
   walks_by uplink true =
       let follows = follows_opened (setting_of core.conf) core.seen t walks.follows (ByUplink uplink) (Uplink uplink) k core.seen.greatest from rising above in
-      record { follows = record { moment = follows.moment; reach = follows.reach; turned = follows.turned; closing = follows.closing; links = follows.links; tables = follows.tables; took = follows.took }; going = walks.going }
+      record { follows = record { moment = follows.moment; reach = follows.reach; turned = follows.turned; closing = follows.closing; links = follows.links; tables = follows.tables; took = follows.took; totals = follows.totals }; going = walks.going }
   walks_by uplink false =
       let follows = follows_unasked (setting_of core.conf) core.seen t walks.follows (ByUplink uplink) k core.seen.greatest from rising above in
-      record { follows = record { moment = follows.moment; reach = follows.reach; turned = follows.turned; closing = follows.closing; links = follows.links; tables = follows.tables; took = follows.took }; going = walks.going }
+      record { follows = record { moment = follows.moment; reach = follows.reach; turned = follows.turned; closing = follows.closing; links = follows.links; tables = follows.tables; took = follows.took; totals = follows.totals }; going = walks.going }
 
   pub walks_joined : (uplink : ℕ) (asked : Bool) → asked ≡ (acts_at (up.Joined uplink k) core.seen.moment core.seen.reach.uplinks).login
       → Walks (record core { seen = admitted_in (setting_of core.conf) (joined_outcome uplink asked) k from (joined_core uplink) }) (Opened (ByUplink uplink) (joined_admission (setting_of core.conf) t uplink k) k from ∷ t)
@@ -317,6 +320,7 @@ walks_no_end core t walks number links heard reach dead new forgotten reached =
         links = follows.links;
         tables = record { accepted = follows.tables.accepted; stations = follows.tables.stations; heard = remembers_no_end core.seen.heard t number dead follows.tables.heard };
         took = follows.took;
+        totals = follows.totals;
       };
       going = walks.going;
     })
@@ -459,18 +463,29 @@ follows_stop core conf stopped t ends closing heard reach walks same stops are f
     subst (λ (c : ConfSeen). Follows (setting_of c) (record core.seen { heard = heard; reach = reach; closing = closing }) (end_stopped stopped t)) same
     (stop_follows core stopped t ends closing heard reach walks stops are forgotten reached closed)
 
--- what a line of a datagram can't be changes nothing
-pub carried_quiet : (core : CoreMeaning) (from : Source) (session : Session) (answer : Option FilterAnswer) → IsDatagram from → core ≡ with_verdict from (LoggedIn session answer) core
-carried_quiet core (source.Link number) session answer datagram = absurd datagram
-carried_quiet core (source.Submit listener) session None datagram = refl
-carried_quiet core (source.Submit listener) session (Some answer) datagram = refl
-carried_quiet core (source.Peer peer) session None datagram = refl
-carried_quiet core (source.Peer peer) session (Some answer) datagram = refl
+-- what a line of a datagram comes to is no login and no filter
+abbrev pub is_carried : Verdict → Bool
+is_carried PassedOver = true
+is_carried (Refused why) = true
+is_carried (LoggedIn session answer) = false
+is_carried (Filtered answer) = false
+is_carried (Accepted parts line) = true
 
-pub carried_unset : (core : CoreMeaning) (from : Source) (answer : FilterAnswer) → IsDatagram from → core ≡ with_verdict from (Filtered answer) core
-carried_unset core (source.Link number) answer datagram = absurd datagram
-carried_unset core (source.Submit listener) answer datagram = refl
-carried_unset core (source.Peer peer) answer datagram = refl
+packet_carried : (now : ℕ) (accepted : List PacketSeen) (read : Result Parts Refusal) → is_carried (packet_verdict now accepted read) ≡ true
+packet_carried now accepted (Err why) = refl
+packet_carried now accepted (Ok parts) = by (is_duplicate now accepted parts)
+  where
+    by : (b : Bool) → is_carried (if b then Refused (refusal.Duplicate parts (text_of parts)) else Accepted parts (text_of parts)) ≡ true
+    by true = refl
+    by false = refl
+
+pub line_carried : (core : CoreMeaning) (from : Origin) (cut : Cut) → is_carried (verdict_of (carried_at from core) cut) ≡ true
+line_carried core from cut.Long = refl
+line_carried core from (cut.Line text) = by (is_comment text)
+  where
+    by : (b : Bool) → is_carried (if b then PassedOver else carried_verdict (carried_at from core) from text) ≡ true
+    by true = refl
+    by false = packet_carried core.seen.moment core.seen.accepted (read_and_routed core.conf.server from (logins_at core.seen.links) (parts_of text))
 
 -- ---- comment lines
 

@@ -39,8 +39,17 @@ use Rattle.link_queue.specs.Queues.{with_line as pushed}
 use Rattle.aprs_history.specs.Texts.{Text, TextLine, comment_line, first_line, is_shown, most_waiting, lines_of, opening_wants, plain, plain_line, refused_lines, relayed, reply_of, shown, shows_duplicates, text_to, waiting_lines, with_text_line, with_text_lines, wants, filter_reply, login_filter_reply, login_reply, refusal_reply, reply_lines}
 use Rattle.aprs_history.specs.Stands.{LinkSeen, link_seen, TookNoMore}
 use Rattle.server_core.specs.Pending.{with_line, pending_bytes}
-use Rattle.server_core.specs.LinkSteps.{picked_at, at_link, at_moment, with_answer, with_room, when_gone, with_taken, with_bytes, with_text, with_session, with_date, with_packet, with_places, with_shown, new_link_seen}
+use Rattle.server_core.specs.declared.link.SourcePlace.{SourcePlace}
+use Rattle.server_core.specs.LinkSteps.{has_room, is_shown_at, wants_packet, picked_at, at_link, at_moment, with_answer, with_room, when_gone, with_taken, with_bytes, with_text, with_session, with_date, with_packet, with_places, with_shown, new_link_seen}
 use Rattle.server_core.proofs.SightLemmas.{friends_later, login_later, places_kept, told_at}
+
+-- where a packet's source was last seen, whether it is a gate, and whether the packet was submitted here
+abbrev pub source_in : Trace → Source → Parts → SourcePlace
+source_in t from parts = record {
+  place = sighting (accepted_of t) (moment_of t) parts.source;
+  gate = is_gate_at (accepted_of t) (moment_of t) parts.source;
+  submitted = is_submitted t from;
+}
 
 pub map_through : {X Y : Type 0} (f : X → Y) (g : Y → Y) (h : X → Y) → ((x : X) → f x ≡ g (h x)) → (xs : List X) → map f xs ≡ map g (map h xs)
 map_through f g h same [] = refl
@@ -212,6 +221,23 @@ pushed_over line link now before after is queue same open' full =
     ∙ text_over line link open' (sym (ap (λ (q : Queued). length q.lines) queue) ∙ full)
     ∙ ap (with_text line) is
 
+-- whether a line fits, by the queue that it goes into
+pub fits_not_after : (link : LinkSeen) → link.over ≡ true → false ≡ has_room link
+fits_not_after link over = rw over refl
+
+pub fits_open : (link now : LinkSeen) (before : QueueSeen) → link ≡ now → plain_queue before ≡ link.queue → link.over ≡ false → (length before.lines ≡ most_waiting → ⊥) → true ≡ has_room now
+fits_open link now before is queue open' room =
+    let not_full : (length link.queue.lines == most_waiting) ≡ false =
+    false_from_ne_true _ (λ full. room (ap (λ (q : Queued). length q.lines) queue ∙ eqb-true (length link.queue.lines) most_waiting full)) in
+    let here : true ≡ has_room link = rw (open', not_full) refl in
+    here ∙ ap has_room is
+
+pub fits_not_full : (link now : LinkSeen) (before : QueueSeen) → link ≡ now → plain_queue before ≡ link.queue → link.over ≡ false → length before.lines ≡ most_waiting → false ≡ has_room now
+fits_not_full link now before is queue open' full =
+    let is_full : (length link.queue.lines == most_waiting) ≡ true = eq-eqb (length link.queue.lines) most_waiting (sym (ap (λ (q : Queued). length q.lines) queue) ∙ full) in
+    let here : false ≡ has_room link = rw (open', is_full) refl in
+    here ∙ ap has_room is
+
 -- another filter and a line more, in either order
 filter_then_text : (terms : List TermSeen) (friends : List (Option Seen)) (line : List ℕ) (link : LinkSeen)
     → record (with_text line link) { filter = terms; friends = friends } ≡ with_text line (record link { filter = terms; friends = friends })
@@ -364,6 +390,12 @@ module _ (s : Setting) where
       ∙ reply_shape base (accepted_of t) (moment_of t) (session_of t j) (filter_of t j) (text_to s t j) (taken_by t j) (took j) line (is_from j from)
 
   -- a duplicate, at a link that lives
+  pub shows_seen : (t : Trace) (from : Source) (j : ℕ) → is_live t j ≡ true → is_shown t from j ≡ is_shown_at from (link_seen s t j)
+  unfolding link_seen
+  shows_seen t from j live =
+      let shows = shows_duplicates (opening_of t j) (session_of t j) in
+      ap (λ b. not (is_from j from) && b && shows) live ∙ and_true (not (is_from j from)) shows
+
   pub shown_seen : (t : Trace) → TookNoMore s t → (from : Source) (cut : Cut) (parts : Parts) (line : List ℕ) (j : ℕ) → is_live t j ≡ true
       → link_seen s (Said from cut (Refused (refusal.Duplicate parts line)) ∷ t) j ≡ with_shown from line (link_seen s t j)
   unfolding link_seen
@@ -371,9 +403,8 @@ module _ (s : Setting) where
       let base = link_seen s t j in
       let packet = packet_of from (moment_of t) parts line in
       let shows = shows_duplicates (opening_of t j) (session_of t j) in
-      let same : is_shown t from j ≡ (not (is_from j from) && shows) = ap (λ b. not (is_from j from) && b && shows) live ∙ and_true (not (is_from j from)) shows in
       ap (λ b. keeping base (accepted_of t ++ []) (moment_of t) (if is_from j from then session_of t j else session_of t j) (if is_from j from then filter_of t j else filter_of t j)
-      (with_text_lines (taken_by t j) (if b then shown packet ∷ [] else []) (text_to s t j)) (taken_by t j)) same
+      (with_text_lines (taken_by t j) (if b then shown packet ∷ [] else []) (text_to s t j)) (taken_by t j)) (shows_seen t from j live)
       ∙ shown_shape base (accepted_of t) (moment_of t) (session_of t j) (filter_of t j) (text_to s t j) (taken_by t j) (took j) packet (is_from j from) (not (is_from j from) && shows)
 
   pub passed_seen : (t : Trace) (from : Source) (cut : Cut) (j : ℕ) → link_seen s (Said from cut PassedOver ∷ t) j ≡ link_seen s t j
@@ -403,31 +434,34 @@ module _ (s : Setting) where
       by (Uplink number) is = rw is refl
 
   -- an accepted packet, at a link that lives
-  pub accepted_seen : (t : Trace) → TookNoMore s t → (from : Source) (cut : Cut) (parts : Parts) (line : List ℕ) (hearers owed : List ℕ) (j : ℕ) → is_live t j ≡ true
+  pub wants_seen : (t : Trace) (from : Source) (parts : Parts) (line : List ℕ) (hearers owed : List ℕ) (j : ℕ) → is_live t j ≡ true
       → (is_client_link (opening_of t j) ≡ true → is_among j hearers ≡ is_to_heard t (packet_of from (moment_of t) parts line) j) → is_among j owed ≡ is_owed t (packet_of from (moment_of t) parts line) j
-      → link_seen s (Said from cut (Accepted parts line) ∷ t) j
-      ≡ with_packet (packet_of from (moment_of t) parts line) (record {
-        place = sighting (accepted_of t) (moment_of t) parts.source;
-        gate = is_gate_at (accepted_of t) (moment_of t) parts.source;
-        submitted = is_submitted t from;
-      }) hearers owed (link_seen s t j)
+      → wants t (packet_of from (moment_of t) parts line) j ≡ wants_packet (packet_of from (moment_of t) parts line) (source_in t from parts) hearers owed (link_seen s t j)
   unfolding link_seen
-  accepted_seen t took from cut parts line hearers owed j live heard due =
-      let base = link_seen s t j in
+  wants_seen t from parts line hearers owed j live heard due =
       let packet = packet_of from (moment_of t) parts line in
       let wanted : Bool → Bool = λ asked. opening_wants (opening_of t j) (is_some (session_of t j)) (is_submitted t from) (filter_passes t packet j || asked) in
       let asked : Bool → Bool → Bool = λ by_hearing by_courtesy. not (is_from j from) && wanted (is_to_login packet (session_of t j) || by_hearing || by_courtesy) in
       let lives : wants t packet j ≡ asked (is_to_heard t packet j) (is_owed t packet j) =
       ap (λ b. not (is_from j from) && b && wanted (is_asked t packet j)) live ∙ and_true (not (is_from j from)) (wanted (is_asked t packet j)) in
-      let same : wants t packet j ≡ asked (is_among j hearers) (is_among j owed) = ⊎_elim
+      ⊎_elim
       (λ client. lives ∙ ap (λ b. asked b (is_owed t packet j)) (sym (heard client)) ∙ ap (asked (is_among j hearers)) (sym due))
       (λ uplink. lives ∙ ap (λ b. not (is_from j from) && b) (unasked_same (opening_of t j) (is_some (session_of t j)) (is_submitted t from)
       (filter_passes t packet j || (is_to_login packet (session_of t j) || is_to_heard t packet j || is_owed t packet j))
       (filter_passes t packet j || (is_to_login packet (session_of t j) || is_among j hearers || is_among j owed)) uplink))
-      (cases_Bool (is_client_link (opening_of t j))) in
+      (cases_Bool (is_client_link (opening_of t j)))
+
+  pub accepted_seen : (t : Trace) → TookNoMore s t → (from : Source) (cut : Cut) (parts : Parts) (line : List ℕ) (hearers owed : List ℕ) (j : ℕ) → is_live t j ≡ true
+      → (is_client_link (opening_of t j) ≡ true → is_among j hearers ≡ is_to_heard t (packet_of from (moment_of t) parts line) j) → is_among j owed ≡ is_owed t (packet_of from (moment_of t) parts line) j
+      → link_seen s (Said from cut (Accepted parts line) ∷ t) j ≡ with_packet (packet_of from (moment_of t) parts line) (source_in t from parts) hearers owed (link_seen s t j)
+  unfolding link_seen
+  accepted_seen t took from cut parts line hearers owed j live heard due =
+      let base = link_seen s t j in
+      let packet = packet_of from (moment_of t) parts line in
+      let asked = wants_packet packet (source_in t from parts) hearers owed base in
       ap (λ b. keeping base (accepted_of t ++ packet ∷ []) (moment_of t) (if is_from j from then session_of t j else session_of t j) (if is_from j from then filter_of t j else filter_of t j)
-      (with_text_lines (taken_by t j) (if b then relayed packet ∷ [] else []) (text_to s t j)) (taken_by t j)) same
-      ∙ packet_shape base (accepted_of t) (moment_of t) (session_of t j) (filter_of t j) (text_to s t j) (taken_by t j) (took j) packet (is_from j from) (asked (is_among j hearers) (is_among j owed)) refl
+      (with_text_lines (taken_by t j) (if b then relayed packet ∷ [] else []) (text_to s t j)) (taken_by t j)) (wants_seen t from parts line hearers owed j live heard due)
+      ∙ packet_shape base (accepted_of t) (moment_of t) (session_of t j) (filter_of t j) (text_to s t j) (taken_by t j) (took j) packet (is_from j from) asked refl
 
   -- a round begins
   pub round_seen : (t : Trace) (j : ℕ) → link_seen s (RoundBegan ∷ t) j ≡ link_seen s t j

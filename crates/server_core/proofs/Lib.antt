@@ -1,4 +1,5 @@
 pub mod CoreLemmas
+pub mod CountLemmas
 pub mod FollowLemmas
 pub mod HeardLemmas
 pub mod LinkLemmas

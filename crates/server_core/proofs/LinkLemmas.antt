@@ -1,6 +1,8 @@
 -- A step at the link of one number, among links whose numbers rise.
 use Rattle.std.proofs.Common.{◌≡◌, ℕ, zero, suc, ◌+◌, ◌≤◌, ◌<◌, Bool, true, false, List, [], ◌∷◌, length, get_or, map, refl, sym, ap, ◌∙◌, subst, arith, eq-eqb, Some, None, slice_set, ⊎_elim, cond, nat_le, nat_lt, ◌||◌, ◌++◌, take, drop, add-one, filter, le_refl, take_all, append-nil, ◌==◌}
+use Rattle.std.specs.Int.{from_bool}
 use Rattle.std.specs.List.{insert, position, position_or_len, prefix_len, list_any, zip}
+use Rattle.std.proofs.lemmas.List.Filters.{length-filter_more}
 use Rattle.std.proofs.lemmas.Bool.{ltb-true, ltb-false, cases_Bool, false_from_ne_true, eqb-true, true≢false}
 use Rattle.std.proofs.lemmas.List.Sums.{passes_at_first, fails_before_first}
 use Rattle.std.proofs.lemmas.List.Folds.{list_any_none}
@@ -109,6 +111,23 @@ pub mapped_more : {X : Type 0} (f : X → X) (xs ys : List X) (i : ℕ) (new d :
 mapped_more f xs ys i new d lt so_far is =
     rw add-one (ap (λ zs. slice_set zs i new) so_far
     ∙ mapped_at f xs i new d lt (is ∙ ap f (ap (λ zs. get_or zs i d) so_far ∙ get_mapped f xs i d lt)))
+
+pub one_at_most : (b : Bool) (n i : ℕ) → n ≤ i → n + from_bool b ≤ i + 1
+one_at_most true n i le = omega arith
+one_at_most false n i le = omega arith
+
+bool_counts : (b : Bool) → from_bool b ≡ cond b 1 0
+bool_counts true = refl
+bool_counts false = refl
+
+-- one more of those that pass a test, where a list is changed from the front
+pub counted_more : {X : Type 0} (p : X → Bool) (f : X → X) (xs ys : List X) (i n : ℕ) (b : Bool) (d : X) → i < length xs → ys ≡ map f (take i xs) ++ drop i xs → n ≡ length (filter p (take i xs)) → b ≡ p (get_or ys i d)
+    → n + from_bool b ≡ length (filter p (take (i + 1) xs))
+counted_more p f xs ys i n b d lt so_far count is =
+    ap (λ m. n + m) (bool_counts b)
+    ∙ ap (λ m. m + cond b 1 0) count
+    ∙ ap (λ c. length (filter p (take i xs)) + cond c 1 0) (is ∙ ap p (ap (λ zs. get_or zs i d) so_far ∙ get_mapped f xs i d lt))
+    ∙ sym (length-filter_more p xs i d lt)
 
 -- the same for two lists side by side, of which the second is changed
 zipped_at : {X Y : Type 0} (f : X × Y → Y) (xs : List X) (ys : List Y) (i : ℕ) (x : X) (y new : Y) → i < length xs → length ys ≡ length xs → new ≡ f (get_or xs i x, get_or ys i y)

@@ -10,6 +10,7 @@ use Rattle.heard_routing.proofs.EntryLemmas.{once_none}
 use Rattle.station_table.specs.Last.{Agrees}
 use Rattle.station_table.specs.Stations.{no_stations}
 use Rattle.station_table.proofs.LastSeen.{new_agrees}
+use Rattle.aprs_history.specs.Counts.{totals_of}
 use Rattle.aprs_history.specs.Setting.{Setting}
 use Rattle.aprs_history.specs.Trace.{Trace, served_links, is_member}
 use Rattle.aprs_history.specs.Links.{taken_by}
@@ -63,6 +64,7 @@ stands_took core links k offered n bytes h size stands part pending new =
         links = new ∙ ap (λ m. map (at_link k (with_taken m n)) core.seen.links) (sym size) ∙ follows.links;
         tables = follows.tables;
         took = follows.took;
+        totals = follows.totals;
       };
       greatest = stands.greatest;
       stopped = stands.stopped;
@@ -76,7 +78,7 @@ stands_gone core links k bytes h stands new =
     let follows = follows_lost s core.seen (trace_of s h) stands.follows k in
     record {
       finished = stands.finished;
-      follows = record { moment = follows.moment; reach = follows.reach; turned = follows.turned; closing = follows.closing; links = new ∙ follows.links; tables = follows.tables; took = follows.took };
+      follows = record { moment = follows.moment; reach = follows.reach; turned = follows.turned; closing = follows.closing; links = new ∙ follows.links; tables = follows.tables; took = follows.took; totals = follows.totals };
       greatest = stands.greatest;
       stopped = stands.stopped;
     }
@@ -94,9 +96,9 @@ stands_listening s core (spec ∷ specs) n h stands = stands_listening s core sp
 
 -- nothing has happened
 pub stands_new : (s : Setting) (core : CoreSeen) (hasher : RandomState) → core.moment ≡ 0 → core.links ≡ [] → core.turned ≡ [] → core.closing ≡ [] → core.accepted ≡ [] → core.stations ≡ no_stations hasher → core.heard ≡ nothing hasher
-    → core.reach ≡ reach_of s [] → core.greatest ≡ 0 → core.stopped ≡ false → StandsFor s core []
+    → core.reach ≡ reach_of s [] → core.greatest ≡ 0 → core.stopped ≡ false → core.totals ≡ totals_of s [] → StandsFor s core []
 unfolding trace_of
-stands_new s core hasher moment links turned closing accepted stations heard reach greatest stopped = record {
+stands_new s core hasher moment links turned closing accepted stations heard reach greatest stopped totals = record {
   finished = refl;
   follows = record {
     moment = moment;
@@ -111,6 +113,7 @@ stands_new s core hasher moment links turned closing accepted stations heard rea
           (record { once_heard = once_none [] refl; once_promised = once_none [] refl; heard = λ l call. refl; promised = λ l sender. refl });
     };
     took = λ k. omega arith;
+    totals = totals;
   };
   greatest = greatest;
   stopped = stopped;

@@ -6,6 +6,7 @@ use Rattle.aprs_base.specs.declared.texts.Addr.{Addr}
 use Rattle.aprs_base.specs.declared.cutting.Cut.{Cut}
 use Rattle.aprs_base.specs.declared.packets.Parts.{Parts}
 use Rattle.aprs_base.specs.declared.packets.Source.{Source}
+use Rattle.aprs_base.specs.declared.totals.Totals.{Totals}
 use Rattle.aprs_base.specs.declared.packets.Source.TheVariants as source
 use Rattle.heard_routing.specs.Heard.{HeardSeen, without_link}
 use Rattle.station_table.specs.Last.{Agrees}
@@ -32,13 +33,15 @@ use Rattle.aprs_history.specs.Messages.{heard_of, promise_of}
 use Rattle.aprs_history.specs.Sights.{friend_in, is_gate_at, sighting}
 use Rattle.link_queue.specs.Lines.{text_bytes}
 use Rattle.aprs_history.specs.Texts.{comment_line, first_line, lines_of, over_links, refused_lines, reply_lines, text_to, added_by, login_reply, refusal_reply}
+use Rattle.aprs_history.specs.Counts.{is_duplicate_refusal, is_other_refusal, put_to_all, totals_of}
 use Rattle.aprs_history.specs.Stands.{LinkSeen, CoreSeen, ReachSeen, link_seen, reach_of, TookNoMore, Follows, Keeps, Remembers}
 use Rattle.aprs_history.specs.Dates.{comment_text}
 use Rattle.aprs_history.specs.History.{end_all, end_each, end_gone, refused_links, refused_reason}
-use Rattle.server_core.specs.LinkSteps.{at_source, client_at, client_kept, ended_all, submitted_from, with_date, with_refusal, with_shown, filters_at, filters_kept, forgotten_all, hearers_of, is_lost, owed_in, receiver_of, after_answer, after_login, after_login_answer, after_packet, after_verdict, found_in, has_that, with_answer, with_reply, at_link, at_moment, with_room, when_gone, with_taken, with_bytes, with_text, with_session, with_packet, new_link_seen, numbers, is_there, is_another, is_in_time, is_late_link, is_none_of, is_overfull, Rises}
+use Rattle.server_core.specs.LinkSteps.{answer_counted, refusal_counted, takes_packet, takes_shown, with_accepted, with_duplicate, with_refused, at_source, client_at, client_kept, ended_all, submitted_from, with_date, with_refusal, with_shown, filters_at, filters_kept, forgotten_all, hearers_of, is_lost, owed_in, receiver_of, after_answer, after_login, after_login_answer, after_packet, after_verdict, found_in, has_that, with_answer, with_reply, at_link, at_moment, with_room, when_gone, with_taken, with_bytes, with_text, with_session, with_packet, new_link_seen, numbers, is_there, is_another, is_in_time, is_late_link, is_none_of, is_overfull, Rises}
 use Rattle.server_core.specs.declared.link.SourcePlace.{SourcePlace}
 use Rattle.server_core.specs.declared.link.Timeouts.{Timeouts}
 use Rattle.aprs_history.proofs.EntryLemmas.{IsSaidBy}
+use Rattle.server_core.proofs.CountLemmas.{accepted_puts, accepted_totals, answer_totals, duplicate_totals, login_totals, other_totals, quiet_totals, shown_puts}
 use Rattle.server_core.proofs.SightLemmas.{answer_same, friends_found, map_same, sighting_found, source_known}
 use Rattle.server_core.proofs.MemberLemmas.{eqb_turned, member_filtered, member_later}
 use Rattle.server_core.proofs.HeardLemmas.{Speaks, hearers_are, owed_are, remembers_accepted, remembers_all_ended, remembers_ended, remembers_opened, remembers_unserved}
@@ -158,6 +161,7 @@ module _ (s : Setting) (core : CoreSeen) (t : Trace) (follows : Follows s core t
 
   -- a round begins
   pub follows_began : Follows s (record core { turned = []; closing = []; reach = record core.reach { dial = None; casts = [] } }) (RoundBegan ∷ t)
+  unfolding totals_of
   follows_began = record {
     moment = follows.moment;
     reach = ap (λ (reach : ReachSeen). record reach { dial = None; casts = [] }) follows.reach;
@@ -166,9 +170,11 @@ module _ (s : Setting) (core : CoreSeen) (t : Trace) (follows : Follows s core t
     links = follows.links ∙ sym (map_on (link_seen s (RoundBegan ∷ t)) (link_seen s t) (served_links t) (λ j member. round_seen s t j));
     tables = same_tables (RoundBegan ∷ t) refl (λ l. refl) (λ l. refl) (λ l call. refl) (λ l sender. refl);
     took = follows.took;
+    totals = follows.totals;
   }
 
   pub follows_ticked : (m : ℕ) → Follows s (with_moment (max (min m last_moment) core.moment) core) (Ticked m ∷ t)
+  unfolding totals_of
   follows_ticked m = record {
     moment = ap (max (min m last_moment)) follows.moment;
     reach = follows.reach;
@@ -179,9 +185,11 @@ module _ (s : Setting) (core : CoreSeen) (t : Trace) (follows : Follows s core t
         ∙ sym (map_through (link_seen s (Ticked m ∷ t)) (at_moment (moment_of (Ticked m ∷ t))) (link_seen s t) (ticked_seen s t m) (served_links t));
     tables = same_tables (Ticked m ∷ t) refl (λ l. refl) (λ l. refl) (λ l call. refl) (λ l sender. refl);
     took = follows.took;
+    totals = follows.totals;
   }
 
   pub follows_roomed : (k : ℕ) → Follows s (with_links (map (at_link k with_room) core.links) core) (Roomed k ∷ t)
+  unfolding totals_of
   follows_roomed k = record {
     moment = follows.moment;
     reach = follows.reach;
@@ -190,9 +198,11 @@ module _ (s : Setting) (core : CoreSeen) (t : Trace) (follows : Follows s core t
     links = ap (map (at_link k with_room)) follows.links ∙ sym (map_through (link_seen s (Roomed k ∷ t)) (at_link k with_room) (link_seen s t) (roomed_seen s t k) (served_links t));
     tables = same_tables (Roomed k ∷ t) refl (λ l. refl) (λ l. refl) (λ l call. refl) (λ l sender. refl);
     took = follows.took;
+    totals = follows.totals;
   }
 
   pub follows_lost : (k : ℕ) → Follows s (with_links (map (at_link k when_gone) core.links) core) (Lost k ∷ t)
+  unfolding totals_of
   follows_lost k = record {
     moment = follows.moment;
     reach = follows.reach;
@@ -201,10 +211,12 @@ module _ (s : Setting) (core : CoreSeen) (t : Trace) (follows : Follows s core t
     links = ap (map (at_link k when_gone)) follows.links ∙ sym (map_through (link_seen s (Lost k ∷ t)) (at_link k when_gone) (link_seen s t) (lost_seen s t k) (served_links t));
     tables = same_tables (Lost k ∷ t) refl (λ l. refl) (λ l. refl) (λ l call. refl) (λ l sender. refl);
     took = follows.took;
+    totals = follows.totals;
   }
 
   pub follows_took : (k offered n : ℕ) → taken_by t k + n ≤ length (text_bytes (lines_of s t k))
       → Follows s (with_links (map (at_link k (with_taken offered n)) core.links) core) (Took k offered n ∷ t)
+  unfolding totals_of
   follows_took k offered n le = record {
     moment = follows.moment;
     reach = follows.reach;
@@ -214,6 +226,7 @@ module _ (s : Setting) (core : CoreSeen) (t : Trace) (follows : Follows s core t
         ∙ sym (map_through (link_seen s (Took k offered n ∷ t)) (at_link k (with_taken offered n)) (link_seen s t) (took_seen s t k offered n) (served_links t));
     tables = same_tables (Took k offered n ∷ t) refl (λ l. refl) (λ l. refl) (λ l call. refl) (λ l sender. refl);
     took = took_took s t follows.took k offered n le;
+    totals = follows.totals;
   }
 
   -- what there is for other servers, once a step was taken at the moment
@@ -224,6 +237,7 @@ module _ (s : Setting) (core : CoreSeen) (t : Trace) (follows : Follows s core t
   pub follows_brought : (k : ℕ) (bytes : List ℕ)
       → Follows s (with_reach (record core.reach { uplinks = uplinks_after (up.Heard k) core.moment core.reach.uplinks })
       (with_links (map (at_link k (with_bytes core.moment (held_after (brought_by t k ++ bytes)))) core.links) core)) (Brought k bytes ∷ t)
+  unfolding totals_of
   follows_brought k bytes = record {
     moment = follows.moment;
     reach = stepped_reach (uplinks_after (up.Heard k));
@@ -235,6 +249,7 @@ module _ (s : Setting) (core : CoreSeen) (t : Trace) (follows : Follows s core t
         (brought_seen s t k bytes) (served_links t));
     tables = same_tables (Brought k bytes ∷ t) refl (λ l. refl) (λ l. refl) (λ l call. refl) (λ l sender. refl);
     took = follows.took;
+    totals = follows.totals;
   }
 
   -- an uplink may be dialled
@@ -242,6 +257,7 @@ module _ (s : Setting) (core : CoreSeen) (t : Trace) (follows : Follows s core t
     uplinks = uplinks_after up.Tick core.moment core.reach.uplinks;
     dial = (acts_at up.Tick core.moment core.reach.uplinks).dial;
   }) core) (Looked ∷ t)
+  unfolding totals_of
   follows_looked = record {
     moment = follows.moment;
     reach = ap (λ m. record core.reach { uplinks = uplinks_after up.Tick m core.reach.uplinks; dial = (acts_at up.Tick m core.reach.uplinks).dial }) follows.moment
@@ -251,9 +267,11 @@ module _ (s : Setting) (core : CoreSeen) (t : Trace) (follows : Follows s core t
     links = follows.links ∙ sym (map_on (link_seen s (Looked ∷ t)) (link_seen s t) (served_links t) (λ j member. looked_seen s t j));
     tables = same_tables (Looked ∷ t) refl (λ l. refl) (λ l. refl) (λ l call. refl) (λ l sender. refl);
     took = follows.took;
+    totals = follows.totals;
   }
 
   pub follows_unjoined : (uplink : ℕ) → Follows s (with_reach (record core.reach { uplinks = uplinks_after (up.Unjoined uplink) core.moment core.reach.uplinks }) core) (Unjoined uplink ∷ t)
+  unfolding totals_of
   follows_unjoined uplink = record {
     moment = follows.moment;
     reach = stepped_reach (uplinks_after (up.Unjoined uplink));
@@ -262,6 +280,7 @@ module _ (s : Setting) (core : CoreSeen) (t : Trace) (follows : Follows s core t
     links = follows.links ∙ sym (map_on (link_seen s (Unjoined uplink ∷ t)) (link_seen s t) (served_links t) (λ j member. unjoined_seen s t uplink j));
     tables = same_tables (Unjoined uplink ∷ t) refl (λ l. refl) (λ l. refl) (λ l call. refl) (λ l sender. refl);
     took = follows.took;
+    totals = follows.totals;
   }
 
   -- a line that isn't accepted is for no peer
@@ -286,12 +305,13 @@ module _ (s : Setting) (core : CoreSeen) (t : Trace) (follows : Follows s core t
     links = follows.links ∙ sym (map_on (link_seen s (Said from cut PassedOver ∷ t)) (link_seen s t) (served_links t) (λ j member. passed_seen s t from cut j));
     tables = same_tables (Said from cut PassedOver ∷ t) (append-nil (accepted_of t)) (λ l. refl) (λ l. refl) (λ l call. refl) (λ l sender. refl);
     took = took_said s t follows.took from cut PassedOver;
+    totals = follows.totals ∙ sym (quiet_totals s t from cut PassedOver refl refl refl (λ j. refl));
   }
 
   -- a line that is refused, with a reply or without
-  refused_as : (from : Source) (cut : Cut) (why : Refusal) (links : List LinkSeen) → links ≡ map (link_seen s (Said from cut (Refused why) ∷ t)) (served_links t)
-      → Follows s (with_links links core) (Said from cut (Refused why) ∷ t)
-  refused_as from cut why links are = record {
+  refused_as : (from : Source) (cut : Cut) (why : Refusal) (links : List LinkSeen) (totals : Totals) → links ≡ map (link_seen s (Said from cut (Refused why) ∷ t)) (served_links t)
+      → totals ≡ totals_of s (Said from cut (Refused why) ∷ t) → Follows s (record core { links = links; totals = totals }) (Said from cut (Refused why) ∷ t)
+  refused_as from cut why links totals are counts = record {
     moment = follows.moment;
     reach = no_casts;
     turned = follows.turned;
@@ -299,35 +319,55 @@ module _ (s : Setting) (core : CoreSeen) (t : Trace) (follows : Follows s core t
     links = are;
     tables = same_tables (Said from cut (Refused why) ∷ t) (append-nil (accepted_of t)) (λ l. refl) (λ l. refl) (λ l call. refl) (λ l sender. refl);
     took = took_said s t follows.took from cut (Refused why);
+    totals = counts;
   }
 
-  follows_told : (from : Source) (cut : Cut) (why : Refusal) (reply : Option (List ℕ)) → ((j : ℕ) → refused_lines t from why j ≡ (if is_from j from then reply_lines (refusal_reply why) else [])) → reply ≡ refusal_reply why
-      → Follows s (with_links (with_reply from reply core.links) core) (Said from cut (Refused why) ∷ t)
-  follows_told from cut why None plain none =
-      refused_as from cut why core.links
+  refused_totals : (from : Source) (cut : Cut) (why : Refusal) → is_duplicate_refusal why ≡ false → is_other_refusal why ≡ true
+      → ((j : ℕ) → refused_lines t from why j ≡ (if is_from j from then reply_lines (refusal_reply why) else [])) → with_refused core.totals ≡ totals_of s (Said from cut (Refused why) ∷ t)
+  refused_totals from cut why single other plain = ap with_refused follows.totals ∙ other_totals s t from cut why single other plain
+
+  follows_told : (from : Source) (cut : Cut) (why : Refusal) (reply : Option (List ℕ)) → is_duplicate_refusal why ≡ false → is_other_refusal why ≡ true
+      → ((j : ℕ) → refused_lines t from why j ≡ (if is_from j from then reply_lines (refusal_reply why) else [])) → reply ≡ refusal_reply why
+      → Follows s (record core { links = with_reply from reply core.links; totals = with_refused core.totals }) (Said from cut (Refused why) ∷ t)
+  follows_told from cut why None single other plain none =
+      refused_as from cut why core.links (with_refused core.totals)
       (follows.links ∙ sym (map_on (link_seen s (Said from cut (Refused why) ∷ t)) (link_seen s t) (served_links t) (λ j member. refused_seen s t from cut why j (plain j) none)))
-  follows_told from cut why (Some line) plain some =
-      refused_as from cut why (at_source from (with_text line) core.links)
+      (refused_totals from cut why single other plain)
+  follows_told from cut why (Some line) single other plain some =
+      refused_as from cut why (at_source from (with_text line) core.links) (with_refused core.totals)
       (stepped_at from (with_text line) (Said from cut (Refused why) ∷ t) (λ j. replied_seen s t follows.took from cut why line j (plain j) some))
+      (refused_totals from cut why single other plain)
+
+  -- the duplicate is put into the texts of the links that are shown such and have room
+  shown_totals : stopped_links t ≡ [] → (from : Source) (cut : Cut) (parts : Parts) (line : List ℕ)
+      → with_duplicate (length (filter (takes_shown from) core.links)) core.totals ≡ totals_of s (Said from cut (Refused (refusal.Duplicate parts line)) ∷ t)
+  shown_totals going from cut parts line =
+      ap (λ links. with_duplicate (length (filter (takes_shown from) links)) core.totals) (follows.links ∙ ap (λ stopped. map (link_seen s t) (stopped ++ live_links t)) going)
+      ∙ ap (λ n. with_duplicate n core.totals) (sym (shown_puts s t from cut parts line))
+      ∙ ap (with_duplicate (put_to_all s (Said from cut (Refused (refusal.Duplicate parts line))) t (live_links t))) follows.totals
+      ∙ duplicate_totals s t from cut parts line
 
   follows_shown : stopped_links t ≡ [] → (from : Source) (cut : Cut) (parts : Parts) (line : List ℕ)
-      → Follows s (with_links (map (with_shown from line) core.links) core) (Said from cut (Refused (refusal.Duplicate parts line)) ∷ t)
+      → Follows s (record core { links = map (with_shown from line) core.links; totals = with_duplicate (length (filter (takes_shown from) core.links)) core.totals })
+      (Said from cut (Refused (refusal.Duplicate parts line)) ∷ t)
   follows_shown going from cut parts line =
       let u = Said from cut (Refused (refusal.Duplicate parts line)) ∷ t in
-      refused_as from cut (refusal.Duplicate parts line) (map (with_shown from line) core.links)
+      refused_as from cut (refusal.Duplicate parts line) (map (with_shown from line) core.links) (with_duplicate (length (filter (takes_shown from) core.links)) core.totals)
       (ap (map (with_shown from line)) follows.links ∙ map_twice (with_shown from line) (link_seen s t) (served_links t)
       ∙ sym (map_on (link_seen s u) (λ j. with_shown from line (link_seen s t j)) (served_links t)
       (λ j member. shown_seen s t follows.took from cut parts line j (subst (λ stopped. is_member j (stopped ++ live_links t) ≡ true) going member))))
+      (shown_totals going from cut parts line)
 
-  follows_refused : stopped_links t ≡ [] → (from : Source) (cut : Cut) (why : Refusal) → Follows s (with_links (with_refusal from why core.links) core) (Said from cut (Refused why) ∷ t)
+  follows_refused : stopped_links t ≡ [] → (from : Source) (cut : Cut) (why : Refusal)
+      → Follows s (record core { links = with_refusal from why core.links; totals = refusal_counted from why core.links core.totals }) (Said from cut (Refused why) ∷ t)
   follows_refused going from cut (refusal.Duplicate parts line) = follows_shown going from cut parts line
-  follows_refused going from cut refusal.Long = follows_told from cut refusal.Long None (λ j. refl) refl
-  follows_refused going from cut (refusal.Login fault) = follows_told from cut (refusal.Login fault) (refusal_reply (refusal.Login fault)) (λ j. refl) refl
-  follows_refused going from cut refusal.OwnName = follows_told from cut refusal.OwnName (refusal_reply refusal.OwnName) (λ j. refl) refl
-  follows_refused going from cut refusal.ReadOnly = follows_told from cut refusal.ReadOnly None (λ j. refl) refl
-  follows_refused going from cut refusal.Stranger = follows_told from cut refusal.Stranger None (λ j. refl) refl
-  follows_refused going from cut (refusal.Packet fault) = follows_told from cut (refusal.Packet fault) None (λ j. refl) refl
-  follows_refused going from cut (refusal.Path drop') = follows_told from cut (refusal.Path drop') None (λ j. refl) refl
+  follows_refused going from cut refusal.Long = follows_told from cut refusal.Long None refl refl (λ j. refl) refl
+  follows_refused going from cut (refusal.Login fault) = follows_told from cut (refusal.Login fault) (refusal_reply (refusal.Login fault)) refl refl (λ j. refl) refl
+  follows_refused going from cut refusal.OwnName = follows_told from cut refusal.OwnName (refusal_reply refusal.OwnName) refl refl (λ j. refl) refl
+  follows_refused going from cut refusal.ReadOnly = follows_told from cut refusal.ReadOnly None refl refl (λ j. refl) refl
+  follows_refused going from cut refusal.Stranger = follows_told from cut refusal.Stranger None refl refl (λ j. refl) refl
+  follows_refused going from cut (refusal.Packet fault) = follows_told from cut (refusal.Packet fault) None refl refl (λ j. refl) refl
+  follows_refused going from cut (refusal.Path drop') = follows_told from cut (refusal.Path drop') None refl refl (λ j. refl) refl
 
   -- where the calls of terms are found is where the trace says that they were last seen
   answers_agree : (from : Source) (answer : FilterAnswer) (links : List LinkSeen)
@@ -349,6 +389,7 @@ module _ (s : Setting) (core : CoreSeen) (t : Trace) (follows : Follows s core t
         ∙ stepped_at from (with_answer (friend_in (accepted_of t) (moment_of t)) answer) (Said from cut (Filtered answer) ∷ t) (answered_seen s t follows.took from cut answer);
     tables = same_tables (Said from cut (Filtered answer) ∷ t) (append-nil (accepted_of t)) (λ l. refl) (λ l. refl) (λ l call. refl) (λ l sender. refl);
     took = took_said s t follows.took from cut (Filtered answer);
+    totals = ap (answer_counted answer) follows.totals ∙ answer_totals s t from cut answer;
   }
 
   at_source_twice : (from : Source) (g h : LinkSeen → LinkSeen) → ((link : LinkSeen) → (h link).link ≡ link.link) → (links : List LinkSeen)
@@ -388,6 +429,7 @@ module _ (s : Setting) (core : CoreSeen) (t : Trace) (follows : Follows s core t
         links = links;
         tables = same_tables (Said from cut (LoggedIn session None) ∷ t) (append-nil (accepted_of t)) (λ l. refl) (λ l. refl) (λ l call. refl) (λ l sender. refl);
         took = took_said s t follows.took from cut (LoggedIn session None);
+        totals = follows.totals ∙ login_totals s t from cut session None;
       }
       logged_in (Some given) links = record {
         moment = follows.moment;
@@ -397,6 +439,7 @@ module _ (s : Setting) (core : CoreSeen) (t : Trace) (follows : Follows s core t
         links = links;
         tables = same_tables (Said from cut (LoggedIn session (Some given)) ∷ t) (append-nil (accepted_of t)) (λ l. refl) (λ l. refl) (λ l call. refl) (λ l sender. refl);
         took = took_said s t follows.took from cut (LoggedIn session (Some given));
+        totals = ap (answer_counted given) follows.totals ∙ login_totals s t from cut session (Some given);
       }
 
   -- which ports have filters, of the links that live and of others
@@ -454,6 +497,15 @@ module _ (s : Setting) (core : CoreSeen) (t : Trace) (follows : Follows s core t
           heard = remembers_accepted core.heard t follows.tables.heard core.links from cut parts line (speaks going from says) (filters_live going) (filters_nowhere going);
         };
         took = took_said s t follows.took from cut (Accepted parts line);
+        totals = ap (λ place. with_accepted (length (filter (takes_packet packet place hearers owed) core.links)) core.totals)
+            (source_known (record core { moment = moment_of t }) (accepted_of t) (moment_of t) refl follows.tables.stations from parts.source)
+            ∙ ap (λ b. with_accepted (length (filter (takes_packet packet (place_of b) hearers owed) core.links)) core.totals) (submitted_as going from says)
+            ∙ ap (λ links. with_accepted (length (filter (takes_packet packet source hearers owed) links)) core.totals) (live_now going)
+            ∙ ap (λ n. with_accepted n core.totals) (sym (accepted_puts s t from cut parts line hearers owed
+            (λ j here client. hearers_are core.heard t follows.tables.heard packet j (ap (λ b. b && is_client_link (opening_of t j)) here ∙ client))
+            (λ j here. owed_are core.heard t follows.tables.heard packet j here)))
+            ∙ ap (with_accepted (put_to_all s (Said from cut (Accepted parts line)) t (live_links t))) follows.totals
+            ∙ accepted_totals s t from cut parts line;
       }
 
   -- whatever becomes of a line
@@ -489,6 +541,7 @@ module _ (s : Setting) (core : CoreSeen) (t : Trace) (follows : Follows s core t
   -- a link that is served
   pub follows_opened : (door : Door) (kind : LinkKind) (k high : ℕ) (from : Addr) → Rises 0 (numbers core.links) high → high < k
       → Follows s (with_reach (reach_with door k) (with_links (core.links ++ new_link_seen k (record { kind = kind; from = from; moment = core.moment }) (first_line s kind).line ∷ []) core)) (Opened door (Served kind) k from ∷ t)
+  unfolding totals_of
   follows_opened door kind k high from rises above =
       let seen = link_seen s (Opened door (Served kind) k from ∷ t) in
       let new : ℕ → LinkSeen = λ m. new_link_seen k (record { kind = kind; from = from; moment = m }) (first_line s kind).line in
@@ -509,11 +562,13 @@ module _ (s : Setting) (core : CoreSeen) (t : Trace) (follows : Follows s core t
           heard = remembers_opened core.heard t door kind k from (not_yet k high rises above) follows.tables.heard;
         };
         took = took_opened s t follows.took door (Served kind) k from;
+        totals = follows.totals;
       }
 
   -- a link that comes where none is served, as many are there as may, or nobody asked for it
   follows_turned : (door : Door) (admission : Admission) (k high : ℕ) (from : Addr) → opened_link admission k ≡ [] → Rises 0 (numbers core.links) high → high < k
       → Follows s (with_reach (reach_with door k) (record core { turned = turned_links (Opened door admission k from ∷ t) })) (Opened door admission k from ∷ t)
+  unfolding totals_of
   follows_turned door admission k high from none rises above =
       let seen = link_seen s (Opened door admission k from ∷ t) in
       record {
@@ -529,6 +584,7 @@ module _ (s : Setting) (core : CoreSeen) (t : Trace) (follows : Follows s core t
           heard = remembers_unserved core.heard t door admission k from none (not_yet k high rises above) follows.tables.heard;
         };
         took = took_opened s t follows.took door admission k from;
+        totals = follows.totals;
       }
 
   pub follows_unserved : (door : Door) (k high : ℕ) (from : Addr) → Rises 0 (numbers core.links) high → high < k → Follows s (with_reach (reach_with door k) core) (Opened door NoPort k from ∷ t)
@@ -550,6 +606,7 @@ module _ (s : Setting) (core : CoreSeen) (t : Trace) (follows : Follows s core t
 
   -- the clients that live are told the date
   pub follows_dated : stopped_links t ≡ [] → (moment : ℕ) → Follows s (with_links (map (with_date (comment_text s.server moment)) core.links) core) (Dated moment ∷ t)
+  unfolding totals_of
   follows_dated going moment =
       let told = with_date (comment_text s.server moment) in
       record {
@@ -562,6 +619,7 @@ module _ (s : Setting) (core : CoreSeen) (t : Trace) (follows : Follows s core t
             (λ j member. dated_seen s t follows.took moment j (subst (λ stopped. is_member j (stopped ++ live_links t) ≡ true) going member)));
         tables = same_tables (Dated moment ∷ t) refl (λ l. refl) (λ l. refl) (λ l call. refl) (λ l sender. refl);
         took = took_dated s t follows.took moment;
+        totals = follows.totals;
       }
 
   pub filter_seen : (p : LinkSeen → Bool) (q : ℕ → Bool) (ks : List ℕ) → ((j : ℕ) → p (link_seen s t j) ≡ q j) → filter p (map (link_seen s t) ks) ≡ map (link_seen s t) (filter q ks)
@@ -586,6 +644,7 @@ module _ (s : Setting) (core : CoreSeen) (t : Trace) (follows : Follows s core t
 
   pub follows_ended : stopped_links t ≡ [] → (k : ℕ) → Follows s (with_reach (record core.reach { uplinks = uplinks_after (up.Ended k) core.moment core.reach.uplinks })
       (with_heard (without_link k core.heard) (with_links (filter (is_another k) core.links) core))) (Ended k ByPeer ∷ t)
+  unfolding totals_of
   follows_ended going k = record {
     moment = follows.moment;
     reach = stepped_reach (uplinks_after (up.Ended k));
@@ -598,6 +657,7 @@ module _ (s : Setting) (core : CoreSeen) (t : Trace) (follows : Follows s core t
         ∙ ap (λ stopped. map (link_seen s (Ended k ByPeer ∷ t)) (stopped ++ filter (is_other k) (live_links t))) (sym (append-nil (stopped_links t) ∙ going));
     tables = record { accepted = follows.tables.accepted; stations = follows.tables.stations; heard = remembers_ended core.heard t k ByPeer follows.tables.heard };
     took = follows.took;
+    totals = follows.totals;
   }
 
 -- ---- several links end
@@ -646,6 +706,10 @@ took_after s reason ks t took j =
     let taken = same_after (λ (u : Trace). taken_by u j) (λ k why t. refl) reason ks t in
     let lines = same_after (λ (u : Trace). lines_of s u j) (λ k why t. refl) reason ks t in
     subst (λ n. n ≤ length (text_bytes (lines_of s (end_each reason ks t) j))) (sym taken) (subst (λ ls. taken_by t j ≤ length (text_bytes ls)) (sym lines) (took j))
+
+totals_after : (s : Setting) (reason : ℕ → EndReason) (ks : List ℕ) (t : Trace) → totals_of s (end_each reason ks t) ≡ totals_of s t
+unfolding totals_of
+totals_after s = same_after (totals_of s) (λ k why t. refl)
 
 -- ends that no stop makes
 pub going_after : (reason : ℕ → EndReason) → ((k : ℕ) → stopped_link (reason k) k ≡ []) → (ks : List ℕ) (t : Trace) → stopped_links (end_each reason ks t) ≡ stopped_links t
@@ -812,6 +876,7 @@ module _ (s : Setting) (core : CoreSeen) (t : Trace) (follows : Follows s core t
           heard = remembers_all_ended reason ks core.heard t follows.tables.heard;
         };
         took = took_after s reason ks t follows.took;
+        totals = follows.totals ∙ sym (totals_after s reason ks t);
       }
 
   -- the links that were found gone end as a round begins
@@ -871,4 +936,5 @@ module _ (s : Setting) (core : CoreSeen) (t : Trace) (follows : Follows s core t
           heard = remembers_all_ended stops (live_links t) core.heard t follows.tables.heard;
         };
         took = took_after s stops (live_links t) t follows.took;
+        totals = follows.totals ∙ sym (totals_after s stops (live_links t) t);
       })

@@ -1,8 +1,9 @@
 -- What each happening changes of a link.
-use Rattle.std.specs.Prelude.{◌≡◌, ℕ, ◌<◌, ◌==◌, ◌≤◌, ◌-◌, Bool, true, false, is_none, nat_le, nat_lt, List, [], ◌∷◌, ◌++◌, length, map, filter, not, ◌&&◌, ◌||◌, is_some, Option, Some, None, if◌then◌else◌, ⊤}
+use Rattle.std.specs.Prelude.{◌≡◌, ℕ, ◌+◌, ◌^◌, min, ◌<◌, ◌==◌, ◌≤◌, ◌-◌, Bool, true, false, is_none, nat_le, nat_lt, List, [], ◌∷◌, ◌++◌, length, map, filter, not, ◌&&◌, ◌||◌, is_some, Option, Some, None, if◌then◌else◌, ⊤}
 use Rattle.std.specs.List.{list_any, flat_map, zip}
 use Rattle.std.specs.Option.{option_and_then}
 use Rattle.aprs_base.specs.PacketSeen.{PacketSeen}
+use Rattle.aprs_base.specs.declared.totals.Totals.{Totals}
 use Rattle.aprs_base.specs.Bytes.{is_call, is_station}
 use Rattle.aprs_base.specs.Held.{Held, held_after}
 use Rattle.filter_lang.specs.Terms.{TermSeen}
@@ -59,6 +60,10 @@ with_taken offered n link = record link { queue = without_bytes link.queue n; bl
 
 abbrev pub with_bytes : ℕ → Held → LinkSeen → LinkSeen
 with_bytes moment held link = record link { last = moment; held = held }
+
+-- whether one more line fits
+abbrev pub has_room : LinkSeen → Bool
+has_room link = not link.over && not (length link.queue.lines == most_waiting)
 
 -- a line more to take, where it fits; from the first on that doesn't, none is added
 unfoldable pub with_text : List ℕ → LinkSeen → LinkSeen
@@ -170,6 +175,10 @@ wants_packet packet source hearers owed link =
 abbrev pub with_copy : PacketSeen → SourcePlace → List ℕ → List ℕ → LinkSeen → LinkSeen
 with_copy packet source hearers owed link = if wants_packet packet source hearers owed link then with_text packet.line link else link
 
+-- whether it puts the packet into its text
+abbrev pub takes_packet : PacketSeen → SourcePlace → List ℕ → List ℕ → LinkSeen → Bool
+takes_packet packet source hearers owed link = wants_packet packet source hearers owed link && has_room link
+
 -- it is tested by what was known before it
 abbrev pub with_packet : PacketSeen → SourcePlace → List ℕ → List ℕ → LinkSeen → LinkSeen
 with_packet packet source hearers owed link = with_places packet (with_copy packet source hearers owed link)
@@ -180,6 +189,10 @@ is_shown_at from link = not (is_from link.link from) && shows_duplicates link.op
 
 abbrev pub with_shown : Source → List ℕ → LinkSeen → LinkSeen
 with_shown from line link = if is_shown_at from link then with_text line link else link
+
+-- whether it puts the duplicate into its text
+abbrev pub takes_shown : Source → LinkSeen → Bool
+takes_shown from link = is_shown_at from link && has_room link
 
 -- a client is told the date
 abbrev pub with_date : List ℕ → LinkSeen → LinkSeen
@@ -319,9 +332,37 @@ source_found core from call = record {
   submitted = submitted_from from core.links;
 }
 
+-- ---- what is counted
+
+-- a count that is so much greater, which stays at a counter's last value
+abbrev pub more : ℕ → ℕ → ℕ
+more n count = min (count + n) (2 ^ 64 - 1)
+
+abbrev pub with_accepted : (queued : ℕ) → Totals → Totals
+with_accepted queued totals = record totals { accepted = more 1 totals.accepted; queued = more queued totals.queued }
+
+abbrev pub with_duplicate : (queued : ℕ) → Totals → Totals
+with_duplicate queued totals = record totals { duplicate = more 1 totals.duplicate; queued = more queued totals.queued }
+
+abbrev pub with_refused : Totals → Totals
+with_refused totals = record totals { refused = more 1 totals.refused }
+
+-- a filter that is denied
+abbrev pub answer_counted : FilterAnswer → Totals → Totals
+answer_counted (Active terms reply) totals = totals
+answer_counted (Denied why) totals = with_refused totals
+
+-- a refusal, and the links to which a duplicate is shown
+abbrev pub refusal_counted : Source → Refusal → List LinkSeen → Totals → Totals
+refusal_counted from (refusal.Duplicate parts line) links totals = with_duplicate (length (filter (takes_shown from) links)) totals
+refusal_counted from why links totals = with_refused totals
+
 -- what is kept after an answer to a filter
 abbrev pub after_answer : Source → FilterAnswer → CoreSeen → CoreSeen
-after_answer from answer core = record core { links = at_source from (with_answer (found_in core.moment core.stations) answer) core.links }
+after_answer from answer core = record core {
+  links = at_source from (with_answer (found_in core.moment core.stations) answer) core.links;
+  totals = answer_counted answer core.totals;
+}
 
 abbrev pub after_login_answer : Source → Option FilterAnswer → CoreSeen → CoreSeen
 after_login_answer from None core = core
@@ -394,6 +435,10 @@ ended_all (link ∷ more) now uplinks = ended_all more now (uplinks_after (up.En
 abbrev pub cast_with : List Peer → PacketSeen → CoreSeen → List CastSeen
 cast_with peers packet core = core.reach.casts ++ (if submitted_from packet.from core.links then casts_to 0 peers packet.line else [])
 
+-- the links that put it into their texts
+abbrev pub takers_in : CoreSeen → PacketSeen → List LinkSeen
+takers_in core packet = filter (takes_packet packet (source_found core packet.from packet.parts.source) (hearers_in core packet) (owed_in core packet)) core.links
+
 abbrev pub after_packet : List Peer → PacketSeen → CoreSeen → CoreSeen
 after_packet peers packet core = record core {
   links = map (with_packet packet (source_found core packet.from packet.parts.source) (hearers_in core packet) (owed_in core packet)) core.links;
@@ -401,12 +446,13 @@ after_packet peers packet core = record core {
   stations = station.noted packet core.stations;
   heard = heard_with packet core;
   reach = record core.reach { casts = cast_with peers packet core };
+  totals = with_accepted (length (takers_in core packet)) core.totals;
 }
 
 -- what is kept after a verdict on what was said
 abbrev pub after_verdict : List ℕ → List Peer → Source → Verdict → CoreSeen → CoreSeen
 after_verdict server peers from PassedOver core = core
-after_verdict server peers from (Refused why) core = record core { links = with_refusal from why core.links }
+after_verdict server peers from (Refused why) core = record core { links = with_refusal from why core.links; totals = refusal_counted from why core.links core.totals }
 after_verdict server peers from (LoggedIn session answer) core = after_login_answer from answer (after_login server from session core)
 after_verdict server peers from (Filtered answer) core = after_answer from answer core
 after_verdict server peers from (Accepted parts line) core = after_packet peers (packet_of from core.moment parts line) core

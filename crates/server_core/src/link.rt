@@ -2,7 +2,7 @@
 ghost use Rattle.std.specs.Prelude.{◌≡◌, ◌||◌, IsTrue, IfSome, is_some, ℕ, ◌≤◌, ◌<◌, List, ◌++◌, Some, None, OnOk, IfOk, length, min, take, option_map, true, false};
 ghost use Rattle.std.specs.Arc.{arc_value};
 ghost use Rattle.aprs_base.specs.Held.{held_after};
-ghost use Rattle.server_core.specs.LinkSteps.{at_moment, client_kept, is_asked_at, is_login, is_shown_at, speaker_kept, timeout_for, is_in_time, is_late_link, is_none_of, is_lost, is_nameless_link, is_ready, list_of, new_link_seen, number_of, passes_packet, wants_packet, when_gone, with_bytes, with_copy, with_date, with_filter, with_packet, with_room, with_seen, with_session, with_shown, with_taken, with_text};
+ghost use Rattle.server_core.specs.LinkSteps.{at_moment, client_kept, has_room, is_asked_at, is_login, is_shown_at, speaker_kept, timeout_for, is_in_time, is_late_link, is_none_of, is_lost, is_nameless_link, is_ready, list_of, new_link_seen, number_of, passes_packet, takes_packet, takes_shown, wants_packet, when_gone, with_bytes, with_copy, with_date, with_filter, with_packet, with_room, with_seen, with_session, with_shown, with_taken, with_text};
 ghost use Rattle.aprs_base.specs.Bytes.{is_station};
 ghost use Rattle.aprs_history.specs.Links.{has_filters};
 ghost use Rattle.aprs_history.specs.Setting.{is_filter_kind, is_only_kind};
@@ -294,21 +294,23 @@ impl Link {
         !is_from(self.number, &packet.from) && self.opening_wants(packet, source, hearers, owed)
     }
 
-    /// Takes a packet, where it wants it.
+    /// Takes a packet, where it wants it, and says whether it did and the packet fitted.
     fn take_copy(
         &mut self,
         packet: &Packet,
         source: &SourcePlace,
         hearers: &[u32],
         owed: &[u32],
-    ) -> Result<(), Memory>
+    ) -> Result<bool, Memory>
         ensures number { self.new.link ≡ self.old.link }
         ensures ok { OnOk result (self.new ≡ with_copy packet.now source.now hearers.now owed.now self.old) }
+        ensures took { IfOk result (λ took. took ≡ takes_packet packet.now source.now hearers.now owed.now self.old) }
     {
         if self.wants(packet, source, hearers, owed) {
-            self.push(packet.line.clone()?);
+            Ok(self.push(packet.line.clone()?))
+        } else {
+            Ok(false)
         }
-        Ok(())
     }
 
     /// Whether it is shown a duplicate that is refused there.
@@ -318,15 +320,17 @@ impl Link {
         !is_from(self.number, from) && self.shows_duplicates()
     }
 
-    /// Takes a duplicate that is refused there, where it is shown such.
-    pub fn show(&mut self, from: &Source, line: &Arc<Line>) -> Result<(), Memory>
+    /// Takes a duplicate that is refused there, where it is shown such, and says whether it did and the duplicate fitted.
+    pub fn show(&mut self, from: &Source, line: &Arc<Line>) -> Result<bool, Memory>
         ensures number { self.new.link ≡ self.old.link }
         ensures ok { OnOk result (self.new ≡ with_shown from.now (arc_value line.now) self.old) }
+        ensures took { IfOk result (λ took. took ≡ takes_shown from.now self.old) }
     {
         if self.is_shown(from) {
-            self.push(line.clone()?);
+            Ok(self.push(line.clone()?))
+        } else {
+            Ok(false)
         }
-        Ok(())
     }
 
     /// Is told the date, where it is a client.
@@ -335,7 +339,7 @@ impl Link {
         ensures ok { OnOk result (self.new ≡ with_date (arc_value line.now) self.old) }
     {
         if self.is_client() {
-            self.push(line.clone()?);
+            let _ = self.push(line.clone()?);
         }
         Ok(())
     }
@@ -350,22 +354,23 @@ impl Link {
         }
     }
 
-    /// Hears of an accepted packet: it takes it, where it wants it, and sees where its source is.
+    /// Hears of an accepted packet: it takes it, where it wants it, and sees where its source is. Says whether it took it.
     pub fn hear(
         &mut self,
         packet: &Packet,
         source: &SourcePlace,
         hearers: &[u32],
         owed: &[u32],
-    ) -> Result<(), Memory>
+    ) -> Result<bool, Memory>
         ensures number { self.new.link ≡ self.old.link }
         ensures ok { OnOk result (self.new ≡ with_packet packet.now source.now hearers.now owed.now self.old) }
+        ensures took { IfOk result (λ took. took ≡ takes_packet packet.now source.now hearers.now owed.now self.old) }
     {
-        self.take_copy(packet, source, hearers, owed)?;
+        let took = self.take_copy(packet, source, hearers, owed)?;
         if let Some(seen) = seen_in(packet) {
             self.see(&packet.parts.source, seen);
         }
-        Ok(())
+        Ok(took)
     }
 
     /// Lets go of positions that count no more.
@@ -400,17 +405,22 @@ impl Link {
         self.queue.front_bytes(out)
     }
 
-    /// Takes a line, which it is sent after those before. Where it doesn't fit the link is overfull, and takes none any more.
-    pub fn push(&mut self, line: Arc<Line>)
+    /// Takes a line, which it is sent after those before, and says whether it fitted. Where it doesn't the link is overfull,
+    /// and takes none any more.
+    pub fn push(&mut self, line: Arc<Line>) -> bool
         ensures number { self.new.link ≡ self.old.link }
         ensures exact { self.new ≡ with_text (arc_value line) self.old }
+        ensures fitted { result ≡ has_room self.old }
     {
         if self.over {
-            return;
+            return false;
         }
         match self.queue.push(line) {
-            Ok(()) => {}
-            Err(Overfull) => self.over = true,
+            Ok(()) => true,
+            Err(Overfull) => {
+                self.over = true;
+                false
+            }
         }
     }
 

@@ -2,7 +2,7 @@
 ghost use Rattle.std.specs.Prelude.{◌≡◌, ℕ, ◌≤◌, ◌<◌, ◌^◌, ◌++◌, [], IsTrue, List, None, Some, OnOk, IfOk, min, take, IfSome, length, map, position, filter, nat_le};
 ghost use Rattle.std.specs.List.{prefix_len};
 ghost use Rattle.std.specs.Arc.{arc_value};
-ghost use Rattle.server_core.specs.LinkSteps.{Rises, at_link, at_moment, client_at, clients_in, filters_at, has_number, list_of, login_kept, logins_at, other_login, others_at, number_of, has_that, held_at, is_another, is_in_time, is_late_link, is_none_of, is_overfull, is_ready, is_there, numbers, pending_at, speaker_at, submitted_from, when_gone, with_bytes, with_date, with_filter, with_packet, with_room, with_session, with_shown, with_taken, with_text};
+ghost use Rattle.server_core.specs.LinkSteps.{Rises, at_link, at_moment, client_at, clients_in, filters_at, has_number, list_of, login_kept, logins_at, other_login, others_at, number_of, has_that, held_at, is_another, is_in_time, is_late_link, is_none_of, is_overfull, is_ready, is_there, numbers, pending_at, speaker_at, submitted_from, takes_packet, takes_shown, when_gone, with_bytes, with_date, with_filter, with_packet, with_room, with_session, with_shown, with_taken, with_text};
 ghost use Rattle.line_verdict.specs.Voices.{HasStation, voice_of};
 ghost use Rattle.aprs_base.specs.Bytes.{is_station};
 ghost use Rattle.aprs_base.specs.Cuts.{cuts_by};
@@ -73,31 +73,42 @@ pub(crate) fn offer(links: &[Link], number: u32, out: &mut [u8]) -> usize
 }
 
 /// All links hear of an accepted packet: those that want it take it. The message rule asks for it at `hearers` and `owed`.
+/// Says how many took it.
 pub(crate) fn share(
     links: &mut Vec<Link>,
     packet: &Packet,
     source: &SourcePlace,
     hearers: &[u32],
     owed: &[u32],
-) -> Result<(), Memory>
+) -> Result<usize, Memory>
     ensures numbers { numbers links.new.items ≡ numbers links.old.items }
     ensures ok { OnOk result (links.new.items ≡ map (with_packet packet.now source.now hearers.now owed.now) links.old.items) }
+    ensures took { IfOk result (λ count. count ≡ length (filter (takes_packet packet.now source.now hearers.now owed.now) links.old.items)) }
 {
+    let mut count = 0;
     for link in links.iter_mut() {
-        link.hear(packet, source, hearers, owed)?;
+        let took = link.hear(packet, source, hearers, owed)?;
+        count += usize::from(took);
     }
-    Ok(())
+    Ok(count)
 }
 
-/// The links that are shown a duplicate that is refused there take it.
-pub(crate) fn show_all(links: &mut Vec<Link>, from: &Source, line: &Arc<Line>) -> Result<(), Memory>
+/// The links that are shown a duplicate that is refused there take it. Says how many did.
+pub(crate) fn show_all(
+    links: &mut Vec<Link>,
+    from: &Source,
+    line: &Arc<Line>,
+) -> Result<usize, Memory>
     ensures numbers { numbers links.new.items ≡ numbers links.old.items }
     ensures ok { OnOk result (links.new.items ≡ map (with_shown from.now (arc_value line.now)) links.old.items) }
+    ensures took { IfOk result (λ count. count ≡ length (filter (takes_shown from.now) links.old.items)) }
 {
+    let mut count = 0;
     for link in links.iter_mut() {
-        link.show(from, line)?;
+        let took = link.show(from, line)?;
+        count += usize::from(took);
     }
-    Ok(())
+    Ok(count)
 }
 
 /// All links let go of positions that count no more.

@@ -4,10 +4,11 @@ ghost use Rattle.aprs_base.specs.Bytes.{is_station};
 ghost use Rattle.aprs_conf.specs.Sound.{IsGroup};
 ghost use Rattle.aprs_history.specs.Stands.{reach_of};
 ghost use Rattle.aprs_history.specs.History.{History, trace_of};
+ghost use Rattle.aprs_history.specs.Counts.{totals_of};
 ghost use Rattle.aprs_history.specs.Journal.{round_lines};
 ghost use Rattle.aprs_history.specs.Rounds.{AreFresh, greatest_after, is_whole, only_listens, stopped_after, with_events};
 ghost use Rattle.aprs_history.specs.Texts.{untaken};
-ghost use Rattle.server_core.specs.LinkSteps.{AreServed, Rises, has_number, numbers, pending_at};
+ghost use Rattle.server_core.specs.LinkSteps.{AreServed, Rises, has_number, more, numbers, pending_at};
 ghost use Rattle.aprs_base.specs.declared.events.Happening.{Happening};
 ghost use Rattle.aprs_base.specs.declared.events.Sent.{Sent};
 ghost use Rattle.server_core.specs.Meaning.{AreActs, Stands, numbered, setting_of};
@@ -31,7 +32,7 @@ use crate::conf::uplink_timeout;
 use crate::link::Link;
 use crate::links::{lose, offer, take};
 use crate::reach::Reach;
-use aprs_base::{Event, JournalLine, Memory, Packet};
+use aprs_base::{Event, JournalLine, Memory, Packet, Totals};
 use aprs_conf::Conf;
 use heard_routing::Heard;
 use station_table::Stations;
@@ -50,6 +51,13 @@ fn reach_for(alloc: Global, conf: &Conf) -> Reach
 {
     let count = u16::try_from(conf.uplinks.len()).unwrap_or(0);
     Reach::new(alloc, count, uplink_timeout(conf))
+}
+
+/// A count raised by so many, which stays at the greatest u64.
+fn raised(count: u64, n: usize) -> u64
+    ensures { result ≡ more n count }
+{
+    count.saturating_add(u64::try_from(n).unwrap_or(u64::MAX))
 }
 
 /// The core of a server.
@@ -71,6 +79,7 @@ pub struct Core {
     reach: Reach,
     greatest: u32,
     stopped: bool,
+    totals: Totals,
 }
 
 impl Model for Core {
@@ -79,9 +88,9 @@ impl Model for Core {
 
     ghost Value = { CoreMeaning };
 
-    ghost view = { λ c. record { conf = c.conf; seen = record { moment = c.moment; links = c.links.items; turned = c.turned.items; closing = c.closing.items; accepted = c.accepted.items; stations = c.stations; heard = c.heard; reach = c.reach; greatest = c.greatest; stopped = c.stopped } } };
+    ghost view = { λ c. record { conf = c.conf; seen = record { moment = c.moment; links = c.links.items; turned = c.turned.items; closing = c.closing.items; accepted = c.accepted.items; stations = c.stations; heard = c.heard; reach = c.reach; greatest = c.greatest; stopped = c.stopped; totals = c.totals } } };
 
-    ghost invariant = { λ c. IsKept (record { conf = c.conf; seen = record { moment = c.moment; links = c.links.items; turned = c.turned.items; closing = c.closing.items; accepted = c.accepted.items; stations = c.stations; heard = c.heard; reach = c.reach; greatest = c.greatest; stopped = c.stopped } }) };
+    ghost invariant = { λ c. IsKept (record { conf = c.conf; seen = record { moment = c.moment; links = c.links.items; turned = c.turned.items; closing = c.closing.items; accepted = c.accepted.items; stations = c.stations; heard = c.heard; reach = c.reach; greatest = c.greatest; stopped = c.stopped; totals = c.totals } }) };
 }
 
 impl Core {
@@ -116,6 +125,12 @@ impl Core {
             reach,
             greatest: 0,
             stopped: false,
+            totals: Totals {
+                accepted: 0,
+                duplicate: 0,
+                refused: 0,
+                queued: 0,
+            },
         })
     }
 
@@ -126,33 +141,17 @@ impl Core {
         &self.conf
     }
 
-    /// Takes one whole round of events, and says what is to be done. After `Memory` the core is spent.
-    pub fn round<R: Threads + Sync>(
-        &mut self,
-        rt: &R,
-        alloc: Global,
-        events: &[Event],
-    ) -> Result<Acts, Memory>
-        requires whole { is_whole 0 events.now ≡ true }
-        requires fresh { AreFresh self.old.seen.greatest events.now }
-        requires going { self.old.seen.stopped ≡ false }
-        ensures conf { OnOk result (self.new.conf ≡ self.old.conf) }
-        ensures greatest { OnOk result (self.new.seen.greatest ≡ greatest_after events.now self.old.seen.greatest) }
-        ensures stopped { OnOk result (self.new.seen.stopped ≡ stopped_after events.now false) }
-        ensures done { IfOk result (λ acts. acts.done ≡ self.new.seen.stopped) }
-        ensures rising { IfOk result (λ acts. Rises 0 acts.offers self.new.seen.greatest) }
-        ensures served { IfOk result (λ acts. AreServed acts.offers self.new.seen.links) }
-        // The core stands for the history with the round, and the acts are those that are due after it.
-        ensures stands { (h : History) → Stands self.old h → OnOk result (Stands self.new (with_events events.now h)) }
-        ensures due { (h : History) → Stands self.old h
-            → IfOk result (λ acts. AreActs (setting_of self.new.conf) (with_events events.now h) acts) }
+    /// What it has counted since it was made.
+    pub fn totals(&self) -> Totals
+        ensures kept { result ≡ self.now.seen.totals }
+        ensures counts { (h : History) → Stands self.now h → result ≡ totals_of (setting_of self.now.conf) (trace_of (setting_of self.now.conf) h) }
     {
-        let mut lines = Vec::new(alloc);
-        self.round_lines(rt, alloc, events, &mut lines)
+        self.totals
     }
 
-    /// The same, and puts the lines that the round has for the journals after those that are there.
-    pub fn round_lines<R: Threads + Sync>(
+    /// Takes one whole round of events, and says what is to be done. The lines that the round has for the journals come
+    /// after those that are there. After `Memory` the core is spent.
+    pub fn round<R: Threads + Sync>(
         &mut self,
         _rt: &R,
         alloc: Global,

@@ -5,10 +5,10 @@ ghost use Rattle.aprs_base.specs.declared.packets.Source.TheVariants as Source;
 ghost use Rattle.line_verdict.specs.Fit.{all_few, has_few};
 ghost use Rattle.aprs_history.specs.declared.verdicts.FilterAnswer.{FilterAnswer};
 ghost use Rattle.aprs_history.specs.declared.verdicts.Verdict.{Verdict};
-ghost use Rattle.server_core.specs.LinkSteps.{after_login, with_reply, with_shown};
+ghost use Rattle.server_core.specs.LinkSteps.{after_login, takes_shown, with_duplicate, with_refused, with_reply, with_shown};
 ghost use Rattle.server_core.specs.Steps.{with_verdict};
 
-use super::Core;
+use super::{Core, raised};
 use crate::conf::server_of;
 use crate::link::Link;
 use crate::links::{log_in, reply, set_filter, show_all, take};
@@ -21,12 +21,27 @@ use std::alloc::Global;
 use std::sync::Arc;
 
 impl Core {
-    /// A duplicate is refused: the links that are shown such take it.
+    /// A duplicate is refused, and is counted: the links that are shown such take it.
     fn show(&mut self, alloc: Global, from: &Source, line: Line) -> Result<(), Memory>
-        ensures { OnOk result (self.new ≡ record self.old { seen = record self.old.seen { links = map (with_shown from.now line) self.old.seen.links } }) }
+        ensures { OnOk result (self.new ≡ record self.old {
+          seen = record self.old.seen {
+            links = map (with_shown from.now line) self.old.seen.links;
+            totals = with_duplicate (length (filter (takes_shown from.now) self.old.seen.links)) self.old.seen.totals;
+          };
+        }) }
     {
         let line = Arc::new(alloc, line)?;
-        show_all(&mut self.links, from, &line)
+        let takers = show_all(&mut self.links, from, &line)?;
+        self.totals.duplicate = raised(self.totals.duplicate, 1);
+        self.totals.queued = raised(self.totals.queued, takers);
+        Ok(())
+    }
+
+    /// Something is refused that is no duplicate.
+    fn count_refused(&mut self)
+        ensures { self.new ≡ record self.old { seen = record self.old.seen { totals = with_refused self.old.seen.totals } } }
+    {
+        self.totals.refused = raised(self.totals.refused, 1);
     }
 
     /// A line for the link whose line was read, where it was a link's.
@@ -53,10 +68,13 @@ impl Core {
     {
         match refusal {
             Refusal::Duplicate(_parts, line) => self.show(alloc, from, line),
-            other => match refusal_line(&other) {
-                Some(line) => self.reply(alloc, from, line),
-                None => Ok(()),
-            },
+            other => {
+                self.count_refused();
+                match refusal_line(&other) {
+                    Some(line) => self.reply(alloc, from, line),
+                    None => Ok(()),
+                }
+            }
         }
     }
 
@@ -103,6 +121,7 @@ impl Core {
             FilterAnswer::Denied(fault) => {
                 let line = Arc::new(alloc, denied_line(alloc, fault)?)?;
                 reply(&mut self.links, number, line);
+                self.count_refused();
                 Ok(())
             }
         }

@@ -7,7 +7,7 @@ ghost use Rattle.server_core.specs.LinkSteps.{after_packet, cast_with, noted_fro
 ghost use Rattle.server_core.specs.Meaning.{peer_of};
 ghost use Rattle.server_core.specs.Steps.{with_verdict};
 
-use super::Core;
+use super::{Core, raised};
 use crate::conf::peers_of;
 use crate::link::SourcePlace;
 use crate::links::{is_submitted, share};
@@ -99,7 +99,7 @@ impl Core {
         Ok(())
     }
 
-    /// An accepted packet goes to the links that want it and to the peers, tells where its source is, and is kept.
+    /// An accepted packet goes to the links that want it and to the peers, tells where its source is, is counted, and is kept.
     fn keep(&mut self, alloc: Global, packet: Packet) -> Result<(), Memory>
         ensures { OnOk result (self.new ≡ record self.old { seen = after_packet (map peer_of self.old.conf.peers) packet self.old.seen }) }
     {
@@ -109,13 +109,15 @@ impl Core {
         let owed = self.spend(alloc, &packet)?;
         self.promise(alloc, &packet, hearers.as_slice())?;
         self.cast(&packet, source.submitted)?;
-        share(
+        let takers = share(
             &mut self.links,
             &packet,
             &source,
             hearers.as_slice(),
             owed.as_slice(),
         )?;
+        self.totals.accepted = raised(self.totals.accepted, 1);
+        self.totals.queued = raised(self.totals.queued, takers);
         self.stations.note(alloc, &packet)?;
         self.accepted.push(packet)?;
         Ok(())

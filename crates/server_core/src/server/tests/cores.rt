@@ -209,19 +209,7 @@ pub(super) fn round<R: Threads + Sync + Abort>(
     lines: &mut Vec<JournalLine>,
 ) -> Acts {
     check_round(rt, core, events);
-    core.round_lines(rt, alloc, events, lines)
-        .expect(rt, "memory")
-}
-
-/// Takes a round of these events, and tells nothing.
-pub(super) fn quiet_round<R: Threads + Sync + Abort>(
-    rt: &R,
-    alloc: Global,
-    core: &mut Core,
-    events: &[Event],
-) -> Acts {
-    check_round(rt, core, events);
-    core.round(rt, alloc, events).expect(rt, "memory")
+    core.round(rt, alloc, events, lines).expect(rt, "memory")
 }
 
 pub(super) fn is_served(core: &Core, link: u32) -> bool

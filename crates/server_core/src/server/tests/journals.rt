@@ -1,7 +1,7 @@
 //! What rounds tell the journals.
-use super::cores::{Limits, core_of, opened, quiet_round};
+use super::cores::Limits;
 use super::session::{Row, USUAL, run, run_within};
-use aprs_base::{Event, Kind};
+use aprs_base::Kind;
 
 /// Steps of sessions, and what is refused within them.
 const SESSIONS: [Row<'static>; 9] = [
@@ -108,15 +108,4 @@ fn tells_why_links_end(rt: HostRuntime) {
         ..USUAL
     };
     run_within(&rt, rt.alloc(), one, &TURNED_AWAY);
-}
-
-/// The lines of a round may also be left out.
-#[test]
-fn rounds_without_lines(rt: HostRuntime) {
-    let alloc = rt.alloc();
-    let mut core = core_of(&rt, alloc, b"T2TEST", USUAL);
-    let events = [opened(1, 0), Event::Stop];
-    let acts = quiet_round(&rt, alloc, &mut core, &events);
-    assert!(rt; acts.done);
-    assert!(rt; acts.closes.as_slice() == [1].as_slice());
 }

@@ -46,6 +46,8 @@ pub(super) enum Row<'a> {
     Casts(&'a [(u16, &'a [u8])]),
     /// The last round told the journals these lines: of what kind, at what moment, and what follows it.
     Tells(&'a [(Kind, u64, &'a [u8])]),
+    /// So many packets were accepted, duplicates and other things refused, and packet lines put into the texts of links.
+    Counts([u64; 4]),
     /// The last round was a stop.
     Done,
     /// The link isn't served.
@@ -145,6 +147,16 @@ fn keeps<R: Abort>(rt: &R, core: &Core, place: usize, moment: u64, class: u16) {
     assert!(rt; packet.moment == moment && packet.body.class == class);
 }
 
+fn counts_of(core: &Core) -> [u64; 4] {
+    let totals = core.totals();
+    [
+        totals.accepted,
+        totals.duplicate,
+        totals.refused,
+        totals.queued,
+    ]
+}
+
 fn step<R: Threads + Sync + Abort>(rt: &R, alloc: Global, session: &mut Session, row: Row) {
     match row {
         Row::Opens(link, listener) => come(rt, session, opened(link, listener)),
@@ -166,6 +178,7 @@ fn step<R: Threads + Sync + Abort>(rt: &R, alloc: Global, session: &mut Session,
         Row::Dials(uplink) => assert!(rt; session.acts.dial == uplink),
         Row::Casts(lines) => are_cast(rt, session.acts.casts.as_slice(), lines),
         Row::Tells(lines) => are_told(rt, session.lines.as_slice(), lines),
+        Row::Counts(want) => assert!(rt; counts_of(&session.core) == want),
         Row::Done => assert!(rt; session.acts.done),
         Row::Lacks(link) => assert!(rt; !is_served(&session.core, link)),
         Row::Keeps(place, moment, class) => keeps(rt, &session.core, place, moment, class),

@@ -1,5 +1,5 @@
 use Rattle.server_core.proofs.WholeRoundLemmas.{acts_ok, round_stands, round_told, stands_ok, whole_round}
-use Rattle.server_core.proofs.server.Core.round_lines.Goals as goal
+use Rattle.server_core.proofs.server.Core.round.Goals as goal
 
 pub returns-clause-stands : goal.returns-clause-stands
 returns-clause-stands g c = λ h stands.

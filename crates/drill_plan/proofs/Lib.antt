@@ -1,0 +1,4 @@
+pub mod EventLemmas
+pub mod NameLemmas
+mod Rows
+pub mod StateLemmas

@@ -1,0 +1,22 @@
+use Rattle.std.proofs.Common.{◌≡◌, ◌∙◌, ◌+◌, ◌-◌, ◌++◌, ◌∷◌, [], ap, arith}
+use Rattle.aprs_base.specs.declared.events.Event.TheVariants as event
+use Rattle.drill_plan.specs.Drill.{login_of}
+use Rattle.drill_plan.proofs.StateLemmas.{links_on}
+use Rattle.drill_plan.proofs.plan.append_logins.Goals as goal
+
+pub loop-link-preserved : goal.loop-link-preserved
+loop-link-preserved c =
+    let e : (c.loop-link.link + 1) - 1 ≡ c.loop-link.link = omega arith in
+    let pushed : c.push.new.self.items ≡ c.loop-link.events.items ++ login_of c.loop-link.link ∷ [] = c.in_ok-push.ensures.items ∙ ap (λ text. c.loop-link.events.items ++ event.Bytes c.loop-link.link text ∷ []) c.login_text.ensures in
+    (rw e (pushed ∙ ap (λ xs. xs ++ login_of c.loop-link.link ∷ []) c.loop-link.invariant.0 ∙ links_on login_of c.args.events.now.items c.loop-link.link c.loop-link.auto.link), omega arith)
+
+pub returns : goal.returns
+returns c =
+    let e : c.loop-link.link - 1 ≡ c.args.links = omega arith in
+    rw (← e) c.loop-link.invariant.0
+
+pub returns-in_ok-push : goal.returns-in_ok-push
+returns-in_ok-push c =
+    let e : c.args.links ≡ c.loop-link.link = omega arith in
+    let pushed : c.push.new.self.items ≡ c.loop-link.events.items ++ login_of c.loop-link.link ∷ [] = c.in_ok-push.ensures.items ∙ ap (λ text. c.loop-link.events.items ++ event.Bytes c.loop-link.link text ∷ []) c.login_text.ensures in
+    rw e (pushed ∙ ap (λ xs. xs ++ login_of c.loop-link.link ∷ []) c.loop-link.invariant.0 ∙ links_on login_of c.args.events.now.items c.loop-link.link c.loop-link.auto.link)

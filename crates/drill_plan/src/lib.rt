@@ -1,0 +1,11 @@
+//! The events of a drill: a run of the server over generated traffic, the same wherever it is made from the same seed.
+#![tactic(auto)]
+
+mod lines;
+mod logins;
+mod plan;
+#[cfg(test)]
+mod tests;
+mod writing;
+
+pub use plan::{Plan, events};
