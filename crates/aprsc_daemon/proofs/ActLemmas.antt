@@ -80,7 +80,7 @@ run_sends lines s start now next core new link offers closes bytes outcome same 
 
 stands_closed : (core : CoreMeaning) (link : ℕ) (h : History) → Stands core h → Stands core (did.Closed link ∷ h)
 unfolding trace_of
-stands_closed core link h stands = record { finished = stands.finished; follows = stands.follows; greatest = stands.greatest; stopped = stands.stopped; totals = stands.totals }
+stands_closed core link h stands = record { finished = stands.finished; follows = stands.follows; greatest = stands.greatest; stopped = stands.stopped }
 
 owing_closed : (conf : ConfSeen) (link : ℕ) (closes : List ℕ) (more : History) → Owing conf None [] [] (link ∷ closes) more → Owing conf None [] [] closes (did.Closed link ∷ more)
 unfolding due

@@ -52,7 +52,7 @@ dial_comes acts stopped uplink rest is = subst (λ xs. MayCome xs stopped (did.D
 
 stands_dialled : (core : CoreMeaning) (uplink : ℕ) (h : History) → Stands core h → Stands core (did.Dialled uplink ∷ h)
 unfolding trace_of
-stands_dialled core uplink h stands = record { finished = stands.finished; follows = stands.follows; greatest = stands.greatest; stopped = stands.stopped; totals = stands.totals }
+stands_dialled core uplink h stands = record { finished = stands.finished; follows = stands.follows; greatest = stands.greatest; stopped = stands.stopped }
 
 owing_dialled : (conf : ConfSeen) (uplink : ℕ) (casts : List CastSeen) (offers closes : List ℕ) (more : History) → Owing conf (Some uplink) casts offers closes more → Owing conf None casts offers closes (did.Dialled uplink ∷ more)
 unfolding due trace_of
@@ -95,7 +95,7 @@ cast_comes acts stopped n bytes owed rest is same = subst (λ xs. MayCome xs sto
 
 stands_cast : (core : CoreMeaning) (n : ℕ) (bytes : List ℕ) (h : History) → Stands core h → Stands core (did.Cast n bytes ∷ h)
 unfolding trace_of
-stands_cast core n bytes h stands = record { finished = stands.finished; follows = stands.follows; greatest = stands.greatest; stopped = stands.stopped; totals = stands.totals }
+stands_cast core n bytes h stands = record { finished = stands.finished; follows = stands.follows; greatest = stands.greatest; stopped = stands.stopped }
 
 owing_cast : (conf : ConfSeen) (cast : CastSeen) (bytes : List ℕ) (casts : List CastSeen) (offers closes : List ℕ) (more : History) → Owing conf None (cast ∷ casts) offers closes more
     → Owing conf None casts offers closes (did.Cast cast.peer bytes ∷ more)
