@@ -182,7 +182,7 @@ not_named : (words : List (List ℕ)) (asked : ServerWordsSeen) → asked_of wor
 not_named words asked bad named = cc
 
 -- no words ask for a drill and for the server
-not_both_modes : (words : List (List ℕ)) (drill : DrillWords) (asked : ServerWordsSeen) → drill_of words ≡ Some drill → asked_of words ≡ Some asked → ⊥
+pub not_both_modes : (words : List (List ℕ)) (drill : DrillWords) (asked : ServerWordsSeen) → drill_of words ≡ Some drill → asked_of words ≡ Some asked → ⊥
 not_both_modes words drill asked drilled named = not_named words asked (only_drill words drill drilled) named
 
 not_drilled : (words : List (List ℕ)) (drill : DrillWords) → drill_of words ≡ None → drill_of words ≡ Some drill → ⊥

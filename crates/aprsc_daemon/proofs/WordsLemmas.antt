@@ -1,14 +1,13 @@
 -- From the values that `clap` found in the words to what they ask for.
-use Rattle.std.proofs.Common.{◌≡◌, ℕ, ◌≤◌, ◌<◌, ◌^◌, Bool, true, false, List, [], ◌∷◌, Option, Some, None, Result, Ok, refl, sym, ap, ◌∙◌, arith, codes}
+use Rattle.std.proofs.Common.{◌≡◌, ℕ, ◌≤◌, ◌<◌, ◌^◌, Bool, true, false, List, [], ◌∷◌, Option, Some, None, Result, Ok, refl, sym, ap, ◌∙◌, arith, codes, drop}
 use Rattle.std.specs.Option.{option_and_then, option_map_or}
-use Rattle.std.specs.Str.{bytes_eq}
 use Rattle.std.specs.Str.Parse.{ParsesUnsigned, digits_value, without_leading_plus}
 use Rattle.clap.specs.ValueTests.{is_unsigned_in}
 use Rattle.std.specs.Prelude.{if◌then◌else◌}
 use Rattle.clap.specs.Words.{IsUnsignedIn, Kinds, ReadsOne, Row, fault_of, matches_of}
 use Rattle.clap.specs.declared.builder.value_parser.ValueParser.TheVariants as vp
 use Rattle.clap.proofs.ValueTestLemmas.{accepts-Accepts, Accepts-accepts}
-use Rattle.aprsc_daemon.specs.Words.{ServerWordsSeen, after_mode, asked_of, drill_app, drill_in, drill_of, drill_said_by, if_small, is_small, names_mode, number_in, said_by, server_app, without_fault}
+use Rattle.aprsc_daemon.specs.Words.{ServerWordsSeen, asked_of, begins_with, drill_app, drill_in, drill_of, drill_said_by, if_small, is_small, names_mode, number_in, said_by, server_app, without_fault}
 use Rattle.aprsc_daemon.specs.declared.words.DrillWords.{DrillWords}
 
 -- a number of a range that a text reads as is its number
@@ -103,30 +102,32 @@ pub no_drill : (words : List (List ℕ)) → (fault_of drill_app words ≡ [] �
 no_drill words bad = ap (option_and_then if_small) (none_by_fault (fault_of drill_app words) (drill_said_by (matches_of drill_app words)) bad)
 
 -- words that begin with the mode's name ask what those after it ask of a drill
-pub drill_after : (first : List ℕ) (others : List (List ℕ)) → bytes_eq first (codes "drill") ≡ true → drill_of (first ∷ others) ≡ drill_in others
+pub drill_after : (words : List (List ℕ)) → begins_with (codes "drill") words ≡ true → drill_of words ≡ drill_in (drop 1 words)
 unfolding drill_of
-drill_after first others is = rw is refl
+drill_after words is = rw is refl
 
 -- and others ask nothing of a drill
-pub no_mode : (first : List ℕ) (others : List (List ℕ)) → bytes_eq first (codes "drill") ≡ false → drill_of (first ∷ others) ≡ None
+pub no_mode : (words : List (List ℕ)) → begins_with (codes "drill") words ≡ false → drill_of words ≡ None
 unfolding drill_of
-no_mode first others other = rw other refl
+no_mode words other = rw other refl
 
-pub no_words : drill_of [] ≡ None
-unfolding drill_of
-no_words = refl
+-- words that begin with the name of a mode ask nothing of the server
+pub begins_drill : (words : List (List ℕ)) → begins_with (codes "drill") words ≡ true → asked_of words ≡ None
+begins_drill words is = other_mode words (rw is refl)
+
+pub begins_net : (words : List (List ℕ)) → begins_with (codes "drill") words ≡ false → begins_with (codes "net") words ≡ true → asked_of words ≡ None
+begins_net words other is = other_mode words (rw (other, is) refl)
+
+pub begins_none : (words : List (List ℕ)) → begins_with (codes "drill") words ≡ false → begins_with (codes "net") words ≡ false → names_mode words ≡ false
+begins_none words drill net = rw (drill, net) refl
 
 -- words that ask for a drill ask nothing of the server
 pub only_drill : (words : List (List ℕ)) (asked : DrillWords) → drill_of words ≡ Some asked → asked_of words ≡ None
-only_drill [] asked drill = absurd (none_some (sym no_words ∙ drill))
-  where
-    none_some : {asked : DrillWords} → None ≡ Some asked → ⊥
-    none_some e = cc
-only_drill (first ∷ others) asked drill = by_name (bytes_eq first (codes "drill")) refl
+only_drill words asked drill = by_name (begins_with (codes "drill") words) refl
   where
     nothing : None ≡ Some asked → ⊥
     nothing e = cc
 
-    by_name : (b : Bool) → bytes_eq first (codes "drill") ≡ b → asked_of (first ∷ others) ≡ None
-    by_name true is = other_mode (first ∷ others) (rw is refl)
-    by_name false is = absurd (nothing (sym (no_mode first others is) ∙ drill))
+    by_name : (b : Bool) → begins_with (codes "drill") words ≡ b → asked_of words ≡ None
+    by_name true is = begins_drill words is
+    by_name false is = absurd (nothing (sym (no_mode words is) ∙ drill))

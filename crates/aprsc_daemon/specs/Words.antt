@@ -1,5 +1,5 @@
 -- The words that the program is started with, and the command by which `clap` reads them.
-use Rattle.std.specs.Prelude.{ℕ, ◌*◌, ◌||◌, nat_le, Bool, false, true, if◌then◌else◌, List, [], ◌∷◌, codes, Option, Some, None, unwrap_or}
+use Rattle.std.specs.Prelude.{ℕ, drop, ◌*◌, ◌||◌, nat_le, Bool, false, true, if◌then◌else◌, List, [], ◌∷◌, codes, Option, Some, None, unwrap_or}
 use Rattle.std.specs.Option.{option_and_then, option_map_or}
 use Rattle.std.specs.Str.{byte, bytes_eq}
 use Rattle.std.specs.Str.Parse.{digits_value, without_leading_plus}
@@ -60,15 +60,14 @@ drill_app = with_rule (with_rule (with_rule (with_rule bare_app seed_rule) lines
 
 -- ---- what the words ask for
 
--- the words after the first, where that is the name of a mode
-abbrev pub after_mode : List ℕ → List (List ℕ) → Option (List (List ℕ))
-after_mode mode [] = None
-after_mode mode (first ∷ others) = if bytes_eq first mode then Some others else None
+-- the first word is the name of this mode
+abbrev pub begins_with : List ℕ → List (List ℕ) → Bool
+begins_with mode [] = false
+begins_with mode (first ∷ others) = bytes_eq first mode
 
--- the first word calls for another mode than the server
+-- it calls for another mode than the server
 abbrev pub names_mode : List (List ℕ) → Bool
-names_mode [] = false
-names_mode (first ∷ others) = bytes_eq first (codes "drill") || bytes_eq first (codes "net")
+names_mode words = begins_with (codes "drill") words || begins_with (codes "net") words
 
 -- a number of a range in digits
 abbrev pub number_in : (low high : ℕ) → List ℕ → ℕ
@@ -122,4 +121,4 @@ drill_in words = option_and_then if_small (without_fault (fault_of drill_app wor
 
 -- what the words ask of a drill
 unfoldable pub drill_of : List (List ℕ) → Option DrillWords
-drill_of words = option_and_then drill_in (after_mode (codes "drill") words)
+drill_of words = if begins_with (codes "drill") words then drill_in (drop 1 words) else None

@@ -4,6 +4,8 @@
 mod configuring;
 mod drill;
 #[cfg(test)]
+mod drill_tests;
+#[cfg(test)]
 mod journal_runs;
 #[cfg(test)]
 mod journal_tests;

@@ -256,9 +256,9 @@ fn run<R: Threads + Sync + Wait, F: Files, W: Wire, S: Sink>(
 /// a line says what was counted. It depends on the three numbers alone.
 ///
 /// The status is 0 after a stop, for a valid configuration with `-y`, or for a drill; 1 for words that `clap` refuses, that
-/// call for another mode by `net`, or whose drill has more than 4,000,000 lines times links; 2 for a bad configuration; 3 where its file can't be read; 4 where a listener failed; 5
-/// where the wire failed; 6 for want of memory; and 7 where the sink failed in the writing of a text for 0 to 4. A file of more
-/// than 65,536 bytes is a bad configuration.
+/// call for another mode by `net`, or whose drill has more than 4,000,000 lines times links; 2 for a bad configuration; 3
+/// where its file can't be read; 4 where a listener failed; 5 where the wire failed; 6 for want of memory; and 7 where the
+/// sink failed in the writing of a text for 0 to 4. A file of more than 65,536 bytes is a bad configuration.
 pub fn aprsc<R: Threads + Sync + Wait, F: Files, W: Wire, S: Sink>(
     rt: &R,
     alloc: Global,

@@ -131,7 +131,9 @@ fn totals_text(alloc: Global, totals: Totals) -> Result<String, Memory>
         refused,
         queued,
     } = totals;
-    Ok(format!(in alloc; "accepted {accepted} duplicate {duplicate} refused {refused} queued {queued}")?)
+    Ok(format!(in alloc;
+        "accepted {accepted} duplicate {duplicate} refused {refused} queued {queued}"
+    )?)
 }
 
 /// The line that says what a drill counted.

@@ -1,9 +1,9 @@
 //! The words that the program is started with, read by `clap`.
-ghost use Rattle.std.specs.Prelude.{◌≡◌, ◌≢◌, ◌≤◌, ◌<◌, ◌^◌, [], None, Some, IfOk, IsErrOf, OnOk, codes, false, map, string_bytes, true, unwrap_or};
+ghost use Rattle.std.specs.Prelude.{◌≡◌, ◌≢◌, ◌≤◌, ◌<◌, ◌^◌, [], None, Some, IfOk, IsErrOf, OnOk, codes, drop, false, map, string_bytes, true, unwrap_or};
 ghost use Rattle.std.specs.Option.{option_map_or};
-ghost use Rattle.clap.specs.Words.{app_of, fault_of, first_value, found_of, is_simple_and_free, matches_of, one_text, rows_of, rule_of};
+ghost use Rattle.clap.specs.Words.{app_of, fault_of, first_value, found_of, is_simple, is_simple_and_free, matches_of, one_text, rows_of, rule_of};
 ghost use Rattle.aprsc_daemon.specs.Asked.{AskFor, IsBounded};
-ghost use Rattle.aprsc_daemon.specs.Words.{asked_of, bare_app, check_rule, drill_app, drill_in, drill_of, drill_said_by, file_rule, is_small, number_in, number_rule, said_by, server_app, task_of, workers_rule};
+ghost use Rattle.aprsc_daemon.specs.Words.{asked_of, bare_app, begins_with, check_rule, drill_app, drill_in, drill_of, drill_said_by, file_rule, is_small, names_mode, number_in, number_rule, said_by, server_app, task_of, workers_rule};
 
 use clap::builder::ValueParser;
 use clap::error::ErrorKind;
@@ -133,7 +133,8 @@ fn drill_command<'a>(alloc: Global) -> Result<Command<'a>, AllocError>
 
 /// What a command finds in the words.
 fn matches_by<'a>(command: Command<'a>, words: &'a [String]) -> Result<ArgMatches<'a>, WordsError>
-    requires { is_simple_and_free (app_of command) ≡ true }
+    requires simple { is_simple (app_of command) ≡ true }
+    requires free { is_simple_and_free (app_of command) ≡ true }
     ensures good { OnOk result (fault_of (app_of command.entry) (map string_bytes words.entry.now) ≡ []) }
     ensures rows { IfOk result (λ m. rows_of (found_of m) ≡ matches_of (app_of command.entry) (map string_bytes words.entry.now)) }
     ensures refused { IsErrOf result WordsError.Refused → fault_of (app_of command.entry) (map string_bytes words.entry.now) ≢ [] }
@@ -234,17 +235,55 @@ fn is_small(asked: DrillWords) -> bool
     u64::from(asked.plan.lines) * u64::from(asked.plan.links) <= 4_000_000
 }
 
+/// Whether the first word is the name of this mode.
+fn begins_with(words: &[String], mode: &str) -> bool
+    ensures { result ≡ begins_with mode.now (map string_bytes words.now) }
+{
+    match words {
+        [] => false,
+        [first, ..] => first.as_str() == mode,
+    }
+}
+
+/// The words after the first.
+fn later(words: &[String]) -> &[String]
+    ensures { map string_bytes result.now ≡ drop 1 (map string_bytes words.now) }
+{
+    match words {
+        [] => words,
+        [_, others @ ..] => others,
+    }
+}
+
+/// What the words ask of the server, where they call for no other mode.
+fn read_server<'a>(alloc: Global, words: &'a [String]) -> Result<ServerWords<'a>, WordsError>
+    requires { names_mode (map string_bytes words.now) ≡ false }
+    ensures value { IfOk result (λ asked. asked_of (map string_bytes words.entry.now) ≡ Some asked) }
+    ensures bounded { IfOk result (λ asked. IsBounded (Words.Server asked)) }
+    ensures refused { IsErrOf result WordsError.Refused → asked_of (map string_bytes words.entry.now) ≡ None }
+{
+    match server_matches(alloc, words) {
+        Ok(matches) => Ok(said_by(&matches)),
+        Err(error) => Err(error),
+    }
+}
+
 /// What the words after the mode's name ask of a drill.
 fn read_drill(alloc: Global, words: &[String]) -> Result<DrillWords, WordsError>
-    ensures value { IfOk result (λ asked. drill_in (map string_bytes words.entry.now) ≡ Some asked) }
+    ensures value { IfOk result (λ asked. drill_in (map string_bytes words.now) ≡ Some asked) }
     ensures bounded { IfOk result (λ asked. IsBounded (Words.Drill asked)) }
-    ensures refused { IsErrOf result WordsError.Refused → drill_in (map string_bytes words.entry.now) ≡ None }
+    ensures refused { IsErrOf result WordsError.Refused → drill_in (map string_bytes words.now) ≡ None }
 {
-    let asked = drill_said_by(&drill_matches(alloc, words)?);
-    if is_small(asked) {
-        Ok(asked)
-    } else {
-        Err(WordsError::Refused)
+    match drill_matches(alloc, words) {
+        Ok(matches) => {
+            let asked = drill_said_by(&matches);
+            if is_small(asked) {
+                Ok(asked)
+            } else {
+                Err(WordsError::Refused)
+            }
+        }
+        Err(error) => Err(error),
     }
 }
 
@@ -255,11 +294,17 @@ pub(crate) fn read_words<'a>(alloc: Global, words: &'a [String]) -> Result<Words
     ensures refused { IsErrOf result WordsError.Refused
         → (asked_of (map string_bytes words.entry.now) ≡ None) × (drill_of (map string_bytes words.entry.now) ≡ None) }
 {
-    match words {
-        [first, others @ ..] if first.as_str() == "drill" => {
-            Ok(Words::Drill(read_drill(alloc, others)?))
-        }
-        [first, ..] if first.as_str() == "net" => Err(WordsError::Refused),
-        _ => Ok(Words::Server(said_by(&server_matches(alloc, words)?))),
+    if begins_with(words, "drill") {
+        return match read_drill(alloc, later(words)) {
+            Ok(asked) => Ok(Words::Drill(asked)),
+            Err(error) => Err(error),
+        };
+    }
+    if begins_with(words, "net") {
+        return Err(WordsError::Refused);
+    }
+    match read_server(alloc, words) {
+        Ok(asked) => Ok(Words::Server(asked)),
+        Err(error) => Err(error),
     }
 }

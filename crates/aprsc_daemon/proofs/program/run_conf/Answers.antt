@@ -8,7 +8,7 @@ use Rattle.server_core.specs.Meaning.{setting_of}
 use Rattle.aprsc_daemon.specs.Causes.{code_of_status, status_of}
 use Rattle.aprsc_daemon.specs.Phases.{Ends, JournalTold, Served}
 use Rattle.aprsc_daemon.specs.Saying.{listen_failed_text}
-use Rattle.aprsc_daemon.proofs.CauseLemmas.{ended_cause, listener_cause, memory_cause, rose_later}
+use Rattle.aprsc_daemon.proofs.CauseLemmas.{ended_cause, listener_cause, memory_cause, rose_later, said_runs}
 use Rattle.aprsc_daemon.proofs.JournalLemmas.{told_by_end, told_none}
 use Rattle.aprsc_daemon.proofs.RunLemmas.{run_weaker}
 use Rattle.aprsc_daemon.proofs.program.run_conf.Goals as goal
@@ -64,3 +64,6 @@ returns-in-Err-Memory-clause-cause g c = λ words files files_after read.
       read = read;
       run = run_weaker s (g.W.Wire.shown c.args.wire.now).told (g.W.Wire.shown c.open.new.wire).told _ HasFreshLinks (λ more only. only.0) c.in-Err-Memory.ensures.err;
     }))
+
+pub returns-in-Err-Failed-clause-runs : goal.returns-in-Err-Failed-clause-runs
+returns-in-Err-Failed-clause-runs g c = said_runs _ _ (listen_failed_text c.in-Err-Failed.n) c.say_made.result (c.say_made.ensures (listen_failed_text c.in-Err-Failed.n) c.listen_failed.ensures)
