@@ -7,6 +7,9 @@ use std::sync::Wait;
 use std::test::Fail;
 use std::thread::Threads;
 
+const TWO_LINES: &[u8] =
+    b"drill seed 1 lines 2 links 2 accepted 2 duplicate 0 refused 0 queued 1 bytes 167\n";
+
 /// Runs a drill by its words, beside a wire on which nothing comes, over a sink that fails these calls.
 fn drilled<R: Threads + Sync + Wait + RandomSource>(
     rt: &R,
@@ -25,10 +28,7 @@ fn counts_two_lines(rt: HostRuntime) -> Result<(), Fail> {
     let alloc = rt.alloc();
     let left = drilled(&rt, alloc, &["drill", "1", "2", "2"], Vec::new(alloc))?;
     assert!(rt; left.status == 0);
-    assert!(rt;
-        left.text.as_slice()
-            == b"drill seed 1 lines 2 links 2 accepted 2 duplicate 0 refused 0 queued 1 bytes 167\n"
-    );
+    assert!(rt; left.text.as_slice() == TWO_LINES);
     assert!(rt; left.done.is_empty());
     Ok(())
 }
