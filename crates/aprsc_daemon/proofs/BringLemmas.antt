@@ -20,7 +20,7 @@ brings_told x change events (Some told) next tells is comes = (change told, x �
 pub brings_one : (x : Happening) (events : List Event) (now next : Option Told) → events_in (x ∷ []) ≡ events → next ≡ option_map (with_done x) now → Brings events now next
 brings_one x events now next = brings_told x (with_done x) events now next (λ told. refl)
 
-events_join : (first later : List Happening) → events_in (first ++ later) ≡ events_in first ++ events_in later
+pub events_join : (first later : List Happening) → events_in (first ++ later) ≡ events_in first ++ events_in later
 events_join [] later = refl
 events_join (did.Event e ∷ first) later = ap (λ events. e ∷ events) (events_join first later)
 events_join (did.Listen n ∷ first) later = events_join first later

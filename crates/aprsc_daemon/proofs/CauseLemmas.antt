@@ -1,10 +1,10 @@
 -- From what a part of the program did to the cause of its status.
-use Rattle.std.proofs.Common.{◌≡◌, ◌⊎◌, inl, inr, ℕ, ◌≤◌, ◌<◌, true, List, [], ◌∷◌, ◌++◌, length, refl, sym, ap, ◌∙◌, subst, append-nil, Option, Some, None, Result, Ok, ⊎_elim, arith}
+use Rattle.std.proofs.Common.{◌≡◌, ◌≢◌, ◌⊎◌, inl, inr, ℕ, ◌≤◌, ◌<◌, true, List, [], ◌∷◌, ◌++◌, length, refl, sym, ap, ◌∙◌, subst, append-nil, Option, Some, None, Result, Ok, ⊎_elim, arith}
 use Rattle.std.proofs.lemmas.Bool.{false≢true}
 use Rattle.std.specs.Option.{option_map}
 use Rattle.aprs_base.specs.Outside.{Rose, Told}
 use Rattle.aprs_base.specs.declared.events.Happening.TheVariants as did
-use Rattle.aprs_base.specs.Stores.{Holds, bytes_named}
+use Rattle.aprs_base.specs.Stores.{Holds, SinkShown, bytes_named}
 use Rattle.aprs_base.specs.declared.files.MemFile.{MemFile}
 use Rattle.aprs_history.specs.Setting.{Setting}
 use Rattle.aprs_history.specs.History.{History, trace_of}
@@ -22,8 +22,11 @@ use Rattle.aprsc_daemon.specs.Saying.{listen_failed_text, unread_text, usage_tex
 use Rattle.aprsc_daemon.specs.Configuring.{IsTrouble}
 use Rattle.aprsc_daemon.specs.declared.configuring.Trouble.{Trouble}
 use Rattle.aprsc_daemon.specs.declared.configuring.Trouble.TheVariants as trouble
-use Rattle.aprsc_daemon.specs.Causes.{Asks, Cause, Ended, HasNamed, HasNoListener, HasNoMemory, HasRefused, IsDue, IsOff, IsServed, IsUnused, KeepsPromise, Opening, OpensOnly, Outside, Reports, Said, code_of_status, status_of}
-use Rattle.aprsc_daemon.specs.Words.{ServerWordsSeen, asked_of}
+use Rattle.aprsc_daemon.specs.Causes.{AskNothing, Asks, Cause, DrillEnds, Ended, HasNamed, HasNoListener, HasNoMemory, HasRefused, IsDue, IsOff, IsServed, IsUnused, KeepsPromise, Opening, OpensOnly, Outside, Reports, Said, code_of_status, status_of}
+use Rattle.aprsc_daemon.specs.Words.{ServerWordsSeen, asked_of, drill_of}
+use Rattle.aprsc_daemon.specs.Drill.{IsSummary}
+use Rattle.aprsc_daemon.specs.declared.words.DrillWords.{DrillWords}
+use Rattle.drill_plan.specs.declared.plan.Plan.{Plan}
 use Rattle.aprsc_daemon.specs.declared.words.Task.{Task}
 use Rattle.aprsc_daemon.specs.declared.words.Task.TheVariants as task
 use Rattle.aprsc_daemon.specs.declared.serving.End.{End}
@@ -31,6 +34,7 @@ use Rattle.aprsc_daemon.specs.declared.serving.End.TheVariants as ended
 use Rattle.aprsc_daemon.specs.declared.program.Status.{Status}
 use Rattle.aprsc_daemon.specs.declared.program.Status.TheVariants as status
 use Rattle.aprsc_daemon.proofs.RunLemmas.{run_begins, run_told, run_weaker}
+use Rattle.aprsc_daemon.proofs.WordsLemmas.{only_drill}
 
 served_weaker : (o : Outside) (P Q : Setting → History → Type 0) → ((s : Setting) (more : History) → P s more → Q s more) → IsServed o P → IsServed o Q
 served_weaker o P Q weaker served = record {
@@ -56,9 +60,25 @@ pub grew_nothing : (told : Option (List ℕ)) → told ≡ option_map (λ text. 
 grew_nothing None = refl
 grew_nothing (Some text) = ap Some (sym (append-nil text))
 
-pub words_cause : (o : Outside) (text : List ℕ) (result : Status) → asked_of o.words ≡ None → IsUnused o → text ≡ usage_text → Said o.sink o.sink_after text status.BadWords result → Cause result o
-words_cause o text result bad unused line said =
-    said_cause o text status.BadWords result said (record { bad = bad; unused = unused; line = line }) (λ reports. reports)
+pub words_cause : (o : Outside) (text : List ℕ) (result : Status) → asked_of o.words ≡ None → drill_of o.words ≡ None → IsUnused o → text ≡ usage_text → Said o.sink o.sink_after text status.BadWords result → Cause result o
+words_cause o text result bad no_drill unused line said =
+    said_cause o text status.BadWords result said (record { bad = bad; no_drill = no_drill; unused = unused; line = line }) (λ reports. reports)
+
+pub drill_cause : (o : Outside) (asked : DrillWords) (text : List ℕ) (result : Status) → drill_of o.words ≡ Some asked → IsUnused o → IsSummary asked.plan text
+    → Said o.sink o.sink_after text status.Drilled result → Cause result o
+drill_cause o asked text result named unused summary said =
+    said_cause o text status.Drilled result said (record { asked = asked; named = named; unused = unused; summary = summary }) (λ reports. reports)
+
+-- how a drill ends, by what was said
+pub drill_ends : (plan : Plan) (old new : SinkShown) (text : List ℕ) (result : Status) → IsSummary plan text → Said old new text status.Drilled result → DrillEnds (code_of_status result) plan old new
+drill_ends plan old new text result summary said =
+    ⊎_elim
+    (λ whole. inl (ap code_of_status whole.0, text, summary, whole.1))
+    (λ partly. ⊎_elim
+    (λ memory. inr (inl (ap code_of_status memory.0)))
+    (λ lost. inr (inr (ap code_of_status lost.0, lost.1)))
+    partly)
+    said
 
 pub off_cause : (o : Outside) (asked : ServerWordsSeen) (bytes text : List ℕ) (result : Status) → asked_of o.words ≡ Some asked → Holds o.files.told asked.file bytes → IsOff asked.file bytes text
     → IsUnused o → Said o.sink o.sink_after text status.BadFile result → Cause result o
@@ -92,6 +112,25 @@ listener_cause o conf n result read within failed run said =
 
 pub memory_cause : (o : Outside) → o.sink_after.told ≡ o.sink.told → IsUnused o ⊎ IsServed o (λ s. HasFreshLinks) → HasNoMemory o
 memory_cause o silent left = inl (record { run = left; silent = silent })
+
+pub rose_later : (before opened now : ℕ) → before ≤ opened → Rose opened now → Rose before now
+rose_later before opened now le rose = omega arith
+
+-- the end of a run isn't that of a file that is off or unread
+pub ended_runs : (end : End) (result : Status) → result ≡ status_of end → (result ≢ status.BadFile) × (result ≢ status.UnreadFile)
+ended_runs ended.Stopped result is = (λ e. cc, λ e. cc)
+ended_runs ended.Failed result is = (λ e. cc, λ e. cc)
+ended_runs ended.Memory result is = (λ e. cc, λ e. cc)
+
+pub said_runs : (old new : SinkShown) (text : List ℕ) (result : Status) → Said old new text status.NoListener result → (result ≢ status.BadFile) × (result ≢ status.UnreadFile)
+said_runs old new text result said =
+    ⊎_elim
+    (λ whole. let is = whole.0 in (λ e. cc, λ e. cc))
+    (λ partly. ⊎_elim
+    (λ memory. let is = memory.0 in (λ e. cc, λ e. cc))
+    (λ lost. let is = lost.0 in (λ e. cc, λ e. cc))
+    partly)
+    said
 
 pub ended_cause : (o : Outside) (conf : ConfSeen) (end : End) (result : Status) → result ≡ status_of end → HasNamed task.Serve o.words o.files.told conf → o.sink_after.told ≡ o.sink.told
     → (end ≡ ended.Failed → Rose o.wire.stops o.wire_after.stops)
@@ -142,6 +181,13 @@ not_both t words files conf text read refused =
 not_named : (words : List (List ℕ)) (asked : ServerWordsSeen) → asked_of words ≡ None → asked_of words ≡ Some asked → ⊥
 not_named words asked bad named = cc
 
+-- no words ask for a drill and for the server
+pub not_both_modes : (words : List (List ℕ)) (drill : DrillWords) (asked : ServerWordsSeen) → drill_of words ≡ Some drill → asked_of words ≡ Some asked → ⊥
+not_both_modes words drill asked drilled named = not_named words asked (only_drill words drill drilled) named
+
+not_drilled : (words : List (List ℕ)) (drill : DrillWords) → drill_of words ≡ None → drill_of words ≡ Some drill → ⊥
+not_drilled words drill none drilled = cc
+
 -- no words ask for a run and for a check
 one_task : (words : List (List ℕ)) (told : Option (List MemFile)) (a b : ConfSeen) → HasNamed task.Serve words told a → HasNamed task.Check words told b → ⊥
 one_task words told a b x y =
@@ -154,6 +200,7 @@ due_listener : (wanted : Status) (o : Outside) (files : List MemFile) (conf : Co
     → ¬ Rose o.files.faults o.files_after.faults → IsDue wanted o text → HasNoListener o text
 due_listener status.Stopped o files conf text tells read sound due = absurd due
 due_listener status.Checked o files conf text tells read sound due = absurd (one_task o.words o.files.told conf due.conf read due.read)
+due_listener status.Drilled o files conf text tells read sound due = absurd (not_both_modes o.words due.asked read.asked due.named read.named)
 due_listener status.BadWords o files conf text tells read sound due = absurd (not_named o.words read.asked due.bad read.named)
 due_listener status.BadFile o files conf text tells read sound due =
     absurd (not_both task.Serve o.words files conf text (at_files task.Serve o files conf tells read) (subst (λ told. HasRefused o.words told text) tells due.read))
@@ -208,6 +255,7 @@ opens_some o text due =
 due_run : (wanted : Status) (o : Outside) (text : List ℕ) → IsDue wanted o text → IsUnused o ⊎ IsServed o (λ s. HasFreshLinks)
 due_run status.Stopped o text due = absurd due
 due_run status.Checked o text due = inl due.unused
+due_run status.Drilled o text due = inl due.unused
 due_run status.BadWords o text due = inl due.unused
 due_run status.BadFile o text due = inl due.unused
 due_run status.UnreadFile o text due = inl due.unused
@@ -227,6 +275,7 @@ pub headline : (o : Outside) (files : List MemFile) (conf : ConfSeen) (ending : 
 headline o files conf status.Stopped tells read cause =
     served_run o files conf (Ended 0) tells read (served_weaker o Finished (Ended 0) (λ s more at. record { fresh = at.idle.fresh; stopped = λ e. at; lost = λ e. absurd (omega arith) }) cause.run)
 headline o files conf status.Checked tells read cause = absurd (one_task o.words o.files.told conf cause.due.conf read cause.due.read)
+headline o files conf status.Drilled tells read cause = absurd (not_both_modes o.words cause.due.asked read.asked cause.due.named read.named)
 headline o files conf status.BadWords tells read cause =
     due_ended status.BadWords o cause.text files conf 1 (λ e. omega arith) (λ e. omega arith) tells read cause.due
 headline o files conf status.BadFile tells read cause =
@@ -267,6 +316,7 @@ pub early : (o : Outside) (files : List MemFile) (conf : ConfSeen) (ending : Sta
     → AppendsRun (setting_of conf) o.wire.told o.wire_after.told (Opening (setting_of conf))
 early o files conf status.Stopped tells read sound is cause = absurd (omega arith)
 early o files conf status.Checked tells read sound is cause = absurd (omega arith)
+early o files conf status.Drilled tells read sound is cause = absurd (omega arith)
 early o files conf status.BadWords tells read sound is cause = absurd (omega arith)
 early o files conf status.BadFile tells read sound is cause = absurd (omega arith)
 early o files conf status.UnreadFile tells read sound is cause = absurd (omega arith)
@@ -278,17 +328,31 @@ early o files conf status.LostSink tells read sound is cause =
 
 -- ---- completeness
 
-words_asked : (o : Outside) (ending : Status) → asked_of o.words ≡ None → ¬ Rose o.sink.faults o.sink_after.faults → Cause ending o
+words_asked : (o : Outside) (ending : Status) → AskNothing o.words → ¬ Rose o.sink.faults o.sink_after.faults → Cause ending o
     → (code_of_status ending ≡ 1) ⊎ (code_of_status ending ≡ 6)
-words_asked o status.Stopped bad taken cause = absurd (not_named o.words cause.run.read.asked bad cause.run.read.named)
-words_asked o status.Checked bad taken cause = absurd (not_named o.words cause.due.read.asked bad cause.due.read.named)
+words_asked o status.Stopped bad taken cause = absurd (not_named o.words cause.run.read.asked bad.0 cause.run.read.named)
+words_asked o status.Checked bad taken cause = absurd (not_named o.words cause.due.read.asked bad.0 cause.due.read.named)
+words_asked o status.Drilled bad taken cause = absurd (not_drilled o.words cause.due.asked bad.1 cause.due.named)
 words_asked o status.BadWords bad taken cause = inl refl
-words_asked o status.BadFile bad taken cause = absurd (not_named o.words cause.due.read.asked bad cause.due.read.named)
-words_asked o status.UnreadFile bad taken cause = absurd (not_named o.words cause.due.asked bad cause.due.named)
-words_asked o status.NoListener bad taken cause = absurd (not_named o.words cause.due.run.read.asked bad cause.due.run.read.named)
-words_asked o status.LostWire bad taken cause = absurd (not_named o.words cause.run.read.asked bad cause.run.read.named)
+words_asked o status.BadFile bad taken cause = absurd (not_named o.words cause.due.read.asked bad.0 cause.due.read.named)
+words_asked o status.UnreadFile bad taken cause = absurd (not_named o.words cause.due.asked bad.0 cause.due.named)
+words_asked o status.NoListener bad taken cause = absurd (not_named o.words cause.due.run.read.asked bad.0 cause.due.run.read.named)
+words_asked o status.LostWire bad taken cause = absurd (not_named o.words cause.run.read.asked bad.0 cause.run.read.named)
 words_asked o status.NoMemory bad taken cause = inr refl
 words_asked o status.LostSink bad taken cause = absurd (taken cause.failed)
+
+drill_asked : (o : Outside) (asked : DrillWords) (ending : Status) → drill_of o.words ≡ Some asked → ¬ Rose o.sink.faults o.sink_after.faults → Cause ending o
+    → (code_of_status ending ≡ 0) ⊎ (code_of_status ending ≡ 6)
+drill_asked o asked status.Stopped drilled taken cause = inl refl
+drill_asked o asked status.Checked drilled taken cause = inl refl
+drill_asked o asked status.Drilled drilled taken cause = inl refl
+drill_asked o asked status.BadWords drilled taken cause = absurd (not_drilled o.words asked cause.due.no_drill drilled)
+drill_asked o asked status.BadFile drilled taken cause = absurd (not_both_modes o.words asked cause.due.read.asked drilled cause.due.read.named)
+drill_asked o asked status.UnreadFile drilled taken cause = absurd (not_both_modes o.words asked cause.due.asked drilled cause.due.named)
+drill_asked o asked status.NoListener drilled taken cause = absurd (not_both_modes o.words asked cause.due.run.read.asked drilled cause.due.run.read.named)
+drill_asked o asked status.LostWire drilled taken cause = absurd (not_both_modes o.words asked cause.run.read.asked drilled cause.run.read.named)
+drill_asked o asked status.NoMemory drilled taken cause = inr refl
+drill_asked o asked status.LostSink drilled taken cause = absurd (taken cause.failed)
 
 served_not_off : (o : Outside) (files : List MemFile) (text : List ℕ) (P : Setting → History → Type 0) → o.files.told ≡ Some files → HasRefused o.words (Some files) text → IsServed o P → ⊥
 served_not_off o files text P tells refused served = not_both task.Serve o.words files served.conf text (at_files task.Serve o files served.conf tells served.read) refused
@@ -299,6 +363,7 @@ file_asked : (o : Outside) (files : List MemFile) (text : List ℕ) (ending : St
 file_asked o files text status.Stopped tells refused sound taken cause = absurd (served_not_off o files text Finished tells refused cause.run)
 file_asked o files text status.Checked tells refused sound taken cause =
     absurd (not_both task.Check o.words files cause.due.conf text (at_files task.Check o files cause.due.conf tells cause.due.read) refused)
+file_asked o files text status.Drilled tells refused sound taken cause = absurd (not_both_modes o.words cause.due.asked refused.asked cause.due.named refused.named)
 file_asked o files text status.BadWords tells refused sound taken cause = absurd (not_named o.words refused.asked cause.due.bad refused.named)
 file_asked o files text status.BadFile tells refused sound taken cause = inl refl
 file_asked o files text status.UnreadFile tells refused sound taken cause = absurd (sound cause.due.failed)
@@ -312,6 +377,7 @@ conf_asked : (t : Task) (o : Outside) (files : List MemFile) (conf : ConfSeen) (
     → (code_of_status ending ≡ 0) ⊎ (code_of_status ending ≡ 6)
 conf_asked t o files conf status.Stopped tells read sound going taken cause = inl refl
 conf_asked t o files conf status.Checked tells read sound going taken cause = inl refl
+conf_asked t o files conf status.Drilled tells read sound going taken cause = inl refl
 conf_asked t o files conf status.BadWords tells read sound going taken cause = absurd (not_named o.words read.asked cause.due.bad read.named)
 conf_asked t o files conf status.BadFile tells read sound going taken cause =
     absurd (not_both t o.words files conf cause.text (at_files t o files conf tells read) (subst (λ told. HasRefused o.words told cause.text) tells cause.due.read))
@@ -330,12 +396,19 @@ complete o code ending asks sound going taken cause = answers o.files.told refl 
     is_code wanted is asked = subst (λ n. (code_of_status ending ≡ n) ⊎ (code_of_status ending ≡ 6)) (sym is) asked
 
     answers : (told : Option (List MemFile)) → o.files.told ≡ told → Asks o.words told code → (code_of_status ending ≡ code) ⊎ (code_of_status ending ≡ 6)
-    answers None tells words = is_code 1 words.0 (words_asked o ending words.1 taken cause)
+    answers None tells asks =
+        ⊎_elim
+        (λ words. is_code 1 words.0 (words_asked o ending words.1 taken cause))
+        (λ drill. is_code 0 drill.0 (let asks = drill.1 in drill_asked o asks.0 ending asks.1 taken cause))
+        asks
     answers (Some files) tells asks =
         ⊎_elim
         (λ words. is_code 1 words.0 (words_asked o ending words.1 taken cause))
         (λ good. ⊎_elim
         (λ file. is_code 2 file.0 (file_asked o files file.1 ending tells file.2 sound taken cause))
+        (λ other. ⊎_elim
         (λ named. is_code 0 named.0 (conf_asked named.1 o files named.2 ending tells (subst (λ told. HasNamed named.1 o.words told named.2) (sym tells) named.3) sound going taken cause))
+        (λ drill. is_code 0 drill.0 (let asks = drill.1 in drill_asked o asks.0 ending asks.1 taken cause))
+        other)
         good)
         asks

@@ -1,6 +1,7 @@
 pub mod ActLemmas
 pub mod BringLemmas
 pub mod CauseLemmas
+pub mod DrillLemmas
 pub mod EventLemmas
 pub mod JournalLemmas
 pub mod ReachLemmas

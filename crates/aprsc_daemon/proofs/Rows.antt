@@ -16,7 +16,9 @@ use Rattle.aprs_conf.specs.declared.errors.ConfWord.TheVariants as word
 use Rattle.aprsc_daemon.specs.Saying.{trouble_text, listen_failed_text}
 use Rattle.aprsc_daemon.specs.declared.configuring.Trouble.TheVariants as trouble
 use Rattle.clap.proofs.OnLiterals.{clap_on_literals}
-use Rattle.aprsc_daemon.specs.Words.{asked_of}
+use Rattle.login_pass.specs.Passcode.{passcode_of}
+use Rattle.aprsc_daemon.specs.Drill.{drill_setting}
+use Rattle.aprsc_daemon.specs.Words.{asked_of, drill_of}
 use Rattle.aprsc_daemon.specs.declared.words.Task.TheVariants as task
 
 good_words : asked_of (codes "-c" ∷ codes "aprsc.conf" ∷ []) ≡ Some (record { file = codes "aprsc.conf"; workers = 1; task = task.Serve })
@@ -46,6 +48,41 @@ no_file = refl
 other_mode : asked_of (codes "drill" ∷ codes "-c" ∷ codes "c" ∷ []) ≡ None
 unfolding clap_on_literals asked_of
 other_mode = refl
+
+-- ---- a drill
+
+good_drill : drill_of (codes "drill" ∷ codes "0" ∷ codes "1" ∷ codes "2" ∷ codes "-w" ∷ codes "1" ∷ []) ≡ Some (record { plan = record { seed = 0; lines = 1; links = 2 }; workers = 1 })
+unfolding clap_on_literals drill_of
+good_drill = refl
+
+largest_drill : drill_of (codes "drill" ∷ codes "1" ∷ codes "4000" ∷ codes "1000" ∷ []) ≡ Some (record { plan = record { seed = 1; lines = 4000; links = 1000 }; workers = 1 })
+unfolding clap_on_literals drill_of
+largest_drill = refl
+
+too_large_a_drill : drill_of (codes "drill" ∷ codes "1" ∷ codes "100000" ∷ codes "1000" ∷ []) ≡ None
+unfolding clap_on_literals drill_of
+too_large_a_drill = refl
+
+too_few_links : drill_of (codes "drill" ∷ codes "1" ∷ codes "1" ∷ codes "1" ∷ []) ≡ None
+unfolding clap_on_literals drill_of
+too_few_links = refl
+
+no_seed : drill_of (codes "drill" ∷ codes "x" ∷ codes "1" ∷ codes "2" ∷ []) ≡ None
+unfolding clap_on_literals drill_of
+no_seed = refl
+
+no_numbers : drill_of (codes "drill" ∷ []) ≡ None
+unfolding clap_on_literals drill_of
+no_numbers = refl
+
+other_than_drill : drill_of (codes "net" ∷ codes "x" ∷ []) ≡ None
+unfolding drill_of
+other_than_drill = refl
+
+-- the code of the drill's setting
+drill_passcode : passcode_of drill_setting.server ≡ drill_setting.code
+unfolding passcode_of
+drill_passcode = refl
 
 bad_line : trouble_text (codes "c") (trouble.Line 4 fault.BadKind) ≡ codes "c: line 4: bad-kind\n"
 bad_line = let four : decimal 4 ≡ 52 ∷ [] = decimal_digit 4 (lit< tt) in rw four refl

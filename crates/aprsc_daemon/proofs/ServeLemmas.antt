@@ -18,7 +18,8 @@ use Rattle.aprs_history.specs.Acts.{due, listens_from}
 use Rattle.aprs_history.specs.Runs.{AppendsRun}
 use Rattle.server_core.specs.ActsSeen.{ActsSeen}
 use Rattle.server_core.specs.Meaning.{AreActs, CoreMeaning, Stands, group_listens, listeners, numbered, setting_of}
-use Rattle.aprsc_daemon.specs.Phases.{Acting, AreOfRound, Gathering, Listening, Offering, Resting, Served}
+use Rattle.aprs_history.specs.Stands.{StandsFor}
+use Rattle.aprsc_daemon.specs.Phases.{Acting, AreOfRound, Finished, Gathering, Listening, Offering, Resting, Served}
 use Rattle.aprsc_daemon.specs.declared.serving.End.TheVariants as ended
 use Rattle.aprsc_daemon.proofs.EventLemmas.{gathered_fresh}
 use Rattle.aprsc_daemon.proofs.JournalLemmas.{listens_untold, round_added}
@@ -56,12 +57,25 @@ pub begins_round : (lines : List JournalLineSeen) (s : Setting) (start now : Opt
 begins_round lines s start now core going = run_weaker s start now (Resting lines core) (Gathering lines core []) (λ more phase.
     record { before = more; since = refl; resting = phase; going = sym phase.stands.stopped ∙ going; all = phase.all })
 
+-- where the core stopped, the run is finished, and the core stands for it
+stopped_rests : {lines : List JournalLineSeen} (s : Setting) (core : CoreMeaning) (more : History) → setting_of core.conf ≡ s → core.seen.stopped ≡ true → Resting lines core more
+    → Finished s more × StandsFor s core.seen more
+stopped_rests s core more same stopped phase = (
+  record { stopped = sym phase.stands.stopped ∙ stopped; idle = record { none = subst (λ t. due t more ≡ []) same phase.none; all = phase.all ∙ ap (λ s. length s.listens) same; fresh = phase.fresh } },
+  subst (λ t. StandsFor t core.seen more) same phase.stands,
+)
+
 pub finishes : (lines : List JournalLineSeen) (s : Setting) (start now : Option Told) (core : CoreMeaning) → setting_of core.conf ≡ s → core.seen.stopped ≡ true → AppendsRun s start now (Resting lines core)
     → AppendsRun s start now (Served s ended.Stopped lines)
 finishes lines s start now core same stopped = run_weaker s start now (Resting lines core) (Served s ended.Stopped lines) (λ more phase. (
-  record { stopped = sym phase.stands.stopped ∙ stopped; idle = record { none = subst (λ t. due t more ≡ []) same phase.none; all = phase.all ∙ ap (λ s. length s.listens) same; fresh = phase.fresh } },
+  (stopped_rests s core more same stopped phase).0,
   ap (λ t. journal_of t more) (sym same) ∙ phase.journal,
 ))
+
+pub stands_at_last : (lines : List JournalLineSeen) (s : Setting) (start now : Option Told) (core : CoreMeaning) → setting_of core.conf ≡ s → core.seen.stopped ≡ true → AppendsRun s start now (Resting lines core)
+    → AppendsRun s start now (λ more. Finished s more × StandsFor s core.seen more)
+stands_at_last lines s start now core same stopped =
+    run_weaker s start now (Resting lines core) (λ more. Finished s more × StandsFor s core.seen more) (λ more phase. stopped_rests s core more same stopped phase)
 
 -- where every listener is open, and nothing else happened, a new core stands for what happened
 pub listening_rests : (core : CoreMeaning) (conf : ConfSeen) (more : History) → core.conf ≡ conf → Stands core (only_listens (setting_of conf))

@@ -1,35 +1,36 @@
 -- From the values that `clap` found in the words to what they ask for.
-use Rattle.std.proofs.Common.{◌≡◌, ℕ, ◌≤◌, ◌^◌, Bool, true, false, List, [], ◌∷◌, Option, Some, None, Result, Ok, refl, sym, arith}
-use Rattle.std.specs.Option.{option_map_or}
+use Rattle.std.proofs.Common.{◌≡◌, ℕ, ◌≤◌, ◌<◌, ◌^◌, Bool, true, false, List, [], ◌∷◌, Option, Some, None, Result, Ok, refl, sym, ap, ◌∙◌, arith, codes, drop}
+use Rattle.std.specs.Option.{option_and_then, option_map_or}
 use Rattle.std.specs.Str.Parse.{ParsesUnsigned, digits_value, without_leading_plus}
 use Rattle.clap.specs.ValueTests.{is_unsigned_in}
 use Rattle.std.specs.Prelude.{if◌then◌else◌}
 use Rattle.clap.specs.Words.{IsUnsignedIn, Kinds, ReadsOne, Row, fault_of, matches_of}
 use Rattle.clap.specs.declared.builder.value_parser.ValueParser.TheVariants as vp
 use Rattle.clap.proofs.ValueTestLemmas.{accepts-Accepts, Accepts-accepts}
-use Rattle.aprsc_daemon.specs.Words.{ServerWordsSeen, asked_of, names_mode, said_by, server_app, without_fault, workers_in}
+use Rattle.aprsc_daemon.specs.Words.{ServerWordsSeen, asked_of, begins_with, drill_app, drill_in, drill_of, drill_said_by, if_small, is_small, names_mode, number_in, said_by, server_app, without_fault}
+use Rattle.aprsc_daemon.specs.declared.words.DrillWords.{DrillWords}
 
--- a number from 1 to 64 that a text reads as is its number of workers
-workers_of_text : (E : Type 0) (text : List ℕ) (n : ℕ) → ParsesUnsigned {E = E} 32 10 text (Ok n) → 1 ≤ n → n ≤ 64 → n ≡ workers_in text
-workers_of_text E text n parses least most =
+-- a number of a range that a text reads as is its number
+number_of_text : (E : Type 0) (low high : ℕ) (text : List ℕ) (n : ℕ) → ParsesUnsigned {E = E} 32 10 text (Ok n) → low ≤ n → n ≤ high → n ≡ number_in low high text
+number_of_text E low high text n parses least most =
     let value : digits_value 10 (without_leading_plus text) ≡ n = sym parses.1 in
-    let good : is_unsigned_in 1 64 text ≡ true = Accepts-accepts false (vp.Unsigned 1 64) text (parses.0.0, rw value (omega arith), rw value least, rw value most) in
+    let good : is_unsigned_in low high text ≡ true = Accepts-accepts false (vp.Unsigned low high) text (parses.0.0, rw value (omega arith), rw value least, rw value most) in
     rw good parses.1
 
-out_of_range : (E : Type 0) (text : List ℕ) (r : Option ℕ) → ReadsOne {T = ℕ} {E = E} (ParsesUnsigned 32 10) text r
-    → ((n : ℕ) → r ≡ Some n → 1 ≤ n → n ≤ 64 → ⊥) → IsUnsignedIn 1 64 text → ⊥
-out_of_range E text (Some n) reads out passed = out n refl (rw reads.1 passed.2) (rw reads.1 passed.3)
-out_of_range E text None reads out passed =
+out_of_range : (E : Type 0) (low high : ℕ) (text : List ℕ) (r : Option ℕ) → high < 2 ^ 32 → ReadsOne {T = ℕ} {E = E} (ParsesUnsigned 32 10) text r
+    → ((n : ℕ) → r ≡ Some n → low ≤ n → n ≤ high → ⊥) → IsUnsignedIn low high text → ⊥
+out_of_range E low high text (Some n) few reads out passed = out n refl (rw reads.1 passed.2) (rw reads.1 passed.3)
+out_of_range E low high text None few reads out passed =
     let most = passed.3 in
-    reads.1 (passed.0, omega (arith, most))
+    reads.1 (passed.0, omega (arith, most, few))
 
--- and where it reads as none it has one worker
-no_workers_of_text : (E : Type 0) (text : List ℕ) (r : Option ℕ) → ReadsOne {T = ℕ} {E = E} (ParsesUnsigned 32 10) text r
-    → ((n : ℕ) → r ≡ Some n → 1 ≤ n → n ≤ 64 → ⊥) → 1 ≡ workers_in text
-no_workers_of_text E text r reads out = tried (is_unsigned_in 1 64 text) refl
+-- and where it reads as none it has the least
+no_number_of_text : (E : Type 0) (low high : ℕ) (text : List ℕ) (r : Option ℕ) → high < 2 ^ 32 → ReadsOne {T = ℕ} {E = E} (ParsesUnsigned 32 10) text r
+    → ((n : ℕ) → r ≡ Some n → low ≤ n → n ≤ high → ⊥) → low ≡ number_in low high text
+no_number_of_text E low high text r few reads out = tried (is_unsigned_in low high text) refl
   where
-    tried : (b : Bool) → is_unsigned_in 1 64 text ≡ b → 1 ≡ workers_in text
-    tried true good = absurd (out_of_range E text r reads out (accepts-Accepts false (vp.Unsigned 1 64) text good))
+    tried : (b : Bool) → is_unsigned_in low high text ≡ b → low ≡ number_in low high text
+    tried true good = absurd (out_of_range E low high text r few reads out (accepts-Accepts false (vp.Unsigned low high) text good))
     tried false bad = rw bad refl
 
 -- what a typed getter read of a text, by the first part of what its type says
@@ -38,22 +39,22 @@ reads_by : {E : Type 0} (G H : List ℕ → Result ℕ E → Type 0) (text : Lis
 reads_by G H text (Some n) part reads = part text (Ok n) reads
 reads_by G H text None part reads = (reads.0, part text _ reads.1)
 
--- the number of workers that was read
-pub workers_found : (E : Type 0) (G : List ℕ → Result ℕ E → Type 0) → ((t : List ℕ) (x : Result ℕ E) → G t x → ParsesUnsigned 32 10 t x)
-    → (found : Option (List ℕ)) (r : Option ℕ) → (found ≡ None → r ≡ None) → ((t : List ℕ) → found ≡ Some t → ReadsOne G t r)
-    → (n : ℕ) → r ≡ Some n → 1 ≤ n → n ≤ 64 → n ≡ option_map_or workers_in found 1
-workers_found E G part None r none some n is least most = let nothing = none refl in cc
-workers_found E G part (Some text) (Some m) none some n is least most =
+-- the number that was read
+pub number_found : (E : Type 0) (G : List ℕ → Result ℕ E → Type 0) → ((t : List ℕ) (x : Result ℕ E) → G t x → ParsesUnsigned 32 10 t x)
+    → (low high : ℕ) (found : Option (List ℕ)) (r : Option ℕ) → (found ≡ None → r ≡ None) → ((t : List ℕ) → found ≡ Some t → ReadsOne G t r)
+    → (n : ℕ) → r ≡ Some n → low ≤ n → n ≤ high → n ≡ option_map_or (number_in low high) found low
+number_found E G part low high None r none some n is least most = let nothing = none refl in cc
+number_found E G part low high (Some text) (Some m) none some n is least most =
     let same : m ≡ n = cc in
-    rw (sym same) (workers_of_text E text m (part text (Ok m) (some text refl)) (rw same least) (rw same most))
-workers_found E G part (Some text) None none some n is least most = cc
+    rw (sym same) (number_of_text E low high text m (part text (Ok m) (some text refl)) (rw same least) (rw same most))
+number_found E G part low high (Some text) None none some n is least most = cc
 
 -- or that there is none
-pub no_workers_found : (E : Type 0) (G : List ℕ → Result ℕ E → Type 0) → ((t : List ℕ) (x : Result ℕ E) → G t x → ParsesUnsigned 32 10 t x)
-    → (found : Option (List ℕ)) (r : Option ℕ) → ((t : List ℕ) → found ≡ Some t → ReadsOne G t r)
-    → ((n : ℕ) → r ≡ Some n → 1 ≤ n → n ≤ 64 → ⊥) → 1 ≡ option_map_or workers_in found 1
-no_workers_found E G part None r some out = refl
-no_workers_found E G part (Some text) r some out = no_workers_of_text E text r (reads_by G (ParsesUnsigned 32 10) text r part (some text refl)) out
+pub no_number_found : (E : Type 0) (G : List ℕ → Result ℕ E → Type 0) → ((t : List ℕ) (x : Result ℕ E) → G t x → ParsesUnsigned 32 10 t x)
+    → (low high : ℕ) (found : Option (List ℕ)) (r : Option ℕ) → high < 2 ^ 32 → ((t : List ℕ) → found ≡ Some t → ReadsOne G t r)
+    → ((n : ℕ) → r ≡ Some n → low ≤ n → n ≤ high → ⊥) → low ≡ option_map_or (number_in low high) found low
+no_number_found E G part low high None r few some out = refl
+no_number_found E G part low high (Some text) r few some out = no_number_of_text E low high text r few (reads_by G (ParsesUnsigned 32 10) text r part (some text refl)) out
 
 -- ---- what the words ask for
 
@@ -63,15 +64,70 @@ pub asks : (words : List (List ℕ)) (rows : List Row) (said : ServerWordsSeen) 
 unfolding asked_of
 asks words rows said server good found is = rw (server, good, is, found) refl
 
+none_by_fault : {A : Type 0} (faults : Kinds) (x : A) → (faults ≡ [] → ⊥) → without_fault faults x ≡ None
+none_by_fault [] x some = absurd (some refl)
+none_by_fault (fault ∷ faults) x some = refl
+
 -- and others ask for nothing
 pub asks_nothing : (words : List (List ℕ)) → (fault_of server_app words ≡ [] → ⊥) → asked_of words ≡ None
 unfolding asked_of
 asks_nothing words bad = by_mode (names_mode words)
   where
-    by_fault : (faults : Kinds) → (faults ≡ [] → ⊥) → without_fault faults (said_by (matches_of server_app words)) ≡ None
-    by_fault [] some = absurd (some refl)
-    by_fault (fault ∷ faults) some = refl
-
     by_mode : (b : Bool) → (if b then None else without_fault (fault_of server_app words) (said_by (matches_of server_app words))) ≡ None
     by_mode true = refl
-    by_mode false = by_fault (fault_of server_app words) bad
+    by_mode false = none_by_fault (fault_of server_app words) (said_by (matches_of server_app words)) bad
+
+-- a mode's name asks nothing of the server
+pub other_mode : (words : List (List ℕ)) → names_mode words ≡ true → asked_of words ≡ None
+unfolding asked_of
+other_mode words mode = rw mode refl
+
+-- ---- what they ask of a drill
+
+pub drills : (words : List (List ℕ)) (rows : List Row) (said : DrillWords) → fault_of drill_app words ≡ [] → rows ≡ matches_of drill_app words → said ≡ drill_said_by rows
+    → is_small said ≡ true → drill_in words ≡ Some said
+drills words rows said good found is small =
+    let asked : drill_said_by (matches_of drill_app words) ≡ said = ap drill_said_by (sym found) ∙ sym is in
+    let chosen = ap (λ faults. option_and_then if_small (without_fault faults (drill_said_by (matches_of drill_app words)))) good in
+    chosen ∙ ap if_small asked ∙ ap (λ b. if b then Some said else None) small
+
+pub too_large : (words : List (List ℕ)) (rows : List Row) (said : DrillWords) → fault_of drill_app words ≡ [] → rows ≡ matches_of drill_app words → said ≡ drill_said_by rows
+    → is_small said ≡ false → drill_in words ≡ None
+too_large words rows said good found is large =
+    let asked : drill_said_by (matches_of drill_app words) ≡ said = ap drill_said_by (sym found) ∙ sym is in
+    let chosen = ap (λ faults. option_and_then if_small (without_fault faults (drill_said_by (matches_of drill_app words)))) good in
+    chosen ∙ ap if_small asked ∙ ap (λ b. if b then Some said else None) large
+
+pub no_drill : (words : List (List ℕ)) → (fault_of drill_app words ≡ [] → ⊥) → drill_in words ≡ None
+no_drill words bad = ap (option_and_then if_small) (none_by_fault (fault_of drill_app words) (drill_said_by (matches_of drill_app words)) bad)
+
+-- words that begin with the mode's name ask what those after it ask of a drill
+pub drill_after : (words : List (List ℕ)) → begins_with (codes "drill") words ≡ true → drill_of words ≡ drill_in (drop 1 words)
+unfolding drill_of
+drill_after words is = rw is refl
+
+-- and others ask nothing of a drill
+pub no_mode : (words : List (List ℕ)) → begins_with (codes "drill") words ≡ false → drill_of words ≡ None
+unfolding drill_of
+no_mode words other = rw other refl
+
+-- words that begin with the name of a mode ask nothing of the server
+pub begins_drill : (words : List (List ℕ)) → begins_with (codes "drill") words ≡ true → asked_of words ≡ None
+begins_drill words is = other_mode words (rw is refl)
+
+pub begins_net : (words : List (List ℕ)) → begins_with (codes "drill") words ≡ false → begins_with (codes "net") words ≡ true → asked_of words ≡ None
+begins_net words other is = other_mode words (rw (other, is) refl)
+
+pub begins_none : (words : List (List ℕ)) → begins_with (codes "drill") words ≡ false → begins_with (codes "net") words ≡ false → names_mode words ≡ false
+begins_none words drill net = rw (drill, net) refl
+
+-- words that ask for a drill ask nothing of the server
+pub only_drill : (words : List (List ℕ)) (asked : DrillWords) → drill_of words ≡ Some asked → asked_of words ≡ None
+only_drill words asked drill = by_name (begins_with (codes "drill") words) refl
+  where
+    nothing : None ≡ Some asked → ⊥
+    nothing e = cc
+
+    by_name : (b : Bool) → begins_with (codes "drill") words ≡ b → asked_of words ≡ None
+    by_name true is = begins_drill words is
+    by_name false is = absurd (nothing (sym (no_mode words is) ∙ drill))

@@ -18,9 +18,12 @@ use Rattle.aprs_conf.specs.Grammar.{conf_of}
 use Rattle.server_core.specs.Meaning.{setting_of}
 use Rattle.aprsc_daemon.specs.Phases.{Finished, Idle}
 use Rattle.aprsc_daemon.specs.Saying.{Grew, listen_failed_text, trouble_text, too_large_text, unread_text, usage_text, valid_text}
+use Rattle.drill_plan.specs.declared.plan.Plan.{Plan}
 use Rattle.aprsc_daemon.specs.Configuring.{IsTrouble}
+use Rattle.aprsc_daemon.specs.Drill.{IsSummary}
+use Rattle.aprsc_daemon.specs.declared.words.DrillWords.{DrillWords}
 use Rattle.aprsc_daemon.specs.declared.configuring.Trouble.{Trouble}
-use Rattle.aprsc_daemon.specs.Words.{ServerWordsSeen, asked_of}
+use Rattle.aprsc_daemon.specs.Words.{ServerWordsSeen, asked_of, drill_of}
 use Rattle.aprsc_daemon.specs.declared.words.Task.{Task}
 use Rattle.aprsc_daemon.specs.declared.words.Task.TheVariants as task
 use Rattle.aprsc_daemon.specs.declared.serving.End.{End}
@@ -37,6 +40,17 @@ pub record Outside : Type 0 where
   pub wire_after : WireShown
   pub sink : SinkShown
   pub sink_after : SinkShown
+
+abbrev pub outside_of : List (List ℕ) → (files files_after : FilesShown) → (wire wire_after : WireShown) → (sink sink_after : SinkShown) → Outside
+outside_of words files files_after wire wire_after sink sink_after = record {
+  words = words;
+  files = files;
+  files_after = files_after;
+  wire = wire;
+  wire_after = wire_after;
+  sink = sink;
+  sink_after = sink_after;
+}
 
 -- nothing happened on the wire
 abbrev pub IsUnused : Outside → Type 0
@@ -77,9 +91,17 @@ pub record HasValidFile (o : Outside) (text : List ℕ) : Type 0 where
   pub unused : IsUnused o
   pub line : text ≡ valid_text read.asked.file
 
--- 1: the words aren't good
+-- 0 with `drill`: the words ask for a drill, and the text says what it counted
+pub record HasDrilled (o : Outside) (text : List ℕ) : Type 0 where
+  pub asked : DrillWords
+  pub named : drill_of o.words ≡ Some asked
+  pub unused : IsUnused o
+  pub summary : IsSummary asked.plan text
+
+-- 1: the words ask neither for the server nor for a drill
 pub record HasBadWords (o : Outside) (text : List ℕ) : Type 0 where
   pub bad : asked_of o.words ≡ None
+  pub no_drill : drill_of o.words ≡ None
   pub unused : IsUnused o
   pub line : text ≡ usage_text
 
@@ -126,6 +148,7 @@ pub record HasNoListener (o : Outside) (text : List ℕ) : Type 0 where
 abbrev pub IsDue : Status → Outside → List ℕ → Type 0
 IsDue status.Stopped o text = ⊥
 IsDue status.Checked o text = HasValidFile o text
+IsDue status.Drilled o text = HasDrilled o text
 IsDue status.BadWords o text = HasBadWords o text
 IsDue status.BadFile o text = HasBadFile o text
 IsDue status.UnreadFile o text = HasUnreadFile o text
@@ -179,6 +202,7 @@ pub record HasLostSink (o : Outside) : Type 0 where
 abbrev pub Cause : Status → Outside → Type 0
 Cause status.Stopped o = HasStopped o
 Cause status.Checked o = Reports status.Checked o
+Cause status.Drilled o = Reports status.Drilled o
 Cause status.BadWords o = Reports status.BadWords o
 Cause status.BadFile o = Reports status.BadFile o
 Cause status.UnreadFile o = Reports status.UnreadFile o
@@ -190,6 +214,7 @@ Cause status.LostSink o = HasLostSink o
 abbrev pub code_of_status : Status → ℕ
 code_of_status status.Stopped = 0
 code_of_status status.Checked = 0
+code_of_status status.Drilled = 0
 code_of_status status.BadWords = 1
 code_of_status status.BadFile = 2
 code_of_status status.UnreadFile = 3
@@ -229,14 +254,33 @@ Opening setting more = listens_in more < length setting.listens
 
 -- ---- completeness
 
+-- the words ask for nothing, and for a drill
+abbrev pub AskNothing : List (List ℕ) → Type 0
+AskNothing words = (asked_of words ≡ None) × (drill_of words ≡ None)
+
+abbrev pub AskDrill : List (List ℕ) → Type 0
+AskDrill words = (asked : DrillWords) × (drill_of words ≡ Some asked)
+
 -- the status that the words ask for, and the file where the files tell it: 1 for bad words, 2 for a file that is off, 0 for
--- a configuration, whether it is to be served or checked
+-- a configuration, whether it is to be served or checked, and for a drill
 abbrev pub Asks : List (List ℕ) → Option (List MemFile) → ℕ → Type 0
-Asks words None code = (code ≡ 1) × (asked_of words ≡ None)
+Asks words None code =
+    ((code ≡ 1) × AskNothing words)
+    ⊎ ((code ≡ 0) × AskDrill words)
 Asks words (Some files) code =
-    ((code ≡ 1) × (asked_of words ≡ None))
+    ((code ≡ 1) × AskNothing words)
     ⊎ ((code ≡ 2) × (text : List ℕ) × HasRefused words (Some files) text)
     ⊎ ((code ≡ 0) × (asked_task : Task) × (conf : ConfSeen) × HasNamed asked_task words (Some files) conf)
+    ⊎ ((code ≡ 0) × AskDrill words)
+
+-- ---- a drill
+
+-- it ends with its summary on the sink, for want of memory, or where the sink failed
+abbrev pub DrillEnds : ℕ → Plan → SinkShown → SinkShown → Type 0
+DrillEnds code plan old new =
+    ((code ≡ 0) × (text : List ℕ) × IsSummary plan text × Grew old new text)
+    ⊎ (code ≡ 6)
+    ⊎ ((code ≡ 7) × Rose old.faults new.faults)
 
 -- ---- a text and its status
 

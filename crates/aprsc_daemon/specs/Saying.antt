@@ -3,10 +3,12 @@ use Rattle.std.specs.Prelude.{◌≡◌, ℕ, ◌≤◌, List, ◌++◌, take, c
 use Rattle.std.specs.Option.{option_map}
 use Rattle.std.specs.Fmt.{decimal}
 use Rattle.aprs_base.specs.Outside.{Rose}
+use Rattle.drill_plan.specs.declared.plan.Plan.{Plan}
 use Rattle.aprsc_daemon.specs.Configuring.{fault_name, word_name}
 use Rattle.aprsc_daemon.specs.declared.configuring.Trouble.{Trouble}
 use Rattle.aprsc_daemon.specs.declared.configuring.Trouble.TheVariants as trouble
 use Rattle.aprs_base.specs.Stores.{SinkShown}
+use Rattle.aprs_base.specs.declared.totals.Totals.{Totals}
 use Rattle.aprs_base.specs.declared.sinks.SinkError.{SinkError}
 use Rattle.aprs_base.specs.declared.sinks.SinkError.TheVariants as sink_error
 
@@ -41,3 +43,17 @@ unread_text file = file ++ codes ": cannot be read\n"
 
 abbrev pub listen_failed_text : ℕ → List ℕ
 listen_failed_text number = codes "listen " ++ (decimal number ++ codes " failed\n")
+
+-- which drill, and what it counted
+abbrev pub drill_name : Plan → List ℕ
+drill_name plan = codes "drill seed " ++ (decimal plan.seed ++ (codes " lines " ++ (decimal plan.lines ++ (codes " links " ++ decimal plan.links))))
+
+abbrev pub totals_text : Totals → List ℕ
+totals_text totals =
+    codes "accepted " ++ (decimal totals.accepted
+    ++ (codes " duplicate " ++ (decimal totals.duplicate
+    ++ (codes " refused " ++ (decimal totals.refused
+    ++ (codes " queued " ++ decimal totals.queued))))))
+
+abbrev pub summary_text : Plan → Totals → (taken : ℕ) → List ℕ
+summary_text plan totals taken = drill_name plan ++ (codes " " ++ (totals_text totals ++ (codes " bytes " ++ (decimal taken ++ codes "\n"))))

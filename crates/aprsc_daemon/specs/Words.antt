@@ -1,12 +1,13 @@
 -- The words that the program is started with, and the command by which `clap` reads them.
-use Rattle.std.specs.Prelude.{ℕ, ◌||◌, Bool, false, true, if◌then◌else◌, List, [], ◌∷◌, codes, Option, Some, None, unwrap_or}
-use Rattle.std.specs.Option.{option_map_or}
+use Rattle.std.specs.Prelude.{ℕ, drop, ◌*◌, ◌||◌, nat_le, Bool, false, true, if◌then◌else◌, List, [], ◌∷◌, codes, Option, Some, None, unwrap_or}
+use Rattle.std.specs.Option.{option_and_then, option_map_or}
 use Rattle.std.specs.Str.{byte, bytes_eq}
 use Rattle.std.specs.Str.Parse.{digits_value, without_leading_plus}
 use Rattle.clap.specs.ValueTests.{is_unsigned_in}
 use Rattle.clap.specs.Words.{App, Kinds, Row, Rule, fault_of, first_of, matches_of, new_app, new_rule, one_of, with_rule}
 use Rattle.clap.specs.declared.builder.ArgAction.TheVariants.{Set, SetTrue}
 use Rattle.clap.specs.declared.builder.value_parser.ValueParser.TheVariants as vp
+use Rattle.aprsc_daemon.specs.declared.words.DrillWords.{DrillWords}
 use Rattle.aprsc_daemon.specs.declared.words.Task.{Task}
 use Rattle.aprsc_daemon.specs.declared.words.Task.TheVariants as task
 
@@ -39,16 +40,42 @@ bare_app = record (new_app (codes "aprsc")) {
 abbrev pub server_app : App
 server_app = with_rule (with_rule (with_rule bare_app file_rule) workers_rule) check_rule
 
+-- ---- the drill's command
+
+-- a whole number in a range, as a word of its own
+abbrev pub number_rule : (id : List ℕ) → (low high : ℕ) → Rule
+number_rule id low high = record (new_rule id) { action = Some Set; required = true; parser = Some (vp.Unsigned low high) }
+
+abbrev pub seed_rule : Rule
+seed_rule = number_rule (codes "seed") 0 2147483647
+
+abbrev pub lines_rule : Rule
+lines_rule = number_rule (codes "lines") 1 100000
+
+abbrev pub links_rule : Rule
+links_rule = number_rule (codes "links") 2 1000
+
+abbrev pub drill_app : App
+drill_app = with_rule (with_rule (with_rule (with_rule bare_app seed_rule) lines_rule) links_rule) workers_rule
+
 -- ---- what the words ask for
 
--- the first word calls for another mode than the server
-abbrev pub names_mode : List (List ℕ) → Bool
-names_mode [] = false
-names_mode (first ∷ others) = bytes_eq first (codes "drill") || bytes_eq first (codes "net")
+-- the first word is the name of this mode
+abbrev pub begins_with : List ℕ → List (List ℕ) → Bool
+begins_with mode [] = false
+begins_with mode (first ∷ others) = bytes_eq first mode
 
--- a number of workers in digits
-abbrev pub workers_in : List ℕ → ℕ
-workers_in text = if is_unsigned_in 1 64 text then digits_value 10 (without_leading_plus text) else 1
+-- it calls for another mode than the server
+abbrev pub names_mode : List (List ℕ) → Bool
+names_mode words = begins_with (codes "drill") words || begins_with (codes "net") words
+
+-- a number of a range in digits
+abbrev pub number_in : (low high : ℕ) → List ℕ → ℕ
+number_in low high text = if is_unsigned_in low high text then digits_value 10 (without_leading_plus text) else low
+
+-- the number that an argument's value is
+abbrev pub number_of : List Row → (id : List ℕ) → (low high : ℕ) → ℕ
+number_of rows id low high = option_map_or (number_in low high) (one_of id rows) low
 
 abbrev pub task_of : Option (List ℕ) → Task
 task_of None = task.Serve
@@ -58,8 +85,18 @@ task_of (Some text) = if bytes_eq text (codes "true") then task.Check else task.
 abbrev pub said_by : List Row → ServerWordsSeen
 said_by rows = record {
   file = unwrap_or (first_of (codes "file") rows) [];
-  workers = option_map_or workers_in (one_of (codes "workers") rows) 1;
+  workers = number_of rows (codes "workers") 1 64;
   task = task_of (one_of (codes "check") rows);
+}
+
+abbrev pub drill_said_by : List Row → DrillWords
+drill_said_by rows = record {
+  plan = record {
+    seed = number_of rows (codes "seed") 0 2147483647;
+    lines = number_of rows (codes "lines") 1 100000;
+    links = number_of rows (codes "links") 2 1000;
+  };
+  workers = number_of rows (codes "workers") 1 64;
 }
 
 -- this, unless there is a fault
@@ -70,3 +107,18 @@ without_fault (fault ∷ faults) x = None
 -- what the words ask of the server, where they call for no other mode and `clap` takes them
 unfoldable pub asked_of : List (List ℕ) → Option ServerWordsSeen
 asked_of words = if names_mode words then None else without_fault (fault_of server_app words) (said_by (matches_of server_app words))
+
+-- a drill that isn't too large
+abbrev pub is_small : DrillWords → Bool
+is_small asked = nat_le (asked.plan.lines * asked.plan.links) 4000000
+
+abbrev pub if_small : DrillWords → Option DrillWords
+if_small asked = if is_small asked then Some asked else None
+
+-- what the words after the mode's name ask of a drill, where `clap` takes them
+abbrev pub drill_in : List (List ℕ) → Option DrillWords
+drill_in words = option_and_then if_small (without_fault (fault_of drill_app words) (drill_said_by (matches_of drill_app words)))
+
+-- what the words ask of a drill
+unfoldable pub drill_of : List (List ℕ) → Option DrillWords
+drill_of words = if begins_with (codes "drill") words then drill_in (drop 1 words) else None

@@ -2,6 +2,9 @@
 #![tactic(auto)]
 
 mod configuring;
+mod drill;
+#[cfg(test)]
+mod drill_tests;
 #[cfg(test)]
 mod journal_runs;
 #[cfg(test)]

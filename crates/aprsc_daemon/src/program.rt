@@ -1,30 +1,28 @@
 //! The program: what its words name is read and served.
-ghost use Rattle.std.specs.Prelude.{◌≡◌, ◌⊎◌, ◌≤◌, ◌<◌, ℕ, List, Option, Ok, Some, IfOk, IfErr, OnErr, length, map, string_bytes, true};
-ghost use Rattle.aprs_base.specs.Outside.{Rose, Told, WireShown};
-ghost use Rattle.aprs_base.specs.Stores.{FilesShown, Holds, SinkShown};
+ghost use Rattle.std.specs.Prelude.{◌≡◌, ◌≢◌, ◌⊎◌, ◌≤◌, ◌<◌, ℕ, List, Option, None, Ok, Some, IfOk, IfErr, OnErr, length, map, string_bytes, true};
+ghost use Rattle.std.specs.List.{AllZip};
+ghost use Rattle.aprs_base.specs.Outside.{Rose, WireShown};
+ghost use Rattle.aprs_base.specs.Stores.{FilesShown, Holds, SinkShown, bytes_named};
 ghost use Rattle.aprs_base.specs.Journals.{JournalLineSeen};
 ghost use Rattle.aprs_base.specs.Slots.{TakesDue, TakesLines};
-ghost use Rattle.aprs_base.specs.Stores.{bytes_named};
 ghost use Rattle.aprs_base.specs.declared.files.MemFile.{MemFile};
-ghost use Rattle.aprs_history.specs.Runs.{are_listens};
-ghost use Rattle.std.specs.List.{AllZip};
-ghost use Rattle.aprs_history.specs.Headline.{HasFreshLinks};
 ghost use Rattle.aprs_history.specs.Runs.{AppendsRun};
 ghost use Rattle.aprs_conf.specs.Seen.{ConfSeen};
 ghost use Rattle.aprs_conf.specs.Sound.{IsSound};
 ghost use Rattle.aprs_conf.specs.Grammar.{conf_of};
-ghost use Rattle.server_core.specs.Meaning.{listeners, setting_of};
-ghost use Rattle.aprsc_daemon.specs.Causes.{Asks, Cause, Ended, HasCause, HasNamed, KeepsPromise, Opening, OpensOnly, Said, code_of_status, status_of};
-ghost use Rattle.aprsc_daemon.specs.Phases.{JournalTold, Listening, Served};
-ghost use Rattle.aprsc_daemon.specs.Words.{ServerWordsSeen, asked_of};
+ghost use Rattle.server_core.specs.Meaning.{setting_of};
+ghost use Rattle.aprsc_daemon.specs.Causes.{Asks, Cause, DrillEnds, Ended, HasCause, HasNamed, KeepsPromise, Opening, Said, code_of_status, outside_of, status_of};
+ghost use Rattle.aprsc_daemon.specs.Phases.{JournalTold};
+ghost use Rattle.aprsc_daemon.specs.Asked.{IsBounded};
+ghost use Rattle.aprsc_daemon.specs.Words.{ServerWordsSeen, asked_of, drill_of};
 
-use crate::configuring::{Unfit, listeners, read_conf};
-use crate::saying::{listen_failed, too_large, trouble, unread, usage, valid, write_all};
-use crate::serving::{End, ListenError, listen_all, serve};
-use crate::words::{ServerWords, Task, WordsError, read_words};
+use crate::configuring::{Unfit, read_conf};
+use crate::drill::drill;
+use crate::saying::{listen_failed, summary, too_large, trouble, unread, usage, valid, write_all};
+use crate::serving::{End, ListenError, open, serve};
+use crate::words::{DrillWords, ServerWords, Task, Words, WordsError, read_words};
 use aprs_base::{FileError, Files, Memory, Sink, SinkError, Slot, Wire};
 use aprs_conf::Conf;
-use server_core::Core;
 use std::alloc::Global;
 use std::hash::RandomState;
 use std::marker::Sync;
@@ -39,6 +37,7 @@ const MOST_READ: usize = 65_536;
 pub(crate) enum Status {
     Stopped,
     Checked,
+    Drilled,
     BadWords,
     BadFile,
     UnreadFile,
@@ -53,7 +52,7 @@ impl Status {
         ensures { result ≡ code_of_status self }
     {
         match self {
-            Status::Stopped | Status::Checked => 0,
+            Status::Stopped | Status::Checked | Status::Drilled => 0,
             Status::BadWords => 1,
             Status::BadFile => 2,
             Status::UnreadFile => 3,
@@ -63,60 +62,6 @@ impl Status {
             Status::LostSink => 7,
         }
     }
-}
-
-/// Serves a wire whose listeners are open. The journals are told the lines of its rounds.
-fn serve_conf<R: Threads + Sync + Wait, W: Wire>(
-    rt: &R,
-    alloc: Global,
-    conf: Conf,
-    workers: u32,
-    wire: &mut W,
-    hasher: &RandomState,
-    journals: &mut Vec<Slot>,
-) -> End
-    requires sound { IsSound conf }
-    requires some { 1 ≤ workers }
-    requires most { workers ≤ 64 }
-    ensures run { (told : List JournalLineSeen) × AllZip (TakesLines journal_shown told) journals.old.items journals.new.items
-        × ((start : Option Told) → AppendsRun (setting_of conf) start (W.shown wire.old).told (Listening (setting_of conf) (length (listeners conf)))
-        → AppendsRun (setting_of conf) start (W.shown wire.new).told (Served (setting_of conf) result told)) }
-    ensures failed { result ≡ End.Failed → Rose (W.shown wire.old).stops (W.shown wire.new).stops }
-    ensures stops { (W.shown wire.old).stops ≤ (W.shown wire.new).stops }
-{
-    match Core::new(alloc, hasher, conf, workers) {
-        Ok(mut core) => serve(rt, alloc, &mut core, wire, journals),
-        Err(Memory) => End::Memory,
-    }
-}
-
-/// Opens the listeners of a configuration, and serves the wire.
-fn open_and_serve<R: Threads + Sync + Wait, W: Wire>(
-    rt: &R,
-    alloc: Global,
-    conf: Conf,
-    workers: u32,
-    wire: &mut W,
-    hasher: &RandomState,
-    journals: &mut Vec<Slot>,
-) -> Result<End, ListenError>
-    requires sound { IsSound conf }
-    requires some { 1 ≤ workers }
-    requires most { workers ≤ 64 }
-    ensures run { IfOk result (λ end. (told : List JournalLineSeen) × AllZip (TakesLines journal_shown told) journals.old.items journals.new.items
-        × AppendsRun (setting_of conf) (W.shown wire.old).told (W.shown wire.new).told (Served (setting_of conf) end told)) }
-    ensures failed { IfOk result (λ end. end ≡ End.Failed → Rose (W.shown wire.old).stops (W.shown wire.new).stops) }
-    ensures listen { IfErr result (λ e. (n : ℕ) → e ≡ ListenError.Failed n → Rose (W.shown wire.old).stops (W.shown wire.new).stops
-        × AppendsRun (setting_of conf) (W.shown wire.old).told (W.shown wire.new).told (OpensOnly n)) }
-    ensures within { IfErr result (λ e. (n : ℕ) → e ≡ ListenError.Failed n → n < length (listeners conf)) }
-    ensures err { OnErr result (AppendsRun (setting_of conf) (W.shown wire.old).told (W.shown wire.new).told (λ more. HasFreshLinks more × (are_listens more ≡ true))) }
-    ensures still { OnErr result (journals.new ≡ journals.old) }
-{
-    let Ok(listens) = listeners(alloc, &conf) else {
-        return Err(ListenError::Memory);
-    };
-    listen_all(wire, listens.as_slice())?;
-    Ok(serve_conf(rt, alloc, conf, workers, wire, hasher, journals))
 }
 
 fn ended(end: End) -> Status
@@ -166,19 +111,13 @@ fn run_conf<R: Threads + Sync + Wait, W: Wire, S: Sink>(
     requires most { workers ≤ 64 }
     ensures journals { (told : List JournalLineSeen) × AllZip (TakesLines journal_shown told) journals.old.items journals.new.items
         × AppendsRun (setting_of conf) (W.shown wire.old).told (W.shown wire.new).told (JournalTold (code_of_status result) (setting_of conf) told) }
+    ensures runs { (result ≢ Status.BadFile) × (result ≢ Status.UnreadFile) }
     ensures cause { (words : List (List ℕ)) (files files_after : FilesShown) → HasNamed Task.Serve words files.told conf
-        → Cause result (record {
-          words = words;
-          files = files;
-          files_after = files_after;
-          wire = W.shown wire.old;
-          wire_after = W.shown wire.new;
-          sink = S.shown out.old;
-          sink_after = S.shown out.new;
-        }) }
+        → Cause result (outside_of words files files_after
+        (W.shown wire.old) (W.shown wire.new) (S.shown out.old) (S.shown out.new)) }
 {
-    match open_and_serve(rt, alloc, conf, workers, wire, hasher, journals) {
-        Ok(end) => ended(end),
+    match open(alloc, conf, workers, wire, hasher) {
+        Ok(mut core) => ended(serve(rt, alloc, &mut core, wire, journals)),
         Err(ListenError::Failed(n)) => say_made(out, listen_failed(alloc, n), Status::NoListener),
         Err(ListenError::Memory) => Status::NoMemory,
     }
@@ -202,16 +141,10 @@ fn run_text<R: Threads + Sync + Wait, W: Wire, S: Sink>(
         → (told : List JournalLineSeen) × AllZip (TakesLines journal_shown told) journals.old.items journals.new.items
         × AppendsRun (setting_of conf) (W.shown wire.old).told (W.shown wire.new).told (JournalTold (code_of_status result) (setting_of conf) told) }
     ensures checks { asked.now.task ≡ Task.Check → (wire.new ≡ wire.old) × (journals.new ≡ journals.old) }
+    ensures still { (result ≡ Status.BadFile) ⊎ (result ≡ Status.UnreadFile) → journals.new ≡ journals.old }
     ensures cause { (words : List (List ℕ)) (files files_after : FilesShown) → asked_of words ≡ Some asked.now → Holds files.told asked.now.file text.now
-        → Cause result (record {
-          words = words;
-          files = files;
-          files_after = files_after;
-          wire = W.shown wire.old;
-          wire_after = W.shown wire.new;
-          sink = S.shown out.old;
-          sink_after = S.shown out.new;
-        }) }
+        → Cause result (outside_of words files files_after
+        (W.shown wire.old) (W.shown wire.new) (S.shown out.old) (S.shown out.new)) }
 {
     match read_conf(alloc, text) {
         Ok(conf) => match asked.task {
@@ -241,16 +174,10 @@ fn run_file<R: Threads + Sync + Wait, F: Files, W: Wire, S: Sink>(
         → (told : List JournalLineSeen) × AllZip (TakesLines journal_shown told) journals.old.items journals.new.items
         × AppendsRun (setting_of conf) (W.shown wire.old).told (W.shown wire.new).told (JournalTold (code_of_status result) (setting_of conf) told) }
     ensures checks { asked.now.task ≡ Task.Check → (wire.new ≡ wire.old) × (journals.new ≡ journals.old) }
+    ensures still { (result ≡ Status.BadFile) ⊎ (result ≡ Status.UnreadFile) → journals.new ≡ journals.old }
     ensures cause { (words : List (List ℕ)) → asked_of words ≡ Some asked.now
-        → Cause result (record {
-          words = words;
-          files = F.shown files.old;
-          files_after = F.shown files.new;
-          wire = W.shown wire.old;
-          wire_after = W.shown wire.new;
-          sink = S.shown out.old;
-          sink_after = S.shown out.new;
-        }) }
+        → Cause result (outside_of words (F.shown files.old) (F.shown files.new)
+        (W.shown wire.old) (W.shown wire.new) (S.shown out.old) (S.shown out.new)) }
 {
     let mut text = Vec::new(alloc);
     match files.read(asked.file, MOST_READ, &mut text) {
@@ -267,6 +194,25 @@ fn run_file<R: Threads + Sync + Wait, F: Files, W: Wire, S: Sink>(
         Err(FileError::Big) => say_made(out, too_large(alloc, asked.file), Status::BadFile),
         Err(FileError::Failed) => say_made(out, unread(alloc, asked.file), Status::UnreadFile),
         Err(FileError::Memory) => Status::NoMemory,
+    }
+}
+
+/// Runs a drill, and writes what it counted.
+fn run_drill<R: Threads + Sync + Wait, S: Sink>(
+    rt: &R,
+    alloc: Global,
+    asked: DrillWords,
+    out: &mut S,
+    hasher: &RandomState,
+) -> Status
+    requires { IsBounded (Words.Drill asked) }
+    ensures drill { DrillEnds (code_of_status result) asked.plan (S.shown out.old) (S.shown out.new) }
+    ensures cause { (words : List (List ℕ)) (files : FilesShown) (wire : WireShown) → drill_of words ≡ Some asked
+        → Cause result (outside_of words files files wire wire (S.shown out.old) (S.shown out.new)) }
+{
+    match drill(rt, alloc, asked, hasher) {
+        Ok(counts) => say_made(out, summary(alloc, asked.plan, counts), Status::Drilled),
+        Err(Memory) => Status::NoMemory,
     }
 }
 
@@ -287,18 +233,15 @@ fn run<R: Threads + Sync + Wait, F: Files, W: Wire, S: Sink>(
     ensures checks { (asked : ServerWordsSeen) → asked_of (map string_bytes words.now) ≡ Some asked → asked.task ≡ Task.Check
         → (wire.new ≡ wire.old) × (journals.new ≡ journals.old) }
     ensures refused { asked_of (map string_bytes words.now) ≡ None → journals.new ≡ journals.old }
-    ensures cause { Cause result (record {
-      words = map string_bytes words.now;
-      files = F.shown files.old;
-      files_after = F.shown files.new;
-      wire = W.shown wire.old;
-      wire_after = W.shown wire.new;
-      sink = S.shown out.old;
-      sink_after = S.shown out.new;
-    }) }
+    ensures drill { (asked : DrillWords) → drill_of (map string_bytes words.now) ≡ Some asked
+        → (wire.new ≡ wire.old) × (files.new ≡ files.old) × DrillEnds (code_of_status result) asked.plan (S.shown out.old) (S.shown out.new) }
+    ensures still { (result ≡ Status.BadFile) ⊎ (result ≡ Status.UnreadFile) → journals.new ≡ journals.old }
+    ensures cause { Cause result (outside_of (map string_bytes words.now) (F.shown files.old) (F.shown files.new)
+        (W.shown wire.old) (W.shown wire.new) (S.shown out.old) (S.shown out.new)) }
 {
     match read_words(alloc, words) {
-        Ok(asked) => run_file(rt, alloc, &asked, files, wire, out, hasher, journals),
+        Ok(Words::Server(asked)) => run_file(rt, alloc, &asked, files, wire, out, hasher, journals),
+        Ok(Words::Drill(asked)) => run_drill(rt, alloc, asked, out, hasher),
         Err(WordsError::Refused) => say(out, usage(), Status::BadWords),
         Err(WordsError::Memory) => Status::NoMemory,
     }
@@ -309,10 +252,13 @@ fn run<R: Threads + Sync + Wait, F: Files, W: Wire, S: Sink>(
 /// takes are a prefix of its defined text. With `-y` beside them the configuration is read and nothing else. `hasher` is the
 /// key of the tables in memory, on which no text depends.
 ///
-/// The status is 0 after a stop, or for a valid configuration with `-y`; 1 for words that `clap` refuses, or that call for
-/// another mode by `drill` or `net`; 2 for a bad configuration; 3 where its file can't be read; 4 where a listener failed; 5
-/// where the wire failed; 6 for want of memory; and 7 where the sink failed in the writing of a text for 0 to 4. A file of more
-/// than 65,536 bytes is a bad configuration.
+/// With `drill SEED LINES LINKS` and perhaps `-w N` in their place, the events of that drill are run over a wire of its own, and
+/// a line says what was counted. It depends on the three numbers alone.
+///
+/// The status is 0 after a stop, for a valid configuration with `-y`, or for a drill; 1 for words that `clap` refuses, that
+/// call for another mode by `net`, or whose drill has more than 4,000,000 lines times links; 2 for a bad configuration; 3
+/// where its file can't be read; 4 where a listener failed; 5 where the wire failed; 6 for want of memory; and 7 where the
+/// sink failed in the writing of a text for 0 to 4. A file of more than 65,536 bytes is a bad configuration.
 pub fn aprsc<R: Threads + Sync + Wait, F: Files, W: Wire, S: Sink>(
     rt: &R,
     alloc: Global,
@@ -342,16 +288,16 @@ pub fn aprsc<R: Threads + Sync + Wait, F: Files, W: Wire, S: Sink>(
     ensures checks { (asked : ServerWordsSeen) → asked_of (map string_bytes words.now) ≡ Some asked → asked.task ≡ Task.Check
         → (wire.new ≡ wire.old) × (journals.new ≡ journals.old) }
     ensures refused { asked_of (map string_bytes words.now) ≡ None → journals.new ≡ journals.old }
+    // Where they ask for a drill, the wire, the files and the journals stay so too, and the drill ends with its summary on
+    // the sink, for want of memory, or where the sink failed.
+    ensures drill { (asked : DrillWords) → drill_of (map string_bytes words.now) ≡ Some asked
+        → (wire.new ≡ wire.old) × (files.new ≡ files.old) × (journals.new ≡ journals.old)
+        × DrillEnds result asked.plan (S.shown out.old) (S.shown out.new) }
+    // And so the journals do where the file is off, or can't be read.
+    ensures still { (result ≡ 2) ⊎ (result ≡ 3) → journals.new ≡ journals.old }
     // Each status has its cause, and its text stands on the sink.
-    ensures cause { HasCause result (record {
-      words = map string_bytes words.now;
-      files = F.shown files.old;
-      files_after = F.shown files.new;
-      wire = W.shown wire.old;
-      wire_after = W.shown wire.new;
-      sink = S.shown out.old;
-      sink_after = S.shown out.new;
-    }) }
+    ensures cause { HasCause result (outside_of (map string_bytes words.now) (F.shown files.old) (F.shown files.new)
+        (W.shown wire.old) (W.shown wire.new) (S.shown out.old) (S.shown out.new)) }
     // Where no fault was counted, the status is the one that the words and the file ask for, or 6.
     ensures complete { (code : ℕ) → Asks (map string_bytes words.now) (F.shown files.old).told code
         → ¬ Rose (F.shown files.old).faults (F.shown files.new).faults

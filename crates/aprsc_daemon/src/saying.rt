@@ -1,11 +1,13 @@
 //! What the program writes on its standard output.
-ghost use Rattle.std.specs.Prelude.{◌≡◌, IfOk};
+ghost use Rattle.std.specs.Prelude.{◌≡◌, IfOk, string_bytes};
 ghost use Rattle.aprsc_daemon.specs.Configuring.{fault_name, word_name};
-ghost use Rattle.aprsc_daemon.specs.Saying.{AfterSaying, listen_failed_text, trouble_text, too_large_text, unread_text, usage_text, valid_text};
+ghost use Rattle.aprsc_daemon.specs.Saying.{AfterSaying, drill_name, listen_failed_text, summary_text, totals_text, trouble_text, too_large_text, unread_text, usage_text, valid_text};
 
 use crate::configuring::Trouble;
-use aprs_base::{Memory, Sink, SinkError};
+use crate::drill::Counts;
+use aprs_base::{Memory, Sink, SinkError, Totals};
 use aprs_conf::{ConfFault, ConfWord};
+use drill_plan::Plan;
 use std::alloc::Global;
 
 /// Writes all of `bytes`. It ends, since each turn takes a byte or fails.
@@ -109,4 +111,37 @@ pub(crate) fn listen_failed(alloc: Global, number: u16) -> Result<Vec<u8>, Memor
     ensures { IfOk result (λ t. t.items ≡ listen_failed_text number) }
 {
     Ok(format!(in alloc; "listen {number} failed\n")?.into_bytes())
+}
+
+/// Which drill.
+fn drill_name(alloc: Global, plan: Plan) -> Result<String, Memory>
+    ensures { IfOk result (λ t. string_bytes t ≡ drill_name plan) }
+{
+    let Plan { seed, lines, links } = plan;
+    Ok(format!(in alloc; "drill seed {seed} lines {lines} links {links}")?)
+}
+
+/// The counts of packets and their lines.
+fn totals_text(alloc: Global, totals: Totals) -> Result<String, Memory>
+    ensures { IfOk result (λ t. string_bytes t ≡ totals_text totals) }
+{
+    let Totals {
+        accepted,
+        duplicate,
+        refused,
+        queued,
+    } = totals;
+    Ok(format!(in alloc;
+        "accepted {accepted} duplicate {duplicate} refused {refused} queued {queued}"
+    )?)
+}
+
+/// The line that says what a drill counted.
+pub(crate) fn summary(alloc: Global, plan: Plan, counts: Counts) -> Result<Vec<u8>, Memory>
+    ensures { IfOk result (λ t. t.items ≡ summary_text plan counts.totals counts.taken) }
+{
+    let name = drill_name(alloc, plan)?;
+    let totals = totals_text(alloc, counts.totals)?;
+    let taken = counts.taken;
+    Ok(format!(in alloc; "{name} {totals} bytes {taken}\n")?.into_bytes())
 }

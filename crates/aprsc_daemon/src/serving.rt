@@ -1,7 +1,9 @@
 //! The serving of a wire: listeners first, then round after round.
 ghost use Rattle.std.specs.Prelude.{◌≡◌, ◌≤◌, ◌<◌, ◌+◌, ℕ, List, [], ◌∷◌, ◌++◌, IfOk, OnOk, OnErr, IfErr, IsErrOf, MatchBool, Option, None, length, true, false, take};
 ghost use Rattle.aprs_base.specs.Outside.{Told, WireShown, Rose, CountsLink, new_link};
+ghost use Rattle.aprs_conf.specs.Sound.{IsSound};
 ghost use Rattle.aprs_history.specs.Setting.{Setting};
+ghost use Rattle.aprs_history.specs.Stands.{StandsFor};
 ghost use Rattle.aprs_history.specs.Dials.{CastSeen};
 ghost use Rattle.link_queue.specs.Lines.{ended_line};
 ghost use Rattle.aprs_history.specs.History.{History, ends_round, is_stopped};
@@ -10,8 +12,9 @@ ghost use Rattle.aprs_history.specs.Rounds.{AreFresh, greatest_after, is_whole, 
 ghost use Rattle.aprs_history.specs.Runs.{AppendsRun};
 ghost use Rattle.aprs_history.specs.Trace.{is_member};
 ghost use Rattle.server_core.specs.LinkSteps.{AreServed, Rises, has_number, numbers};
-ghost use Rattle.server_core.specs.Meaning.{CoreMeaning, setting_of};
-ghost use Rattle.aprsc_daemon.specs.Phases.{Acting, AreOfRound, Brings, Broken, Counted, Gathering, Idling, Listening, Offering, Resting, Served, is_partial};
+ghost use Rattle.server_core.specs.Meaning.{CoreMeaning, listeners, setting_of};
+ghost use Rattle.aprsc_daemon.specs.Causes.{OpensOnly};
+ghost use Rattle.aprsc_daemon.specs.Phases.{Acting, AreOfRound, Brings, Broken, Counted, Finished, Gathering, Idling, Listening, Offering, Resting, Served, is_partial};
 ghost use Rattle.aprs_base.specs.Journals.{JournalLineSeen};
 ghost use Rattle.aprs_base.specs.Slots.{TakesLines};
 ghost use Rattle.aprs_history.specs.Runs.{are_listens};
@@ -19,12 +22,14 @@ ghost use Rattle.std.specs.List.{AllZip};
 ghost use Rattle.server_core.specs.Meaning.{AreActs, Stands};
 ghost use Rattle.server_core.specs.Steps.{SameRest};
 
+use crate::configuring::listeners;
 use crate::journals::tell_all;
 use aprs_base::{Event, Line, ListenSpec, Memory, Sent, Slot, UplinkSpec, Wire, WireError};
 use aprs_conf::{Conf, PeerSpec};
 use arrayvec::ArrayVec;
 use server_core::{Acts, CastOut, Core};
 use std::alloc::Global;
+use std::hash::RandomState;
 use std::marker::Sync;
 use std::sync::{Wait, WaitMethods};
 use std::thread::Threads;
@@ -61,6 +66,36 @@ pub(crate) fn listen_all<W: Wire>(wire: &mut W, listens: &[ListenSpec]) -> Resul
         }
     }
     Ok(())
+}
+
+/// Opens the listeners of a configuration, and makes its core.
+pub(crate) fn open<W: Wire>(
+    alloc: Global,
+    conf: Conf,
+    workers: u32,
+    wire: &mut W,
+    hasher: &RandomState,
+) -> Result<Core, ListenError>
+    requires sound { IsSound conf }
+    requires some { 1 ≤ workers }
+    requires most { workers ≤ 64 }
+    ensures run { IfOk result (λ core. AppendsRun (setting_of conf) (W.shown wire.old).told (W.shown wire.new).told (Resting [] core)) }
+    ensures conf { IfOk result (λ core. core.conf ≡ conf) }
+    ensures fresh { IfOk result (λ core. (core.seen.greatest ≡ 0) × (core.seen.stopped ≡ false)) }
+    ensures listen { IfErr result (λ e. (n : ℕ) → e ≡ ListenError.Failed n → Rose (W.shown wire.old).stops (W.shown wire.new).stops
+        × AppendsRun (setting_of conf) (W.shown wire.old).told (W.shown wire.new).told (OpensOnly n)) }
+    ensures within { IfErr result (λ e. (n : ℕ) → e ≡ ListenError.Failed n → n < length (listeners conf)) }
+    ensures err { OnErr result (AppendsRun (setting_of conf) (W.shown wire.old).told (W.shown wire.new).told (λ more. HasFreshLinks more × (are_listens more ≡ true))) }
+    ensures stops { (W.shown wire.old).stops ≤ (W.shown wire.new).stops }
+{
+    let Ok(listens) = listeners(alloc, &conf) else {
+        return Err(ListenError::Memory);
+    };
+    listen_all(wire, listens.as_slice())?;
+    match Core::new(alloc, hasher, conf, workers) {
+        Ok(core) => Ok(core),
+        Err(Memory) => Err(ListenError::Memory),
+    }
 }
 
 /// Whether an event ends its round, after so many.
@@ -401,6 +436,9 @@ pub(crate) fn serve<R: Threads + Sync + Wait, W: Wire>(
         × ((s : Setting) (start : Option Told) (lines : List JournalLineSeen) → setting_of core.old.conf ≡ s
         → AppendsRun s start (W.shown wire.old).told (Resting lines core.old)
         → AppendsRun s start (W.shown wire.new).told (Served s result (lines ++ told))) }
+    ensures stands { result ≡ End.Stopped → (s : Setting) (start : Option Told) (lines : List JournalLineSeen) → setting_of core.old.conf ≡ s
+        → AppendsRun s start (W.shown wire.old).told (Resting lines core.old)
+        → AppendsRun s start (W.shown wire.new).told (λ more. Finished s more × StandsFor s core.new.seen more) }
     ensures failed { result ≡ End.Failed → Rose (W.shown wire.old).stops (W.shown wire.new).stops }
     ensures stops { (W.shown wire.old).stops ≤ (W.shown wire.new).stops }
 {

@@ -1,12 +1,14 @@
 //! The words that the program is started with, read by `clap`.
-ghost use Rattle.std.specs.Prelude.{◌≡◌, ◌≢◌, ◌≤◌, [], None, Some, IfOk, IsErrOf, OnOk, codes, false, map, string_bytes, unwrap_or};
+ghost use Rattle.std.specs.Prelude.{◌≡◌, ◌≢◌, ◌≤◌, ◌<◌, ◌^◌, [], None, Some, IfOk, IsErrOf, OnOk, codes, drop, false, map, string_bytes, true, unwrap_or};
 ghost use Rattle.std.specs.Option.{option_map_or};
-ghost use Rattle.clap.specs.Words.{app_of, fault_of, first_value, found_of, matches_of, one_text, rows_of, rule_of};
-ghost use Rattle.aprsc_daemon.specs.Words.{asked_of, bare_app, check_rule, file_rule, names_mode, said_by, server_app, task_of, workers_in, workers_rule};
+ghost use Rattle.clap.specs.Words.{app_of, fault_of, first_value, found_of, is_simple, is_simple_and_free, matches_of, one_text, rows_of, rule_of};
+ghost use Rattle.aprsc_daemon.specs.Asked.{AskFor, IsBounded};
+ghost use Rattle.aprsc_daemon.specs.Words.{asked_of, bare_app, begins_with, check_rule, drill_app, drill_in, drill_of, drill_said_by, file_rule, is_small, names_mode, number_in, number_rule, said_by, server_app, task_of, workers_rule};
 
 use clap::builder::ValueParser;
 use clap::error::ErrorKind;
 use clap::{Arg, ArgAction, ArgMatches, Command};
+use drill_plan::Plan;
 use std::alloc::{AllocError, Global};
 use std::marker::Model;
 
@@ -35,6 +37,21 @@ impl<'a> Model for ServerWords<'a> {
     ghost Value = { ServerWordsSeen };
 
     ghost view = { λ w. record { file = w.file.now; workers = w.workers; task = w.task } };
+}
+
+/// What the words ask of a drill.
+#[derive(Clone, Copy, PartialEq, Eq, Debug)]
+pub(crate) struct DrillWords {
+    pub plan: Plan,
+    /// The most workers, from 1 to 64.
+    pub workers: u32,
+}
+
+/// What the words ask for.
+#[derive(Debug, Drop)]
+pub(crate) enum Words<'a> {
+    Server(ServerWords<'a>),
+    Drill(DrillWords),
 }
 
 /// Why the words ask for nothing.
@@ -75,6 +92,17 @@ fn check_arg<'a>(alloc: Global) -> Arg<'a>
         .action(ArgAction::SetTrue)
 }
 
+/// A whole number in a range, as a word of its own.
+fn number_arg<'a>(alloc: Global, id: &'a str, low: u64, high: u64) -> Arg<'a>
+    ensures rule { rule_of result ≡ number_rule id.entry.now low high }
+    ensures local { result.global ≡ false }
+{
+    Arg::new(alloc, id)
+        .action(ArgAction::Set)
+        .required(true)
+        .value_parser(ValueParser::unsigned(low, high))
+}
+
 fn bare_command<'a>(alloc: Global) -> Command<'a>
     ensures { app_of result ≡ bare_app }
 {
@@ -93,15 +121,24 @@ fn server_command<'a>(alloc: Global) -> Result<Command<'a>, AllocError>
         .arg(check_arg(alloc))
 }
 
-/// What the server's command finds in the words.
-fn server_matches<'a>(alloc: Global, words: &'a [String]) -> Result<ArgMatches<'a>, WordsError>
-    ensures good { OnOk result (fault_of server_app (map string_bytes words.entry.now) ≡ []) }
-    ensures rows { IfOk result (λ m. rows_of (found_of m) ≡ matches_of server_app (map string_bytes words.entry.now)) }
-    ensures refused { IsErrOf result WordsError.Refused → fault_of server_app (map string_bytes words.entry.now) ≢ [] }
+fn drill_command<'a>(alloc: Global) -> Result<Command<'a>, AllocError>
+    ensures { IfOk result (λ command. app_of command ≡ drill_app) }
 {
-    let Ok(command) = server_command(alloc) else {
-        return Err(WordsError::Memory);
-    };
+    bare_command(alloc)
+        .arg(number_arg(alloc, "seed", 0, 2_147_483_647))?
+        .arg(number_arg(alloc, "lines", 1, 100_000))?
+        .arg(number_arg(alloc, "links", 2, 1000))?
+        .arg(workers_arg(alloc))
+}
+
+/// What a command finds in the words.
+fn matches_by<'a>(command: Command<'a>, words: &'a [String]) -> Result<ArgMatches<'a>, WordsError>
+    requires simple { is_simple (app_of command) ≡ true }
+    requires free { is_simple_and_free (app_of command) ≡ true }
+    ensures good { OnOk result (fault_of (app_of command.entry) (map string_bytes words.entry.now) ≡ []) }
+    ensures rows { IfOk result (λ m. rows_of (found_of m) ≡ matches_of (app_of command.entry) (map string_bytes words.entry.now)) }
+    ensures refused { IsErrOf result WordsError.Refused → fault_of (app_of command.entry) (map string_bytes words.entry.now) ≢ [] }
+{
     match command.try_get_matches_from(words) {
         Ok(matches) => Ok(matches),
         Err(error) if error.kind() == ErrorKind::OutOfMemory => Err(WordsError::Memory),
@@ -109,13 +146,27 @@ fn server_matches<'a>(alloc: Global, words: &'a [String]) -> Result<ArgMatches<'
     }
 }
 
-/// Whether the first word calls for another mode than the server.
-fn names_mode(words: &[String]) -> bool
-    ensures { result ≡ names_mode (map string_bytes words.now) }
+/// What the server's command finds in the words.
+fn server_matches<'a>(alloc: Global, words: &'a [String]) -> Result<ArgMatches<'a>, WordsError>
+    ensures good { OnOk result (fault_of server_app (map string_bytes words.entry.now) ≡ []) }
+    ensures rows { IfOk result (λ m. rows_of (found_of m) ≡ matches_of server_app (map string_bytes words.entry.now)) }
+    ensures refused { IsErrOf result WordsError.Refused → fault_of server_app (map string_bytes words.entry.now) ≢ [] }
 {
-    match words {
-        [] => false,
-        [first, ..] => first.as_str() == "drill" || first.as_str() == "net",
+    match server_command(alloc) {
+        Ok(command) => matches_by(command, words),
+        Err(_) => Err(WordsError::Memory),
+    }
+}
+
+/// What the drill's command finds in the words.
+fn drill_matches<'a>(alloc: Global, words: &'a [String]) -> Result<ArgMatches<'a>, WordsError>
+    ensures good { OnOk result (fault_of drill_app (map string_bytes words.entry.now) ≡ []) }
+    ensures rows { IfOk result (λ m. rows_of (found_of m) ≡ matches_of drill_app (map string_bytes words.entry.now)) }
+    ensures refused { IsErrOf result WordsError.Refused → fault_of drill_app (map string_bytes words.entry.now) ≢ [] }
+{
+    match drill_command(alloc) {
+        Ok(command) => matches_by(command, words),
+        Err(_) => Err(WordsError::Memory),
     }
 }
 
@@ -126,15 +177,16 @@ fn file_of<'a>(matches: &ArgMatches<'a>) -> &'a str
     matches.get_str("file").unwrap_or("")
 }
 
-/// The number of workers that `-w` gives.
-fn workers_of(matches: &ArgMatches<'_>) -> u32
-    ensures value { result ≡ option_map_or workers_in (one_text (found_of matches.now) (codes "workers")) 1 }
-    ensures least { 1 ≤ result }
-    ensures most { result ≤ 64 }
+/// The number that an argument gives, or the least where it isn't given.
+fn number_of(matches: &ArgMatches<'_>, id: &str, low: u32, high: u32) -> u32
+    requires { low ≤ high }
+    ensures value { result ≡ option_map_or (number_in low high) (one_text (found_of matches.now) id.now) low }
+    ensures least { low ≤ result }
+    ensures most { result ≤ high }
 {
-    match matches.get_one("workers") {
-        Some(workers @ 1..=64) => workers,
-        _ => 1,
+    match matches.get_one(id) {
+        Some(number) if low <= number && number <= high => number,
+        _ => low,
     }
 }
 
@@ -156,26 +208,103 @@ fn said_by<'a>(matches: &ArgMatches<'a>) -> ServerWords<'a>
 {
     ServerWords {
         file: file_of(matches),
-        workers: workers_of(matches),
+        workers: number_of(matches, "workers", 1, 64),
         task: task_of(matches),
     }
 }
 
-/// What the words ask of the server. `Refused` comes exactly where they call for another mode, or `clap` refuses them.
-pub(crate) fn read_words<'a>(
-    alloc: Global,
-    words: &'a [String],
-) -> Result<ServerWords<'a>, WordsError>
-    ensures value { IfOk result (λ w. asked_of (map string_bytes words.entry.now) ≡ Some w) }
-    ensures least { IfOk result (λ w. 1 ≤ w.workers) }
-    ensures most { IfOk result (λ w. w.workers ≤ 64) }
+/// What the values of the arguments of the drill's command say.
+fn drill_said_by(matches: &ArgMatches<'_>) -> DrillWords
+    ensures value { result ≡ drill_said_by (rows_of (found_of matches.now)) }
+    ensures bounded { IsBounded (Words.Drill result) }
+{
+    DrillWords {
+        plan: Plan {
+            seed: number_of(matches, "seed", 0, 2_147_483_647),
+            lines: number_of(matches, "lines", 1, 100_000),
+            links: number_of(matches, "links", 2, 1000),
+        },
+        workers: number_of(matches, "workers", 1, 64),
+    }
+}
+
+/// Whether a drill isn't too large.
+fn is_small(asked: DrillWords) -> bool
+    ensures { result ≡ is_small asked }
+{
+    u64::from(asked.plan.lines) * u64::from(asked.plan.links) <= 4_000_000
+}
+
+/// Whether the first word is the name of this mode.
+fn begins_with(words: &[String], mode: &str) -> bool
+    ensures { result ≡ begins_with mode.now (map string_bytes words.now) }
+{
+    match words {
+        [] => false,
+        [first, ..] => first.as_str() == mode,
+    }
+}
+
+/// The words after the first.
+fn later(words: &[String]) -> &[String]
+    ensures { map string_bytes result.now ≡ drop 1 (map string_bytes words.now) }
+{
+    match words {
+        [] => words,
+        [_, others @ ..] => others,
+    }
+}
+
+/// What the words ask of the server, where they call for no other mode.
+fn read_server<'a>(alloc: Global, words: &'a [String]) -> Result<ServerWords<'a>, WordsError>
+    requires { names_mode (map string_bytes words.now) ≡ false }
+    ensures value { IfOk result (λ asked. asked_of (map string_bytes words.entry.now) ≡ Some asked) }
+    ensures bounded { IfOk result (λ asked. IsBounded (Words.Server asked)) }
     ensures refused { IsErrOf result WordsError.Refused → asked_of (map string_bytes words.entry.now) ≡ None }
 {
-    if names_mode(words) {
-        return Err(WordsError::Refused);
-    }
     match server_matches(alloc, words) {
         Ok(matches) => Ok(said_by(&matches)),
+        Err(error) => Err(error),
+    }
+}
+
+/// What the words after the mode's name ask of a drill.
+fn read_drill(alloc: Global, words: &[String]) -> Result<DrillWords, WordsError>
+    ensures value { IfOk result (λ asked. drill_in (map string_bytes words.now) ≡ Some asked) }
+    ensures bounded { IfOk result (λ asked. IsBounded (Words.Drill asked)) }
+    ensures refused { IsErrOf result WordsError.Refused → drill_in (map string_bytes words.now) ≡ None }
+{
+    match drill_matches(alloc, words) {
+        Ok(matches) => {
+            let asked = drill_said_by(&matches);
+            if is_small(asked) {
+                Ok(asked)
+            } else {
+                Err(WordsError::Refused)
+            }
+        }
+        Err(error) => Err(error),
+    }
+}
+
+/// What the words ask for. `Refused` comes exactly where they ask for nothing.
+pub(crate) fn read_words<'a>(alloc: Global, words: &'a [String]) -> Result<Words<'a>, WordsError>
+    ensures value { IfOk result (AskFor (map string_bytes words.entry.now)) }
+    ensures bounded { IfOk result IsBounded }
+    ensures refused { IsErrOf result WordsError.Refused
+        → (asked_of (map string_bytes words.entry.now) ≡ None) × (drill_of (map string_bytes words.entry.now) ≡ None) }
+{
+    if begins_with(words, "drill") {
+        return match read_drill(alloc, later(words)) {
+            Ok(asked) => Ok(Words::Drill(asked)),
+            Err(error) => Err(error),
+        };
+    }
+    if begins_with(words, "net") {
+        return Err(WordsError::Refused);
+    }
+    match read_server(alloc, words) {
+        Ok(asked) => Ok(Words::Server(asked)),
         Err(error) => Err(error),
     }
 }

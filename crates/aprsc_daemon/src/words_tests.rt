@@ -1,5 +1,6 @@
 //! The words that the program takes, written out.
-use crate::words::{Task, WordsError, read_words};
+use crate::words::{DrillWords, Task, Words, WordsError, read_words};
+use drill_plan::Plan;
 use std::alloc::Global;
 use std::test::Fail;
 
@@ -26,9 +27,9 @@ fn takes_the_words_of_a_run_and_of_a_check(rt: HostRuntime) -> Result<(), Fail> 
     ];
     for (texts, file, workers, task) in cases {
         let words = words_of(rt.alloc(), texts)?;
-        let asked = read_words(rt.alloc(), words.as_slice())
-            .ok()
-            .ok_or("good words")?;
+        let Ok(Words::Server(asked)) = read_words(rt.alloc(), words.as_slice()) else {
+            return Err(Fail::from("good words"));
+        };
         assert!(rt; asked.file == file);
         assert!(rt; asked.workers == workers);
         assert!(rt; asked.task == task);
@@ -37,8 +38,35 @@ fn takes_the_words_of_a_run_and_of_a_check(rt: HostRuntime) -> Result<(), Fail> 
 }
 
 #[test]
+fn takes_the_words_of_a_drill(rt: HostRuntime) -> Result<(), Fail> {
+    let cases: [(&[&str], u32, u32, u32, u32); 6] = [
+        (&["drill", "0", "1", "2"], 0, 1, 2, 1),
+        (&["drill", "0", "1", "2", "-w", "1"], 0, 1, 2, 1),
+        (&["drill", "-w64", "7", "200", "20"], 7, 200, 20, 64),
+        (
+            &["drill", "2147483647", "100000", "40"],
+            2_147_483_647,
+            100_000,
+            40,
+            1,
+        ),
+        (&["drill", "1", "4000", "1000"], 1, 4000, 1000, 1),
+        (&["drill", "1", "--", "2", "3"], 1, 2, 3, 1),
+    ];
+    for (texts, seed, lines, links, workers) in cases {
+        let words = words_of(rt.alloc(), texts)?;
+        let Ok(Words::Drill(asked)) = read_words(rt.alloc(), words.as_slice()) else {
+            return Err(Fail::from("good words"));
+        };
+        let plan = Plan { seed, lines, links };
+        assert!(rt; asked == DrillWords { plan, workers });
+    }
+    Ok(())
+}
+
+#[test]
 fn refuses_other_words(rt: HostRuntime) -> Result<(), Fail> {
-    let cases: [&[&str]; 16] = [
+    let cases: [&[&str]; 26] = [
         &[],
         &["-c"],
         &["-y"],
@@ -52,8 +80,18 @@ fn refuses_other_words(rt: HostRuntime) -> Result<(), Fail> {
         &["-y", "-c", "c", "-y"],
         &["-C", "c"],
         &["--help"],
+        &["drill"],
+        &["drill", "1", "1"],
         &["drill", "1", "1", "1"],
+        &["drill", "1", "1", "1001"],
+        &["drill", "1", "0", "2"],
+        &["drill", "1", "100001", "2"],
+        &["drill", "2147483648", "1", "2"],
         &["drill", "x", "1", "2"],
+        &["drill", "1", "100000", "41"],
+        &["drill", "1", "1", "2", "3"],
+        &["drill", "1", "1", "2", "-w", "65"],
+        &["-w", "1", "drill", "1", "1", "2"],
         &["net", "script"],
     ];
     for texts in cases {

@@ -1,10 +1,12 @@
-use Rattle.std.proofs.Common.{◌≡◌, ◌⊎◌, sym, ◌∙◌, subst}
+use Rattle.std.proofs.Common.{◌≡◌, ◌⊎◌, map, sym, ◌∙◌, subst}
+use Rattle.std.specs.Prelude.{string_bytes}
 use Rattle.aprs_history.specs.Runs.{AppendsRun}
 use Rattle.aprs_base.proofs.SlotLemmas.{each_takes_due}
 use Rattle.server_core.specs.Meaning.{setting_of}
 use Rattle.aprsc_daemon.specs.Phases.{JournalTold}
-use Rattle.aprsc_daemon.specs.Causes.{Ended}
+use Rattle.aprsc_daemon.specs.Causes.{DrillEnds, Ended}
 use Rattle.aprsc_daemon.proofs.CauseLemmas.{complete, early, headline, keeps_promise}
+use Rattle.aprsc_daemon.proofs.WordsLemmas.{only_drill}
 use Rattle.aprsc_daemon.proofs.program.aprsc.Goals as goal
 
 pub returns-clause-run : goal.returns-clause-run
@@ -33,4 +35,14 @@ returns-clause-journals g c = λ conf told_files tells read.
       told.0,
       each_takes_due (λ z. (goal.Journal-dyn g z).journal_shown z.1) told.0 c.args.journals.now.items c.run.new.journals.items told.1,
       subst (λ n. AppendsRun (setting_of conf) (g.W.Wire.shown c.args.wire.now).told (g.W.Wire.shown c.run.new.wire).told (JournalTold n (setting_of conf) told.0)) (sym c.code.ensures) told.2,
+    )
+
+pub returns-clause-drill : goal.returns-clause-drill
+returns-clause-drill g c = λ asked drilled.
+    let words = map string_bytes c.args.words.now in
+    let kept = c.run.ensures.drill asked drilled in (
+      kept.0,
+      kept.1,
+      c.run.ensures.refused (only_drill words asked drilled),
+      subst (λ n. DrillEnds n asked.plan (g.S.Sink.shown c.args.out.now) (g.S.Sink.shown c.run.new.out)) (sym c.code.ensures) kept.2,
     )

@@ -1,4 +1,4 @@
-use Rattle.std.proofs.Common.{[], refl, inr, subst, sym}
+use Rattle.std.proofs.Common.{[], ap, refl, inr, subst, sym}
 use Rattle.aprs_base.specs.Slots.{TakesLines}
 use Rattle.aprs_base.proofs.SlotLemmas.{each_takes-none}
 use Rattle.std.specs.List.{AllZip}
@@ -8,7 +8,7 @@ use Rattle.server_core.specs.Meaning.{setting_of}
 use Rattle.aprsc_daemon.specs.Causes.{code_of_status, status_of}
 use Rattle.aprsc_daemon.specs.Phases.{Ends, JournalTold, Served}
 use Rattle.aprsc_daemon.specs.Saying.{listen_failed_text}
-use Rattle.aprsc_daemon.proofs.CauseLemmas.{ended_cause, listener_cause, memory_cause}
+use Rattle.aprsc_daemon.proofs.CauseLemmas.{ended_cause, listener_cause, memory_cause, rose_later, said_runs}
 use Rattle.aprsc_daemon.proofs.JournalLemmas.{told_by_end, told_none}
 use Rattle.aprsc_daemon.proofs.RunLemmas.{run_weaker}
 use Rattle.aprsc_daemon.proofs.program.run_conf.Goals as goal
@@ -16,27 +16,30 @@ use Rattle.aprsc_daemon.proofs.program.run_conf.Goals as goal
 pub returns-in-Ok-clause-journals : goal.returns-in-Ok-clause-journals
 returns-in-Ok-clause-journals g c =
     let s = setting_of c.args.conf in
-    let told = c.in-Ok.ensures.run in (
-      told.0,
-      told.1,
-      subst (λ status. AppendsRun s (g.W.Wire.shown c.args.wire.now).told (g.W.Wire.shown c.open_and_serve.new.wire).told (JournalTold (code_of_status status) s told.0)) (sym c.ended.ensures)
-          (run_weaker s (g.W.Wire.shown c.args.wire.now).told (g.W.Wire.shown c.open_and_serve.new.wire).told (Served s c.in-Ok.end told.0) (JournalTold (code_of_status (status_of c.in-Ok.end)) s told.0)
-          (λ more served. told_by_end s c.in-Ok.end told.0 more served) told.2),
+    let start = (g.W.Wire.shown c.args.wire.now).told in
+    let now = (g.W.Wire.shown c.serve.new.wire).told in
+    let served = c.serve.ensures.run in (
+      served.0,
+      served.1,
+      subst (λ status. AppendsRun s start now (JournalTold (code_of_status status) s served.0)) (sym c.ended.ensures)
+          (run_weaker s start now (Served s c.serve.result served.0) (JournalTold (code_of_status (status_of c.serve.result)) s served.0)
+          (λ more at. told_by_end s c.serve.result served.0 more at) (served.2 s start [] (ap setting_of c.in-Ok.ensures.conf) c.in-Ok.ensures.run)),
     )
 
 pub returns-in-Ok-clause-cause : goal.returns-in-Ok-clause-cause
 returns-in-Ok-clause-cause g c = λ words files files_after read.
     let s = setting_of c.args.conf in
-    let told = c.in-Ok.ensures.run in
-    ended_cause _ c.args.conf c.in-Ok.end c.ended.result c.ended.ensures read refl c.in-Ok.ensures.failed
-    (run_weaker s (g.W.Wire.shown c.args.wire.now).told (g.W.Wire.shown c.open_and_serve.new.wire).told (Served s c.in-Ok.end told.0) (Ends s c.in-Ok.end) (λ more served. served.0) told.2)
+    let start = (g.W.Wire.shown c.args.wire.now).told in
+    let served = c.serve.ensures.run in
+    ended_cause _ c.args.conf c.serve.result c.ended.result c.ended.ensures read refl (λ failed. rose_later _ _ _ c.open.ensures.stops (c.serve.ensures.failed failed))
+    (run_weaker s start (g.W.Wire.shown c.serve.new.wire).told (Served s c.serve.result served.0) (Ends s c.serve.result) (λ more at. at.0) (served.2 s start [] (ap setting_of c.in-Ok.ensures.conf) c.in-Ok.ensures.run))
 
 pub returns-in-Err-Failed-clause-journals : goal.returns-in-Err-Failed-clause-journals
 returns-in-Err-Failed-clause-journals g c =
     let s = setting_of c.args.conf in (
       [],
-      subst (λ slots. AllZip (TakesLines (λ z. (goal.Journal-dyn g z).journal_shown z.1) []) c.args.journals.now.items slots.items) (sym c.in-Err-Failed.ensures.still) (each_takes-none (λ z. (goal.Journal-dyn g z).journal_shown z.1) c.args.journals.now.items),
-      run_weaker s (g.W.Wire.shown c.args.wire.now).told (g.W.Wire.shown c.open_and_serve.new.wire).told _ (JournalTold (code_of_status c.say_made.result) s []) (λ more only. told_none (code_of_status c.say_made.result) s more only.1) c.in-Err-Failed.ensures.err,
+      each_takes-none (λ z. (goal.Journal-dyn g z).journal_shown z.1) c.args.journals.now.items,
+      run_weaker s (g.W.Wire.shown c.args.wire.now).told (g.W.Wire.shown c.open.new.wire).told _ (JournalTold (code_of_status c.say_made.result) s []) (λ more only. told_none (code_of_status c.say_made.result) s more only.1) c.in-Err-Failed.ensures.err,
     )
 
 pub returns-in-Err-Failed-clause-cause : goal.returns-in-Err-Failed-clause-cause
@@ -49,8 +52,8 @@ pub returns-in-Err-Memory-clause-journals : goal.returns-in-Err-Memory-clause-jo
 returns-in-Err-Memory-clause-journals g c =
     let s = setting_of c.args.conf in (
       [],
-      subst (λ slots. AllZip (TakesLines (λ z. (goal.Journal-dyn g z).journal_shown z.1) []) c.args.journals.now.items slots.items) (sym c.in-Err-Memory.ensures.still) (each_takes-none (λ z. (goal.Journal-dyn g z).journal_shown z.1) c.args.journals.now.items),
-      run_weaker s (g.W.Wire.shown c.args.wire.now).told (g.W.Wire.shown c.open_and_serve.new.wire).told _ (JournalTold 6 s []) (λ more only. told_none 6 s more only.1) c.in-Err-Memory.ensures.err,
+      each_takes-none (λ z. (goal.Journal-dyn g z).journal_shown z.1) c.args.journals.now.items,
+      run_weaker s (g.W.Wire.shown c.args.wire.now).told (g.W.Wire.shown c.open.new.wire).told _ (JournalTold 6 s []) (λ more only. told_none 6 s more only.1) c.in-Err-Memory.ensures.err,
     )
 
 pub returns-in-Err-Memory-clause-cause : goal.returns-in-Err-Memory-clause-cause
@@ -59,5 +62,8 @@ returns-in-Err-Memory-clause-cause g c = λ words files files_after read.
     memory_cause _ refl (inr (record {
       conf = c.args.conf;
       read = read;
-      run = run_weaker s (g.W.Wire.shown c.args.wire.now).told (g.W.Wire.shown c.open_and_serve.new.wire).told _ HasFreshLinks (λ more only. only.0) c.in-Err-Memory.ensures.err;
+      run = run_weaker s (g.W.Wire.shown c.args.wire.now).told (g.W.Wire.shown c.open.new.wire).told _ HasFreshLinks (λ more only. only.0) c.in-Err-Memory.ensures.err;
     }))
+
+pub returns-in-Err-Failed-clause-runs : goal.returns-in-Err-Failed-clause-runs
+returns-in-Err-Failed-clause-runs g c = said_runs _ _ (listen_failed_text c.in-Err-Failed.n) c.say_made.result (c.say_made.ensures (listen_failed_text c.in-Err-Failed.n) c.listen_failed.ensures)

@@ -5,7 +5,7 @@ use Rattle.server_core.specs.Meaning.{setting_of}
 use Rattle.aprsc_daemon.specs.Phases.{Broken, Idling, Resting, Served}
 use Rattle.aprsc_daemon.specs.declared.serving.End.TheVariants as ended
 use Rattle.aprsc_daemon.proofs.RunLemmas.{run_weaker}
-use Rattle.aprsc_daemon.proofs.ServeLemmas.{finishes}
+use Rattle.aprsc_daemon.proofs.ServeLemmas.{finishes, stands_at_last}
 use Rattle.aprsc_daemon.proofs.serving.serve.Goals as goal
 
 pub loop-init : goal.loop-init
@@ -48,6 +48,13 @@ returns-in-Ok-true-clause-run g c =
           subst (λ all. AppendsRun s start (g.W.Wire.shown c.serve_round.new.wire).told (Served s ended.Stopped all)) (append_assoc lines before.6 now.0)
           (finishes ((lines ++ before.6) ++ now.0) s start (g.W.Wire.shown c.serve_round.new.wire).told c.serve_round.new.core (ap setting_of (c.in-Ok-true.ensures.conf ∙ before.2) ∙ same) (sym c.in-Ok-true.ensures.done ∙ c.in-Ok-true.field-0-test) (now.2 s start (lines ++ before.6) (ap setting_of before.2 ∙ same) (before.8 s start lines same run)).0),
     )
+
+pub returns-in-Ok-true-clause-stands : goal.returns-in-Ok-true-clause-stands
+returns-in-Ok-true-clause-stands g c = λ stopped s start lines same run.
+    let before = c.loop.invariant in
+    let now = c.in-Ok-true.ensures.run in
+    stands_at_last ((lines ++ before.6) ++ now.0) s start (g.W.Wire.shown c.serve_round.new.wire).told c.serve_round.new.core (ap setting_of (c.in-Ok-true.ensures.conf ∙ before.2) ∙ same) (sym c.in-Ok-true.ensures.done ∙ c.in-Ok-true.field-0-test)
+    (now.2 s start (lines ++ before.6) (ap setting_of before.2 ∙ same) (before.8 s start lines same run)).0
 
 pub returns-in-Err-Failed-clause-run : goal.returns-in-Err-Failed-clause-run
 returns-in-Err-Failed-clause-run g c =

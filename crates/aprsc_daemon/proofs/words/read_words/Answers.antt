@@ -1,15 +1,30 @@
-use Rattle.std.proofs.Common.{◌≡◌, ◌∙◌, Err, ap, refl, sym}
-use Rattle.aprsc_daemon.specs.Words.{asked_of}
+use Rattle.std.proofs.Common.{◌≡◌, ◌∙◌, Err, ap, map, sym}
+use Rattle.std.specs.Prelude.{string_bytes}
+use Rattle.aprsc_daemon.specs.Words.{drill_in}
 use Rattle.aprsc_daemon.specs.declared.words.WordsError.TheVariants as words_error
-use Rattle.aprsc_daemon.proofs.WordsLemmas.{asks, asks_nothing}
+use Rattle.aprsc_daemon.proofs.WordsLemmas.{begins_drill, begins_net, drill_after, no_mode}
 use Rattle.aprsc_daemon.proofs.words.read_words.Goals as goal
 
-pub returns-then-names_mode-clause-refused : goal.returns-then-names_mode-clause-refused
-unfolding asked_of
-returns-then-names_mode-clause-refused c = λ refused. rw (sym c.names_mode.ensures, c.if-names_mode.true) refl
-
 pub returns-in-Ok-clause-value : goal.returns-in-Ok-clause-value
-returns-in-Ok-clause-value c = asks _ _ c.said_by.result (sym c.names_mode.ensures ∙ c.if-names_mode.false) c.in-Ok.ensures.good c.in-Ok.ensures.rows c.said_by.ensures.value
+returns-in-Ok-clause-value c =
+    let words = map string_bytes c.args.words.now in
+    drill_after words (sym c.begins_with.ensures ∙ c.if-begins_with.true) ∙ ap drill_in (sym c.later.ensures) ∙ c.in-Ok.ensures.value
 
 pub returns-in-Err-clause-refused : goal.returns-in-Err-clause-refused
-returns-in-Err-clause-refused c = λ refused. asks_nothing _ (c.in-Err.ensures.refused (let same : c.in-Err.error ≡ words_error.Refused = cc in ap Err same))
+returns-in-Err-clause-refused c = λ refused.
+    let words = map string_bytes c.args.words.now in
+    let drill = sym c.begins_with.ensures ∙ c.if-begins_with.true in
+    let same : c.in-Err.error ≡ words_error.Refused = cc in
+    (begins_drill words drill, drill_after words drill ∙ ap drill_in (sym c.later.ensures) ∙ c.in-Err.ensures.refused (ap Err same))
+
+pub returns-then-begins_with-2-clause-refused : goal.returns-then-begins_with-2-clause-refused
+returns-then-begins_with-2-clause-refused c = λ refused.
+    let words = map string_bytes c.args.words.now in
+    let other = sym c.begins_with.ensures ∙ c.if-begins_with.false in
+    (begins_net words other (sym c.begins_with-2.ensures ∙ c.if-begins_with-2.true), no_mode words other)
+
+pub returns-in-Err-read_server-clause-refused : goal.returns-in-Err-read_server-clause-refused
+returns-in-Err-read_server-clause-refused c = λ refused.
+    let words = map string_bytes c.args.words.now in
+    let same : c.in-Err-read_server.error ≡ words_error.Refused = cc in
+    (c.in-Err-read_server.ensures.refused (ap Err same), no_mode words (sym c.begins_with.ensures ∙ c.if-begins_with.false))

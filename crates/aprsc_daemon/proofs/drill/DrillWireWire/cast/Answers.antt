@@ -1,0 +1,12 @@
+use Rattle.std.proofs.Common.{refl, subst, sym}
+use Rattle.aprs_base.specs.Outside.{with_cast}
+use Rattle.aprs_base.specs.declared.events.Happening.TheVariants as did
+use Rattle.aprsc_daemon.specs.Drill.{IsDriven}
+use Rattle.aprsc_daemon.proofs.DrillLemmas.{driven_act}
+use Rattle.aprsc_daemon.proofs.drill.DrillWireWire.cast.Goals as goal
+
+pub invariant_of-self : goal.invariant_of-self
+invariant_of-self c =
+    let self = c.self.inside in
+    subst (λ wire. IsDriven self.plan wire self.left self.taken) (sym c.cast.ensures.exact)
+    (driven_act self.plan self.wire self.left self.taken (did.Cast c.args.peer c.args.bytes.now) (with_cast c.args.peer c.args.to c.args.bytes.now) c.cast.result (λ told. refl) refl (λ all. all) refl c.self.invariant)
