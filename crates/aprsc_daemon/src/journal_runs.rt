@@ -128,7 +128,8 @@ fn loops_and_refusals_have_their_lines(rt: HostRuntime) -> Result<(), Fail> {
         b"1000 join 1 0\n1000 loop 1 names-server\n1000 refused u2 unverified\n1000 end 1 stop\n";
     assert!(rt; told(&left) == Some(lines));
     let loops: Option<&[u8]> = Some(b"1000 loop 1 names-server\n");
-    assert!(rt; left.journals.last().map(kept) == Some((1, loops)));
+    let last = left.journals.last().ok_or("a slot")?;
+    assert!(rt; kept(last) == (1, loops));
     Ok(())
 }
 
@@ -168,7 +169,11 @@ fn overfull_links_have_their_line(rt: HostRuntime) -> Result<(), Fail> {
     assert!(rt; told(&left) == Some(lines));
     assert!(rt; left.taken(alloc, 2)?.is_empty());
     let first = left.taken(alloc, 1)?;
-    assert!(rt; first.as_slice().ends_with(b"K1ABC>APRS,TCPIP*,qAC,T2TEST:>last\r\n"));
+    assert!(rt;
+        first
+            .as_slice()
+            .ends_with(b"K1ABC>APRS,TCPIP*,qAC,T2TEST:>last\r\n")
+    );
     Ok(())
 }
 
