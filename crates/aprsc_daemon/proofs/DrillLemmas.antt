@@ -1,5 +1,5 @@
 -- A drill's wire gives the events of its plan in order, and takes every offer whole; so what it tells at last is a drill.
-use Rattle.std.proofs.Common.{◌≡◌, ℕ, zero, suc, ◌+◌, ◌-◌, false, List, [], ◌∷◌, ◌++◌, length, drop, refl, sym, ap, ◌∙◌, subst, arith, append-nil, append_assoc, codes, Option, Some, None, Result, Ok, Err}
+use Rattle.std.proofs.Common.{◌≡◌, ℕ, zero, suc, ◌+◌, ◌-◌, false, List, [], ◌∷◌, ◌++◌, length, drop, refl, sym, ap, ◌∙◌, subst, arith, append-nil, append_assoc, codes, Some, None, Result, Ok, Err}
 use Rattle.std.specs.Prelude.{reverse}
 use Rattle.std.proofs.lemmas.List.{reverse-append, reverse-reverse}
 use Rattle.aprs_base.specs.Outside.{Told}
@@ -22,8 +22,8 @@ use Rattle.aprs_history.specs.Setting.{Setting}
 use Rattle.aprs_history.specs.Stands.{StandsFor}
 use Rattle.drill_plan.specs.Drill.{drill_events}
 use Rattle.drill_plan.specs.declared.plan.Plan.{Plan}
-use Rattle.server_core.specs.Meaning.{CoreMeaning, setting_of}
-use Rattle.aprsc_daemon.specs.Drill.{HasCounts, IsDriven, IsDrill, IsSummary, TakesAll, drill_setting, port}
+use Rattle.server_core.specs.Meaning.{CoreMeaning}
+use Rattle.aprsc_daemon.specs.Drill.{HasCounts, IsDriven, IsSummary, TakesAll, drill_setting, port}
 use Rattle.aprsc_daemon.specs.Phases.{Finished, events_in}
 use Rattle.aprsc_daemon.specs.Saying.{summary_text}
 use Rattle.aprsc_daemon.specs.declared.drill.Counts.{Counts}

@@ -1,7 +1,5 @@
 use Rattle.std.proofs.Common.{[], ap, refl, inr, subst, sym}
-use Rattle.aprs_base.specs.Slots.{TakesLines}
 use Rattle.aprs_base.proofs.SlotLemmas.{each_takes-none}
-use Rattle.std.specs.List.{AllZip}
 use Rattle.aprs_history.specs.Headline.{HasFreshLinks}
 use Rattle.aprs_history.specs.Runs.{AppendsRun}
 use Rattle.server_core.specs.Meaning.{setting_of}

@@ -1,11 +1,8 @@
-use Rattle.std.proofs.Common.{◌≡◌, ◌++◌, [], List, OnErr, OnOk, Option, Result, refl, sym, ap, ◌∙◌, subst, append-nil}
+use Rattle.std.proofs.Common.{◌++◌, [], refl, sym, ap, ◌∙◌, subst, append-nil}
 use Rattle.std.proofs.lemmas.Result.{err_from_is_err_and}
-use Rattle.aprs_base.specs.Journals.{JournalLineSeen}
-use Rattle.aprs_base.specs.Outside.{Told}
-use Rattle.aprs_history.specs.Setting.{Setting}
 use Rattle.aprs_history.specs.Runs.{AppendsRun}
 use Rattle.server_core.specs.Meaning.{setting_of}
-use Rattle.aprsc_daemon.specs.Phases.{Acting, Broken, Gathering, Offering, Resting}
+use Rattle.aprsc_daemon.specs.Phases.{Broken, Gathering}
 use Rattle.aprsc_daemon.proofs.BringLemmas.{brings_on}
 use Rattle.aprsc_daemon.proofs.EventLemmas.{err_any, no_ok}
 use Rattle.aprsc_daemon.proofs.JournalLemmas.{round_breaks}

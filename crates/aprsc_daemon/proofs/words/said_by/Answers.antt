@@ -1,5 +1,4 @@
-use Rattle.std.proofs.Common.{◌≡◌, codes, sym, refl}
-use Rattle.std.specs.Prelude.{unwrap_or}
+use Rattle.std.proofs.Common.{codes, sym, refl}
 use Rattle.clap.specs.Words.{found_of}
 use Rattle.clap.proofs.WalkLemmas.{first_value-rows, one_text-rows}
 use Rattle.aprsc_daemon.proofs.words.said_by.Goals as goal
