@@ -133,11 +133,11 @@ fn loops_and_refusals_have_their_lines(rt: HostRuntime) -> Result<(), Fail> {
     Ok(())
 }
 
-/// Forty packets of the first station, each different, from this number on.
-fn forty_packets(alloc: Global, first: u32) -> Result<Event, Fail> {
+/// Forty packets of the first station, each different, and from those of other numbers too.
+fn forty_packets(alloc: Global, number: u32) -> Result<Event, Fail> {
     let mut text = Vec::new(alloc);
-    for number in first..first + 40 {
-        let line = format!(in alloc; "N0CALL>APRS:>{number}\r\n")?;
+    for packet in 0..40 {
+        let line = format!(in alloc; "N0CALL>APRS:>{number} {packet}\r\n")?;
         text.extend_from_slice(line.as_bytes())?;
     }
     said(1, text.as_slice())
@@ -154,7 +154,7 @@ fn overfull_links_have_their_line(rt: HostRuntime) -> Result<(), Fail> {
     events.push(said(1, FIRST_LOGIN)?)?;
     events.push(said(2, SECOND_LOGIN)?)?;
     for forty in 0..25 {
-        events.push(forty_packets(alloc, forty * 40)?)?;
+        events.push(forty_packets(alloc, forty)?)?;
     }
     events.push(said(2, b"K1ABC>APRS:>last\r\n")?)?;
     events.push(Event::Tick(1000))?;
