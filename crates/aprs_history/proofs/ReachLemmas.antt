@@ -123,17 +123,17 @@ IsUnanswered (Refused (refusal.Login why)) = ⊥
 IsUnanswered (Refused refusal.OwnName) = ⊥
 IsUnanswered verdict = ⊤
 
-routed_unanswered : (now : ℕ) (accepted : List PacketSeen) (result : Result Parts QDrop) → IsUnanswered (packet_verdict now accepted (routed result))
-routed_unanswered now accepted (Err drop') = tt
-routed_unanswered now accepted (Ok parts) = of (is_duplicate now accepted parts)
+routed_unanswered : (copies : Parts → Bool) (result : Result Parts QDrop) → IsUnanswered (packet_verdict copies (routed result))
+routed_unanswered copies (Err drop') = tt
+routed_unanswered copies (Ok parts) = of (copies parts)
   where
     of : (b : Bool) → IsUnanswered (if b then Refused (refusal.Duplicate parts (text_of parts)) else Accepted parts (text_of parts))
     of true = tt
     of false = tt
 
-read_unanswered : (scene : Scene) (by : Origin) (read : Result Parts LineFault) → IsUnanswered (packet_verdict scene.moment scene.accepted (read_and_routed scene.server by scene.others read))
+read_unanswered : (scene : Scene) (by : Origin) (read : Result Parts LineFault) → IsUnanswered (packet_verdict scene.copies (read_and_routed scene.server by scene.others read))
 read_unanswered scene by (Err fault) = tt
-read_unanswered scene by (Ok parts) = routed_unanswered scene.moment scene.accepted (process_of parts by scene.server scene.others)
+read_unanswered scene by (Ok parts) = routed_unanswered scene.copies (process_of parts by scene.server scene.others)
 
 carried_unanswered : (scene : Scene) (by : Origin) (said : Cut) → scene.speaker ≡ Carrier by → IsUnanswered (verdict_of scene said)
 carried_unanswered scene by cut.Long is = tt

@@ -21,7 +21,7 @@ use Rattle.q_construct.specs.declared.drops.QDrop.TheVariants as drop_for
 use Rattle.aprs_body.specs.Bodies.{body_of}
 use Rattle.login_pass.specs.declared.login_line.LoginFault.TheVariants as fault
 use Rattle.aprs_base.specs.declared.cutting.Cut.TheVariants as cut
-use Rattle.aprs_history.specs.Verdicts.{Scene, Visitor, verdict_of}
+use Rattle.aprs_history.specs.Verdicts.{Scene, Visitor, verdict_of, is_duplicate}
 use Rattle.aprs_history.specs.Scenes.{accepted_by, accepted_of, scene_of}
 use Rattle.aprs_history.specs.declared.verdicts.Verdict.{Verdict}
 use Rattle.aprs_history.specs.declared.verdicts.Verdict.TheVariants.{PassedOver, Refused, LoggedIn, Filtered, Accepted}
@@ -146,12 +146,11 @@ link_of login verified port others = record {
   server = codes "T2TEST";
   speaker = Visitor port (Some (record { call = login; verified = verified }));
   others = others;
-  moment = 1000;
-  accepted = [];
+  copies = is_duplicate 1000 [];
 }
 
 abbrev pub stranger_on : PortKind → Scene
-stranger_on port = record { server = codes "T2TEST"; speaker = Visitor port None; others = []; moment = 1000; accepted = [] }
+stranger_on port = record { server = codes "T2TEST"; speaker = Visitor port None; others = []; copies = is_duplicate 1000 [] }
 
 abbrev pub stranger : Scene
 stranger = stranger_on kind.Full
@@ -230,7 +229,7 @@ shown_again verdict = None
 abbrev later_on : ℕ → List ℕ → Verdict
 later_on seconds text =
     let first = link_of (codes "N0CALL") true kind.Full [] in
-    verdict_on (record first { moment = 1000 + seconds; accepted = accepted_by (source.Link 1) 1000 (verdict_on first (codes "N0CALL>APRS,WIDE1-1:>hi")) }) text
+    verdict_on (record first { copies = is_duplicate (1000 + seconds) (accepted_by (source.Link 1) 1000 (verdict_on first (codes "N0CALL>APRS,WIDE1-1:>hi"))) }) text
 
 again_by_another_path : shown_again (later_on 5 (codes "N0CALL>APRS,WIDE2-2:>hi")) ≡ Some (codes "N0CALL>APRS,TCPIP*,qAC,T2TEST:>hi")
 unfolding parts_of text_of via_of head_of process_of given_drops built_drops built_row rows

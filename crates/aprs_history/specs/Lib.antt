@@ -4,7 +4,6 @@ pub mod Dates
 pub mod Headline
 pub mod History
 pub mod Journal
-pub mod Keys
 pub mod Links
 pub mod MessageRule
 pub mod Messages

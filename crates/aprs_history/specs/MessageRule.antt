@@ -2,7 +2,7 @@
 use Rattle.std.specs.Prelude.{◌≡◌, ℕ, ◌==◌, ◌&&◌, ◌↔◌, Bool, false, List, ◌∷◌, ◌++◌, Some, IsTrue, IsFalse}
 use Rattle.heard_routing.specs.LastHeard.{last_heard}
 use Rattle.aprs_history.specs.declared.verdicts.Verdict.TheVariants.{Accepted}
-use Rattle.aprs_history.specs.Keys.{is_text}
+use Rattle.dupe_window.specs.Keys.{is_text}
 use Rattle.aprs_history.specs.Setting.{Setting}
 use Rattle.aprs_history.specs.Trace.{Trace, Entry, Opened, Said, moment_of}
 use Rattle.aprs_history.specs.Scenes.{accepted_of, packet_of}

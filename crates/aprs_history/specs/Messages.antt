@@ -6,7 +6,7 @@ use Rattle.aprs_base.specs.declared.packets.Source.{Source}
 use Rattle.aprs_body.specs.Classes.{message_bit, position_bit}
 use Rattle.filter_eval.specs.Passes.{has_class, is_some_and}
 use Rattle.heard_routing.specs.Heard.{heard_age, is_recent, promise_age}
-use Rattle.aprs_history.specs.Keys.{is_text}
+use Rattle.dupe_window.specs.Keys.{is_text}
 use Rattle.aprs_history.specs.declared.verdicts.Session.{Session}
 use Rattle.aprs_history.specs.declared.verdicts.Verdict.{Verdict}
 use Rattle.aprs_history.specs.declared.verdicts.Verdict.TheVariants.{PassedOver, Refused, LoggedIn, Filtered, Accepted}

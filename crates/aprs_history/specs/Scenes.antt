@@ -17,7 +17,7 @@ use Rattle.aprs_history.specs.declared.verdicts.Verdict.{Verdict}
 use Rattle.aprs_history.specs.declared.verdicts.Verdict.TheVariants.{PassedOver, Refused, LoggedIn, Filtered, Accepted}
 use Rattle.aprs_history.specs.Trace.{Trace, Said, live_links, is_other, moment_of}
 use Rattle.aprs_history.specs.Links.{Opening, opening_of, session_of}
-use Rattle.aprs_history.specs.Verdicts.{Carrier, Scene, Speaker, Visitor}
+use Rattle.aprs_history.specs.Verdicts.{Carrier, Scene, Speaker, Visitor, is_duplicate}
 
 -- a packet as it is accepted from there
 abbrev pub packet_of : Source → ℕ → Parts → List ℕ → PacketSeen
@@ -66,8 +66,7 @@ scene_of setting trace link = record {
   server = setting.server;
   speaker = speaker_of (opening_of trace link) (session_of trace link);
   others = others_of trace link;
-  moment = moment_of trace;
-  accepted = accepted_of trace;
+  copies = is_duplicate (moment_of trace) (accepted_of trace);
 }
 
 -- what a line of a datagram meets
@@ -76,6 +75,5 @@ datagram_scene setting origin trace = record {
   server = setting.server;
   speaker = Carrier origin;
   others = logins_of trace (live_links trace);
-  moment = moment_of trace;
-  accepted = accepted_of trace;
+  copies = is_duplicate (moment_of trace) (accepted_of trace);
 }

@@ -6,9 +6,12 @@ use Rattle.aprs_base.specs.declared.totals.Totals.{Totals}
 use Rattle.filter_lang.specs.Terms.{TermSeen}
 use Rattle.filter_eval.specs.declared.seen.Seen.{Seen}
 use Rattle.station_table.specs.Stations.{StationsSeen}
-use Rattle.station_table.specs.Last.{Agrees}
+use Rattle.station_table.specs.Last.{HasExactly}
 use Rattle.heard_routing.specs.Entries.{HasEachOnce}
-use Rattle.heard_routing.specs.Heard.{HeardSeen, heard_at, promised_at}
+use Rattle.heard_routing.specs.Heard.{HeardSeen, heard_age, heard_at, promise_age, promised_at}
+use Rattle.heard_routing.specs.LastHeard.{still}
+use Rattle.dupe_window.specs.Recalled.{recalled}
+use Rattle.dupe_window.specs.Windows.{WindowSeen}
 use Rattle.aprs_history.specs.Counts.{totals_of}
 use Rattle.aprs_history.specs.Setting.{Setting}
 use Rattle.aprs_history.specs.declared.verdicts.Session.{Session}
@@ -52,7 +55,7 @@ pub record CoreSeen : Type 0 where
   -- the links that were turned away in this round, and those that ended in it and are to be closed
   pub turned : List ℕ
   pub closing : List ℕ
-  pub accepted : List PacketSeen
+  pub window : WindowSeen
   pub stations : StationsSeen
   pub heard : HeardSeen
   pub greatest : ℕ
@@ -83,18 +86,30 @@ link_seen setting trace link = record {
 abbrev pub TookNoMore : Setting → Trace → Type 0
 TookNoMore setting trace = (link : ℕ) → taken_by trace link ≤ length (text_bytes (lines_of setting trace link))
 
--- a table has once each when the clients that live last heard each call, and what the links that live were last promised; and
--- nothing of other links
+-- the keys and moments of the packets that were accepted less than 30 seconds before, in the order in which they came
+abbrev pub window_of : Trace → WindowSeen
+window_of trace = record { pairs = recalled 30 (moment_of trace) (accepted_of trace); seconds = 30 }
+
+-- when a link last heard a call, at most three hours before
+abbrev pub kept_hearing : Trace → ℕ → List ℕ → Option ℕ
+kept_hearing trace link call = still heard_age (moment_of trace) (heard_of trace link call)
+
+-- when a link was last promised the sender's next position, at most half an hour before
+abbrev pub kept_promise : Trace → ℕ → List ℕ → Option ℕ
+kept_promise trace link sender = still promise_age (moment_of trace) (promise_of trace link sender)
+
+-- a table has once each when the clients that live last heard each call, and what the links that live were last promised, as
+-- far as that isn't too old; and nothing else
 pub record Remembers (table : HeardSeen) (trace : Trace) : Type 0 where
   pub once_heard : HasEachOnce table.heard
   pub once_promised : HasEachOnce table.promises
-  pub heard : (link : ℕ) (call : List ℕ) → heard_at table link call ≡ (if is_client trace link then heard_of trace link call else None)
-  pub promised : (link : ℕ) (sender : List ℕ) → promised_at table link sender ≡ (if is_live trace link then promise_of trace link sender else None)
+  pub heard : (link : ℕ) (call : List ℕ) → heard_at table link call ≡ (if is_client trace link then kept_hearing trace link call else None)
+  pub promised : (link : ℕ) (sender : List ℕ) → promised_at table link sender ≡ (if is_live trace link then kept_promise trace link sender else None)
 
--- the tables have the accepted packets, and what they told of stations and links
-pub record Keeps (packets : List PacketSeen) (sights : StationsSeen) (routes : HeardSeen) (trace : Trace) : Type 0 where
-  pub accepted : packets ≡ accepted_of trace
-  pub stations : Agrees sights (accepted_of trace)
+-- the tables have what the accepted packets told, as far as that still counts, and nothing else
+pub record Keeps (lately : WindowSeen) (sights : StationsSeen) (routes : HeardSeen) (trace : Trace) : Type 0 where
+  pub window : lately ≡ window_of trace
+  pub stations : HasExactly (moment_of trace) sights (accepted_of trace)
   pub heard : Remembers routes trace
 
 -- what there is for other servers
@@ -108,7 +123,7 @@ pub record Follows (setting : Setting) (core : CoreSeen) (trace : Trace) : Type 
   pub turned : core.turned ≡ turned_links trace
   pub closing : core.closing ≡ closed_links trace
   pub links : core.links ≡ map (link_seen setting trace) (served_links trace)
-  pub tables : Keeps core.accepted core.stations core.heard trace
+  pub tables : Keeps core.window core.stations core.heard trace
   pub took : TookNoMore setting trace
   pub totals : core.totals ≡ totals_of setting trace
 

@@ -23,7 +23,7 @@ use Rattle.q_construct.specs.declared.origins.Origin.TheVariants as origin
 use Rattle.q_construct.specs.declared.drops.QDrop.{QDrop}
 use Rattle.q_construct.specs.declared.drops.QDrop.TheVariants.{Unverified}
 use Rattle.aprs_history.specs.Setting.{is_dupe_kind, is_filter_kind, is_only_kind}
-use Rattle.aprs_history.specs.Keys.{Key, key_of, is_same_key, is_text}
+use Rattle.dupe_window.specs.Keys.{Key, key_of, is_same_key, is_text}
 use Rattle.aprs_history.specs.declared.verdicts.FilterAnswer.{FilterAnswer}
 use Rattle.aprs_history.specs.declared.verdicts.FilterAnswer.TheVariants.{Active, Denied}
 use Rattle.aprs_history.specs.declared.verdicts.FilterFault.TheVariants as filter_fault
@@ -39,14 +39,13 @@ pub data Speaker : Type 0 where
   Visitor : (kind : PortKind) → (session : Option Session) → Speaker
   Carrier : (origin : Origin) → Speaker
 
--- what a line meets: the server's call, who says it, the logins of the other verified links, and the packets that were
--- accepted before, up to this moment
+-- what a line meets: the server's call, who says it, the logins of the other verified links, and which packets are copies of
+-- one that was accepted a short while before
 pub record Scene : Type 0 where
   pub server : List ℕ
   pub speaker : Speaker
   pub others : List (List ℕ)
-  pub moment : ℕ
-  pub accepted : List PacketSeen
+  pub copies : Parts → Bool
 
 -- a comment or command line
 abbrev pub is_comment : List ℕ → Bool
@@ -133,13 +132,13 @@ is_repeat now key packet = nat_lt (now - packet.moment) 30 && is_same_key key (k
 abbrev pub is_duplicate : ℕ → List PacketSeen → Parts → Bool
 is_duplicate now accepted parts = list_any (is_repeat now (key_of parts)) accepted
 
-abbrev pub packet_verdict : ℕ → List PacketSeen → Result Parts Refusal → Verdict
-packet_verdict now accepted (Err why) = Refused why
-packet_verdict now accepted (Ok parts) =
-    if is_duplicate now accepted parts then Refused (refusal.Duplicate parts (text_of parts)) else Accepted parts (text_of parts)
+abbrev pub packet_verdict : (copies : Parts → Bool) → Result Parts Refusal → Verdict
+packet_verdict copies (Err why) = Refused why
+packet_verdict copies (Ok parts) =
+    if copies parts then Refused (refusal.Duplicate parts (text_of parts)) else Accepted parts (text_of parts)
 
 abbrev pub carried_verdict : Scene → Origin → List ℕ → Verdict
-carried_verdict scene from text = packet_verdict scene.moment scene.accepted (read_and_routed scene.server from scene.others (parts_of text))
+carried_verdict scene from text = packet_verdict scene.copies (read_and_routed scene.server from scene.others (parts_of text))
 
 -- the verdict on a line of a client that is no comment: before the login it is a login, after it a packet, unless its port
 -- only shows refused duplicates

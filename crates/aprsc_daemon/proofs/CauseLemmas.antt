@@ -22,7 +22,7 @@ use Rattle.aprsc_daemon.specs.Saying.{listen_failed_text, unread_text, usage_tex
 use Rattle.aprsc_daemon.specs.Configuring.{IsTrouble}
 use Rattle.aprsc_daemon.specs.declared.configuring.Trouble.{Trouble}
 use Rattle.aprsc_daemon.specs.declared.configuring.Trouble.TheVariants as trouble
-use Rattle.aprsc_daemon.specs.Causes.{AskNothing, Asks, Cause, DrillEnds, Ended, HasNamed, HasNoListener, HasNoMemory, HasRefused, IsDue, IsOff, IsServed, IsUnused, KeepsPromise, Opening, OpensOnly, Outside, Reports, Said, code_of_status, status_of}
+use Rattle.aprsc_daemon.specs.Causes.{AskNothing, Asks, Cause, DrillEnds, Ended, HasNamed, HasNoListener, HasNoMemory, HasRefused, IsDue, IsOff, IsServed, IsUnused, KeepsPromise, Opening, OpensOnly, Outside, Reports, Said, code_of_status, is_before_serving, status_of}
 use Rattle.aprsc_daemon.specs.Words.{ServerWordsSeen, asked_of, drill_of}
 use Rattle.aprsc_daemon.specs.Drill.{IsSummary}
 use Rattle.aprsc_daemon.specs.declared.words.DrillWords.{DrillWords}
@@ -116,21 +116,11 @@ memory_cause o silent left = inl (record { run = left; silent = silent })
 pub rose_later : (before opened now : ℕ) → before ≤ opened → Rose opened now → Rose before now
 rose_later before opened now le rose = omega arith
 
--- the end of a run isn't that of a file that is off or unread
-pub ended_runs : (end : End) (result : Status) → result ≡ status_of end → (result ≢ status.BadFile) × (result ≢ status.UnreadFile)
-ended_runs ended.Stopped result is = (λ e. cc, λ e. cc)
-ended_runs ended.Failed result is = (λ e. cc, λ e. cc)
-ended_runs ended.Memory result is = (λ e. cc, λ e. cc)
-
-pub said_runs : (old new : SinkShown) (text : List ℕ) (result : Status) → Said old new text status.NoListener result → (result ≢ status.BadFile) × (result ≢ status.UnreadFile)
-said_runs old new text result said =
-    ⊎_elim
-    (λ whole. let is = whole.0 in (λ e. cc, λ e. cc))
-    (λ partly. ⊎_elim
-    (λ memory. let is = memory.0 in (λ e. cc, λ e. cc))
-    (λ lost. let is = lost.0 in (λ e. cc, λ e. cc))
-    partly)
-    said
+-- what ended by serving
+pub ended_serving : (end : End) → is_before_serving (code_of_status (status_of end)) ≡ false
+ended_serving ended.Stopped = refl
+ended_serving ended.Failed = refl
+ended_serving ended.Memory = refl
 
 pub ended_cause : (o : Outside) (conf : ConfSeen) (end : End) (result : Status) → result ≡ status_of end → HasNamed task.Serve o.words o.files.told conf → o.sink_after.told ≡ o.sink.told
     → (end ≡ ended.Failed → Rose o.wire.stops o.wire_after.stops)
@@ -178,7 +168,7 @@ not_both t words files conf text read refused =
     (λ off. no_trouble off.1 (conf_of refused.bytes) conf (ap conf_of (sym same) ∙ read.reads) off.2)
     refused.off
 
-not_named : (words : List (List ℕ)) (asked : ServerWordsSeen) → asked_of words ≡ None → asked_of words ≡ Some asked → ⊥
+pub not_named : (words : List (List ℕ)) (asked : ServerWordsSeen) → asked_of words ≡ None → asked_of words ≡ Some asked → ⊥
 not_named words asked bad named = cc
 
 -- no words ask for a drill and for the server

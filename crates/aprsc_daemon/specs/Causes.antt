@@ -1,5 +1,5 @@
 -- Why the program ends with each of its statuses, and what it leaves.
-use Rattle.std.specs.Prelude.{◌≡◌, ◌⊎◌, ℕ, ◌<◌, ◌≤◌, List, take, length, true, ◌∷◌, ◌++◌, Option, Some, None, Ok}
+use Rattle.std.specs.Prelude.{◌≡◌, ◌⊎◌, ◌==◌, ◌||◌, ℕ, ◌<◌, ◌≤◌, Bool, List, take, length, true, ◌∷◌, ◌++◌, Option, Some, None, Ok}
 use Rattle.std.specs.List.{All}
 use Rattle.aprs_base.specs.Outside.{Rose, WireShown}
 use Rattle.aprs_base.specs.Stores.{FilesShown, Holds, SinkShown}
@@ -65,6 +65,10 @@ pub record HasNamed (asked_task : Task) (words : List (List ℕ)) (told : Option
   pub holds : Holds told asked.file bytes
   pub short : length bytes ≤ 65536
   pub reads : conf_of bytes ≡ Ok conf
+
+-- the words ask for no run, or the file that they name holds no configuration
+abbrev pub NamesNone : List (List ℕ) → Option (List MemFile) → Type 0
+NamesNone words told = (conf : ConfSeen) → HasNamed task.Serve words told conf → ⊥
 
 -- a run was asked for, and what happened on the wire is one for the named configuration
 pub record IsServed (o : Outside) (P : Setting → History → Type 0) : Type 0 where
@@ -222,6 +226,10 @@ code_of_status status.NoListener = 4
 code_of_status status.LostWire = 5
 code_of_status status.NoMemory = 6
 code_of_status status.LostSink = 7
+
+-- the statuses of what ended before it served
+abbrev pub is_before_serving : ℕ → Bool
+is_before_serving code = code == 1 || code == 2 || code == 3 || code == 4 || code == 7
 
 abbrev pub status_of : End → Status
 status_of ended.Stopped = status.Stopped

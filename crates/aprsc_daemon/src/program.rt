@@ -1,5 +1,5 @@
 //! The program: what its words name is read and served.
-ghost use Rattle.std.specs.Prelude.{◌≡◌, ◌≢◌, ◌⊎◌, ◌≤◌, ◌<◌, ℕ, List, Option, None, Ok, Some, IfOk, IfErr, OnErr, length, map, string_bytes, true};
+ghost use Rattle.std.specs.Prelude.{◌≡◌, ◌⊎◌, ◌≤◌, ◌<◌, ℕ, List, Option, None, Ok, Some, IfOk, IfErr, OnErr, length, map, string_bytes, true};
 ghost use Rattle.std.specs.List.{AllZip};
 ghost use Rattle.aprs_base.specs.Outside.{Rose, WireShown};
 ghost use Rattle.aprs_base.specs.Stores.{FilesShown, Holds, SinkShown, bytes_named};
@@ -11,7 +11,7 @@ ghost use Rattle.aprs_conf.specs.Seen.{ConfSeen};
 ghost use Rattle.aprs_conf.specs.Sound.{IsSound};
 ghost use Rattle.aprs_conf.specs.Grammar.{conf_of};
 ghost use Rattle.server_core.specs.Meaning.{setting_of};
-ghost use Rattle.aprsc_daemon.specs.Causes.{Asks, Cause, DrillEnds, Ended, HasCause, HasNamed, KeepsPromise, Opening, Said, code_of_status, outside_of, status_of};
+ghost use Rattle.aprsc_daemon.specs.Causes.{Asks, Cause, DrillEnds, Ended, HasCause, HasNamed, KeepsPromise, NamesNone, Opening, Said, code_of_status, is_before_serving, outside_of, status_of};
 ghost use Rattle.aprsc_daemon.specs.Phases.{JournalTold};
 ghost use Rattle.aprsc_daemon.specs.Asked.{IsBounded};
 ghost use Rattle.aprsc_daemon.specs.Words.{ServerWordsSeen, asked_of, drill_of};
@@ -111,7 +111,7 @@ fn run_conf<R: Threads + Sync + Wait, W: Wire, S: Sink>(
     requires most { workers ≤ 64 }
     ensures journals { (told : List JournalLineSeen) × AllZip (TakesLines journal_shown told) journals.old.items journals.new.items
         × AppendsRun (setting_of conf) (W.shown wire.old).told (W.shown wire.new).told (JournalTold (code_of_status result) (setting_of conf) told) }
-    ensures runs { (result ≢ Status.BadFile) × (result ≢ Status.UnreadFile) }
+    ensures still { is_before_serving (code_of_status result) ≡ true → journals.new ≡ journals.old }
     ensures cause { (words : List (List ℕ)) (files files_after : FilesShown) → HasNamed Task.Serve words files.told conf
         → Cause result (outside_of words files files_after
         (W.shown wire.old) (W.shown wire.new) (S.shown out.old) (S.shown out.new)) }
@@ -141,7 +141,8 @@ fn run_text<R: Threads + Sync + Wait, W: Wire, S: Sink>(
         → (told : List JournalLineSeen) × AllZip (TakesLines journal_shown told) journals.old.items journals.new.items
         × AppendsRun (setting_of conf) (W.shown wire.old).told (W.shown wire.new).told (JournalTold (code_of_status result) (setting_of conf) told) }
     ensures checks { asked.now.task ≡ Task.Check → (wire.new ≡ wire.old) × (journals.new ≡ journals.old) }
-    ensures still { (result ≡ Status.BadFile) ⊎ (result ≡ Status.UnreadFile) → journals.new ≡ journals.old }
+    ensures still { is_before_serving (code_of_status result) ≡ true → journals.new ≡ journals.old }
+    ensures unnamed { ((conf : ConfSeen) → asked.now.task ≡ Task.Serve → conf_of text.now ≡ Ok conf → ⊥) → journals.new ≡ journals.old }
     ensures cause { (words : List (List ℕ)) (files files_after : FilesShown) → asked_of words ≡ Some asked.now → Holds files.told asked.now.file text.now
         → Cause result (outside_of words files files_after
         (W.shown wire.old) (W.shown wire.new) (S.shown out.old) (S.shown out.new)) }
@@ -174,7 +175,8 @@ fn run_file<R: Threads + Sync + Wait, F: Files, W: Wire, S: Sink>(
         → (told : List JournalLineSeen) × AllZip (TakesLines journal_shown told) journals.old.items journals.new.items
         × AppendsRun (setting_of conf) (W.shown wire.old).told (W.shown wire.new).told (JournalTold (code_of_status result) (setting_of conf) told) }
     ensures checks { asked.now.task ≡ Task.Check → (wire.new ≡ wire.old) × (journals.new ≡ journals.old) }
-    ensures still { (result ≡ Status.BadFile) ⊎ (result ≡ Status.UnreadFile) → journals.new ≡ journals.old }
+    ensures still { is_before_serving (code_of_status result) ≡ true → journals.new ≡ journals.old }
+    ensures unnamed { (words : List (List ℕ)) → asked_of words ≡ Some asked.now → NamesNone words (F.shown files.old).told → journals.new ≡ journals.old }
     ensures cause { (words : List (List ℕ)) → asked_of words ≡ Some asked.now
         → Cause result (outside_of words (F.shown files.old) (F.shown files.new)
         (W.shown wire.old) (W.shown wire.new) (S.shown out.old) (S.shown out.new)) }
@@ -232,10 +234,10 @@ fn run<R: Threads + Sync + Wait, F: Files, W: Wire, S: Sink>(
         × AppendsRun (setting_of conf) (W.shown wire.old).told (W.shown wire.new).told (JournalTold (code_of_status result) (setting_of conf) told) }
     ensures checks { (asked : ServerWordsSeen) → asked_of (map string_bytes words.now) ≡ Some asked → asked.task ≡ Task.Check
         → (wire.new ≡ wire.old) × (journals.new ≡ journals.old) }
-    ensures refused { asked_of (map string_bytes words.now) ≡ None → journals.new ≡ journals.old }
     ensures drill { (asked : DrillWords) → drill_of (map string_bytes words.now) ≡ Some asked
         → (wire.new ≡ wire.old) × (files.new ≡ files.old) × DrillEnds (code_of_status result) asked.plan (S.shown out.old) (S.shown out.new) }
-    ensures still { (result ≡ Status.BadFile) ⊎ (result ≡ Status.UnreadFile) → journals.new ≡ journals.old }
+    ensures still { is_before_serving (code_of_status result) ≡ true → journals.new ≡ journals.old }
+    ensures unnamed { NamesNone (map string_bytes words.now) (F.shown files.old).told → journals.new ≡ journals.old }
     ensures cause { Cause result (outside_of (map string_bytes words.now) (F.shown files.old) (F.shown files.new)
         (W.shown wire.old) (W.shown wire.new) (S.shown out.old) (S.shown out.new)) }
 {
@@ -287,14 +289,15 @@ pub fn aprsc<R: Threads + Sync + Wait, F: Files, W: Wire, S: Sink>(
     // Where the words ask for a check, the wire and the journals stay as they were.
     ensures checks { (asked : ServerWordsSeen) → asked_of (map string_bytes words.now) ≡ Some asked → asked.task ≡ Task.Check
         → (wire.new ≡ wire.old) × (journals.new ≡ journals.old) }
-    ensures refused { asked_of (map string_bytes words.now) ≡ None → journals.new ≡ journals.old }
     // Where they ask for a drill, the wire, the files and the journals stay so too, and the drill ends with its summary on
     // the sink, for want of memory, or where the sink failed.
     ensures drill { (asked : DrillWords) → drill_of (map string_bytes words.now) ≡ Some asked
         → (wire.new ≡ wire.old) × (files.new ≡ files.old) × (journals.new ≡ journals.old)
         × DrillEnds result asked.plan (S.shown out.old) (S.shown out.new) }
-    // And so the journals do where the file is off, or can't be read.
-    ensures still { (result ≡ 2) ⊎ (result ≡ 3) → journals.new ≡ journals.old }
+    // And so the journals do whenever they ask for no run or the file holds no configuration, and whenever the call ended
+    // before it served.
+    ensures unnamed { NamesNone (map string_bytes words.now) (F.shown files.old).told → journals.new ≡ journals.old }
+    ensures still { is_before_serving result ≡ true → journals.new ≡ journals.old }
     // Each status has its cause, and its text stands on the sink.
     ensures cause { HasCause result (outside_of (map string_bytes words.now) (F.shown files.old) (F.shown files.new)
         (W.shown wire.old) (W.shown wire.new) (S.shown out.old) (S.shown out.new)) }

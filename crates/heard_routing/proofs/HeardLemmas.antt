@@ -1,7 +1,7 @@
 -- A table of heard stations keeps when links last heard calls.
-use Rattle.std.proofs.Common.{◌≡◌, ℕ, ◌-◌, ◌<◌, ◌≤◌, Bool, true, false, cond, filter, map, not, ◌&&◌, ◌==◌, List, [], ◌∷◌, ◌++◌, Option, Some, None, Result, Ok, Err, OnOk, refl, sym, ap, ◌∙◌, subst, arith, true≢false, is_some}
+use Rattle.std.proofs.Common.{◌≡◌, ℕ, ◌-◌, ◌<◌, ◌≤◌, Bool, true, false, cond, filter, not, ◌&&◌, ◌==◌, List, [], ◌∷◌, ◌++◌, Option, Some, None, Result, Ok, Err, OnOk, refl, sym, ap, ◌∙◌, subst, arith, true≢false, is_some}
 use Rattle.std.specs.List.{All, AllByRecursion}
-use Rattle.std.specs.Map.{lookup}
+use Rattle.std.specs.Map.{keys_of}
 use Rattle.std.specs.declared.random_state.RandomState.{RandomState}
 use Rattle.std.proofs.lemmas.Bool.{eqb-true, leb-true, leb-false}
 use Rattle.std.proofs.lemmas.List.Elements.{recursion_from_All}
@@ -9,12 +9,18 @@ use Rattle.aprs_base.specs.PacketSeen.{PacketSeen}
 use Rattle.filter_eval.specs.Passes.{is_some_and, is_text}
 use Rattle.station_table.specs.Last.{later_or}
 use Rattle.station_table.proofs.LastSeen.{told_more}
-use Rattle.heard_routing.specs.Entries.{Entry, HasEachOnce, is_key}
-use Rattle.heard_routing.specs.Heard.{HeardSeen, IsRisingListOf, courtesies, heard_age, heard_at, is_receiver, is_recent, is_recent_entry, is_recent_of, link_of, nothing, noted, promise_age, receivers, recent, without_link}
-use Rattle.heard_routing.specs.Rising.{rising}
+use Rattle.heard_routing.specs.Entries.{Entry, Group, HasEachOnce, links_of, moment_at}
+use Rattle.heard_routing.specs.Heard.{HeardSeen, IsRisingListOf, courtesies, heard_age, heard_at, is_receiver, is_recent, is_recent_entry, links_with, nothing, noted, promise_age, receivers, recent, recent_groups, without_link}
 use Rattle.heard_routing.specs.LastHeard.{Agrees, AgreesAt, IsFromElsewhere, IsHeard, but_not, heard_by, is_from, is_hearer, last_heard, still}
-use Rattle.heard_routing.proofs.EntryLemmas.{and_first, and_second}
-use Rattle.heard_routing.proofs.LookLemmas.{heard_noted, heard_recent, heard_without_link}
+use Rattle.heard_routing.proofs.LookLemmas.{heard_noted, heard_recent, heard_without_link, links_recent}
+
+pub and_first : (a b : Bool) → a && b ≡ true → a ≡ true
+and_first true b is = refl
+and_first false b is = is
+
+pub and_second : (a b : Bool) → a && b ≡ true → b ≡ true
+and_second true b is = is
+and_second false b is = absurd (true≢false (sym is))
 
 -- ---- one more packet
 
@@ -23,21 +29,21 @@ later_cond true moment earlier = refl
 later_cond false moment earlier = refl
 
 -- what is noted is what the packet tells
-told_by : (packet : PacketSeen) (link : ℕ) (call : List ℕ) (moment : ℕ) → IsHeard packet link call moment → (other : ℕ) (text : List ℕ)
-    → heard_by other text packet ≡ cond (is_key (other, text) (link, call)) (Some moment) None
+pub told_by : (packet : PacketSeen) (link : ℕ) (call : List ℕ) (moment : ℕ) → IsHeard packet link call moment → (other : ℕ) (text : List ℕ)
+    → heard_by other text packet ≡ cond (other == link && is_text text call) (Some moment) None
 told_by packet link call moment heard other text =
     ap (λ from. cond (is_from other from && is_text text packet.parts.source) (Some packet.moment) None) heard.from_link
     ∙ ap (λ source. cond (other == link && is_text text source) (Some packet.moment) None) heard.of_call
     ∙ ap (λ at. cond (other == link && is_text text call) (Some at) None) heard.at_moment
 
-noted_later : (packet : PacketSeen) (table : HeardSeen) (link : ℕ) (call : List ℕ) (moment : ℕ) → IsHeard packet link call moment → (other : ℕ) (text : List ℕ)
+pub noted_later : (packet : PacketSeen) (table : HeardSeen) (link : ℕ) (call : List ℕ) (moment : ℕ) → IsHeard packet link call moment → (other : ℕ) (text : List ℕ)
     → heard_at (noted link call moment table) other text ≡ later_or (heard_at table other text) (heard_by other text packet)
 noted_later packet table link call moment heard other text =
     heard_noted table link other call text moment
-    ∙ later_cond (is_key (other, text) (link, call)) moment (heard_at table other text)
+    ∙ later_cond (other == link && is_text text call) moment (heard_at table other text)
     ∙ ap (later_or (heard_at table other text)) (sym (told_by packet link call moment heard other text))
 
-last_more : (packets : List PacketSeen) (packet : PacketSeen) (link : ℕ) (call : List ℕ) → last_heard (packets ++ packet ∷ []) link call ≡ later_or (last_heard packets link call) (heard_by link call packet)
+pub last_more : (packets : List PacketSeen) (packet : PacketSeen) (link : ℕ) (call : List ℕ) → last_heard (packets ++ packet ∷ []) link call ≡ later_or (last_heard packets link call) (heard_by link call packet)
 last_more packets packet link call = told_more (heard_by link call) packets packet
 
 still_later : (age now : ℕ) (a b o : Option ℕ) → still age now a ≡ still age now b → still age now (later_or a o) ≡ still age now (later_or b o)
@@ -52,7 +58,7 @@ apart lives link other here there = by (other == link) refl
     by true is = absurd (true≢false (sym here ∙ ap lives (sym (eqb-true other link is)) ∙ there))
     by false is = refl
 
-noted_others : (lives : ℕ → Bool) (table : HeardSeen) (link : ℕ) (call : List ℕ) (moment : ℕ) → lives link ≡ true → (other : ℕ) → lives other ≡ false → (text : List ℕ)
+pub noted_others : (lives : ℕ → Bool) (table : HeardSeen) (link : ℕ) (call : List ℕ) (moment : ℕ) → lives link ≡ true → (other : ℕ) → lives other ≡ false → (text : List ℕ)
     → heard_at table other text ≡ None → heard_at (noted link call moment table) other text ≡ None
 noted_others lives table link call moment here other there text none =
     heard_noted table link other call text moment ∙ ap (λ b. cond (b && is_text text call) (Some moment) (heard_at table other text)) (apart lives link other here there) ∙ none
@@ -98,7 +104,7 @@ note_goes_on_at (Ok x) now lives old new packets packet link call moment is hear
 note_goes_on_at (Err e) now lives old new packets packet link call moment is heard living agrees = tt
 
 -- a packet of no living link, of which nothing is noted
-not_told : (packets : List PacketSeen) (packet : PacketSeen) (link : ℕ) (call : List ℕ) → is_from link packet.from ≡ false → last_heard (packets ++ packet ∷ []) link call ≡ last_heard packets link call
+pub not_told : (packets : List PacketSeen) (packet : PacketSeen) (link : ℕ) (call : List ℕ) → is_from link packet.from ≡ false → last_heard (packets ++ packet ∷ []) link call ≡ last_heard packets link call
 not_told packets packet link call is =
     last_more packets packet link call ∙ ap (λ b. later_or (last_heard packets link call) (cond (b && is_text call packet.parts.source) (Some packet.moment) None)) is
 
@@ -152,10 +158,10 @@ opened_agrees_at now lives more table packets fresh fewer agrees = record {
     by link here call true is = agrees.heard link is call
     by link here call false is = ap (still heard_age now) (agrees.others link is call ∙ sym (fresh link here is call))
 
-kept_of : (table : HeardSeen) (gone link : ℕ) (call : List ℕ) → not (gone == link) ≡ true → heard_at (without_link gone table) link call ≡ heard_at table link call
+pub kept_of : (table : HeardSeen) (gone link : ℕ) (call : List ℕ) → not (gone == link) ≡ true → heard_at (without_link gone table) link call ≡ heard_at table link call
 kept_of table gone link call is = heard_without_link table gone link call ∙ ap (λ b. cond b (heard_at table link call) None) is
 
-none_of : (lives : ℕ → Bool) (table : HeardSeen) (gone link : ℕ) (call : List ℕ) → but_not gone lives link ≡ false → (lives link ≡ false → heard_at table link call ≡ None)
+pub none_of : (lives : ℕ → Bool) (table : HeardSeen) (gone link : ℕ) (call : List ℕ) → but_not gone lives link ≡ false → (lives link ≡ false → heard_at table link call ≡ None)
     → heard_at (without_link gone table) link call ≡ None
 none_of lives table gone link call there none = heard_without_link table gone link call ∙ by (not (gone == link)) there
   where
@@ -181,15 +187,15 @@ forget_agrees_at now lives table packets gone agrees = record {
 -- promises aside, as they come and go
 pub same_heard_agrees : (lives : ℕ → Bool) (table other : HeardSeen) (packets : List PacketSeen) → other.heard ≡ table.heard → Agrees lives table packets → Agrees lives other packets
 same_heard_agrees lives table other packets same agrees = record {
-  heard = λ link here call. ap (λ entries. lookup (is_key (link, call)) entries) same ∙ agrees.heard link here call;
-  others = λ link there call. ap (λ entries. lookup (is_key (link, call)) entries) same ∙ agrees.others link there call;
+  heard = λ link here call. ap (λ groups. moment_at groups link call) same ∙ agrees.heard link here call;
+  others = λ link there call. ap (λ groups. moment_at groups link call) same ∙ agrees.others link there call;
 }
 
 pub same_heard_agrees_at : (now : ℕ) (lives : ℕ → Bool) (table other : HeardSeen) (packets : List PacketSeen) → other.heard ≡ table.heard → AgreesAt now lives table packets
     → AgreesAt now lives other packets
 same_heard_agrees_at now lives table other packets same agrees = record {
-  heard = λ link here call. ap (λ entries. still heard_age now (lookup (is_key (link, call)) entries)) same ∙ agrees.heard link here call;
-  others = λ link there call. ap (λ entries. lookup (is_key (link, call)) entries) same ∙ agrees.others link there call;
+  heard = λ link here call. ap (λ groups. still heard_age now (moment_at groups link call)) same ∙ agrees.heard link here call;
+  others = λ link there call. ap (λ groups. moment_at groups link call) same ∙ agrees.others link there call;
 }
 
 -- ---- as time goes by
@@ -202,7 +208,7 @@ recent_before age before now moment h late = by (is_recent age before moment) re
     by true is = refl
     by false is = let a : now - moment ≤ age = leb-true (now - moment) age late in let b : age < before - moment = leb-false (before - moment) age is in absurd (omega arith)
 
-still_again : (age before now : ℕ) (o : Option ℕ) → before ≤ now → still age now (still age before o) ≡ still age now o
+pub still_again : (age before now : ℕ) (o : Option ℕ) → before ≤ now → still age now (still age before o) ≡ still age now o
 still_again age before now None h = refl
 still_again age before now (Some moment) h = by (is_recent age before moment) (is_recent age now moment) refl refl
   where
@@ -221,27 +227,26 @@ agrees_later before now lives table packets h agrees = record {
 }
 
 -- what is removed could not be given any more
-still_given : (age now later : ℕ) (call : List ℕ) (entries : List Entry) → now ≤ later
-    → filter (is_recent_of age call later) (filter (is_recent_entry age now) entries) ≡ filter (is_recent_of age call later) entries
-still_given age now later call [] h = refl
-still_given age now later call (e ∷ entries) h = by (still_given age now later call entries h) (is_recent_entry age now e) (is_recent_of age call later e) refl refl
+still_given : (age now later : ℕ) (links : List Entry) → now ≤ later
+    → filter (is_recent_entry age later) (filter (is_recent_entry age now) links) ≡ filter (is_recent_entry age later) links
+still_given age now later [] h = refl
+still_given age now later (e ∷ links) h = by (still_given age now later links h) (is_recent_entry age now e) (is_recent_entry age later e) refl refl
   where
-    by : filter (is_recent_of age call later) (filter (is_recent_entry age now) entries) ≡ filter (is_recent_of age call later) entries
-        → (b c : Bool) → is_recent_entry age now e ≡ b → is_recent_of age call later e ≡ c
-        → filter (is_recent_of age call later) (cond b (e ∷ filter (is_recent_entry age now) entries) (filter (is_recent_entry age now) entries))
-        ≡ cond (is_recent_of age call later e) (e ∷ filter (is_recent_of age call later) entries) (filter (is_recent_of age call later) entries)
-    by rest true c now_is is = ap (λ l. cond (is_recent_of age call later e) (e ∷ l) l) rest
-    by rest false true now_is is =
-        let recent' = and_second (is_text call e.0.1) (is_recent age later e.1) is in
-        absurd (true≢false (sym (recent_before age now later e.1 h recent') ∙ now_is))
-    by rest false false now_is is = rest ∙ ap (λ b. cond b (e ∷ filter (is_recent_of age call later) entries) (filter (is_recent_of age call later) entries)) (sym is)
+    by : filter (is_recent_entry age later) (filter (is_recent_entry age now) links) ≡ filter (is_recent_entry age later) links
+        → (b c : Bool) → is_recent_entry age now e ≡ b → is_recent_entry age later e ≡ c
+        → filter (is_recent_entry age later) (cond b (e ∷ filter (is_recent_entry age now) links) (filter (is_recent_entry age now) links))
+        ≡ cond (is_recent_entry age later e) (e ∷ filter (is_recent_entry age later) links) (filter (is_recent_entry age later) links)
+    by rest true c now_is is = ap (λ l. cond (is_recent_entry age later e) (e ∷ l) l) rest
+    by rest false true now_is is = absurd (true≢false (sym (recent_before age now later e.1 h is) ∙ now_is))
+    by rest false false now_is is = rest ∙ ap (λ b. cond b (e ∷ filter (is_recent_entry age later) links) (filter (is_recent_entry age later) links)) (sym is)
 
-pub given_later : (now later : ℕ) (table : HeardSeen) (call : List ℕ) → now ≤ later
+given_with : (age now later : ℕ) (groups : List Group) (call : List ℕ) → HasEachOnce groups → now ≤ later → links_with age call later (recent_groups age now groups) ≡ links_with age call later groups
+given_with age now later groups call once h =
+    ap (λ links. keys_of (filter (is_recent_entry age later) links)) (links_recent age now call groups once) ∙ ap (λ links. keys_of links) (still_given age now later (links_of call groups) h)
+
+pub given_later : (now later : ℕ) (table : HeardSeen) (call : List ℕ) → HasEachOnce table.heard → HasEachOnce table.promises → now ≤ later
     → (receivers (recent now table) call later ≡ receivers table call later) × (courtesies (recent now table) call later ≡ courtesies table call later)
-given_later now later table call h = (
-  ap (λ entries. rising (map link_of entries)) (still_given heard_age now later call table.heard h),
-  ap (λ entries. rising (map link_of entries)) (still_given promise_age now later call table.promises h),
-)
+given_later now later table call heard_once promised_once h = (given_with heard_age now later table.heard call heard_once h, given_with promise_age now later table.promises call promised_once h)
 
 pub recent_agrees_at : (before now : ℕ) (lives : ℕ → Bool) (table : HeardSeen) (packets : List PacketSeen) → HasEachOnce table.heard → before ≤ now → AgreesAt before lives table packets
     → AgreesAt now lives (recent now table) packets

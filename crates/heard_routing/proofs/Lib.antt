@@ -1,4 +1,7 @@
 pub mod EntryLemmas
+pub mod ExactLemmas
 pub mod HeardLemmas
+pub mod LinkLemmas
+pub mod ListedLemmas
 pub mod LookLemmas
-pub mod RisingLemmas
+pub mod TableLemmas

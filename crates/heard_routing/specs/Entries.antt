@@ -1,20 +1,57 @@
--- Lists of links and calls with what is known of each.
-use Rattle.std.specs.Prelude.{ℕ, Bool, ◌==◌, ◌&&◌, List}
-use Rattle.std.specs.List.{IsDistinct}
-use Rattle.std.specs.Map.{keys_of}
+-- Calls with the links that have them, and a moment of each.
+use Rattle.std.specs.Prelude.{ℕ, ◌<◌, ◌++◌, Bool, not, nat_eq, nat_lt, List, [], ◌∷◌, filter, Option, unwrap_or}
+use Rattle.std.specs.Bool.{⊤}
+use Rattle.std.specs.List.{AllByRecursion, IsDistinct}
+use Rattle.std.specs.Map.{keys_of, lookup}
+use Rattle.indexmap.specs.IndexMap.{insert_entry}
 use Rattle.filter_eval.specs.Passes.{is_text}
 
--- a link and a call, with a moment
+-- a link and a moment
 abbrev pub Entry : Type 0
-Entry = (ℕ × List ℕ) × ℕ
+Entry = ℕ × ℕ
 
--- the same link and the same call
-abbrev pub is_key : ℕ × List ℕ → ℕ × List ℕ → Bool
-is_key a b = a.0 == b.0 && is_text a.1 b.1
+-- a call, and the links that have it
+abbrev pub Group : Type 0
+Group = List ℕ × List Entry
 
-abbrev pub is_entry_of : ℕ × List ℕ → Entry → Bool
-is_entry_of key entry = is_key key entry.0
+-- each link is lower than those after it
+abbrev pub Rises : List Entry → Type 0
+Rises [] = ⊤
+Rises (entry ∷ links) = AllByRecursion (λ other. entry.0 < other.0) links × Rises links
 
--- no link stands twice with the same call
-abbrev pub HasEachOnce : List Entry → Type 0
-HasEachOnce entries = IsDistinct is_key (keys_of entries)
+-- no call stands twice, and with each call the links rise
+pub record HasEachOnce (groups : List Group) : Type 0 where
+  pub calls : IsDistinct is_text (keys_of groups)
+  pub links : AllByRecursion (λ group. Rises group.1) groups
+
+-- ---- what stands there
+
+-- the links that have the call
+abbrev pub links_of : List ℕ → List Group → List Entry
+links_of call groups = unwrap_or (lookup (is_text call) groups) []
+
+-- the moment at which the link has the call
+abbrev pub moment_at : List Group → ℕ → List ℕ → Option ℕ
+moment_at groups link call = lookup (nat_eq link) (links_of call groups)
+
+-- ---- what changes
+
+abbrev pub is_below : ℕ → Entry → Bool
+is_below link entry = nat_lt entry.0 link
+
+abbrev pub is_above : ℕ → Entry → Bool
+is_above link entry = nat_lt link entry.0
+
+-- the lower links, the link with its new moment, and the higher links
+abbrev pub with_link : ℕ → ℕ → List Entry → List Entry
+with_link link moment links = filter (is_below link) links ++ (link, moment) ∷ filter (is_above link) links
+
+-- the link has the call at this moment. A call that is new goes last.
+abbrev pub with_moment : ℕ → List ℕ → ℕ → List Group → List Group
+with_moment link call moment groups = insert_entry is_text groups call (with_link link moment (links_of call groups))
+
+abbrev pub is_of : ℕ → Entry → Bool
+is_of link entry = nat_eq link entry.0
+
+abbrev pub is_another : ℕ → Entry → Bool
+is_another link entry = not (is_of link entry)

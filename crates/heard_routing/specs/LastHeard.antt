@@ -46,6 +46,11 @@ pub record Agrees (lives : ℕ → Bool) (table : HeardSeen) (packets : List Pac
   pub heard : (link : ℕ) → lives link ≡ true → (call : List ℕ) → heard_at table link call ≡ last_heard packets link call
   pub others : (link : ℕ) → lives link ≡ false → (call : List ℕ) → heard_at table link call ≡ None
 
+-- the same, where nothing older than three hours is left
+pub record HasExactly (now : ℕ) (lives : ℕ → Bool) (table : HeardSeen) (packets : List PacketSeen) : Type 0 where
+  pub heard : (link : ℕ) → lives link ≡ true → (call : List ℕ) → heard_at table link call ≡ still heard_age now (last_heard packets link call)
+  pub others : (link : ℕ) → lives link ≡ false → (call : List ℕ) → heard_at table link call ≡ None
+
 -- the living links without one
 abbrev pub but_not : ℕ → (ℕ → Bool) → ℕ → Bool
 but_not gone lives link = not (gone == link) && lives link

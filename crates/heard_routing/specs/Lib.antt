@@ -1,4 +1,4 @@
 pub mod Entries
 pub mod Heard
 pub mod LastHeard
-pub mod Rising
+pub mod Listed

@@ -1,11 +1,10 @@
 //! The table of heard stations and of promises.
 ghost use Rattle.std.specs.Prelude.{◌≡◌, ℕ, ◌≤◌, Bool, true, ◌++◌, ◌∷◌, [], List, OnOk, OnErr, IfOk};
 ghost use Rattle.aprs_base.specs.PacketSeen.{PacketSeen};
-ghost use Rattle.heard_routing.specs.LastHeard.{Agrees, AgreesAt, IsHeard, but_not, is_hearer};
+ghost use Rattle.heard_routing.specs.LastHeard.{Agrees, AgreesAt, HasExactly, IsHeard, but_not, is_hearer};
 ghost use Rattle.heard_routing.specs.Heard.{IsRisingListOf, courtesies, is_promised, is_receiver, nothing, noted, promised, receivers, recent, without_link, without_promises};
 
-use crate::entries::{Entry, keep_recent, remove_call, remove_link, set};
-use crate::links::append_links;
+use crate::groups::Groups;
 use aprs_base::{Call, Memory};
 use std::alloc::Global;
 use std::hash::RandomState;
@@ -20,20 +19,17 @@ const PROMISE_AGE: u64 = 1_800;
 /// When each link last heard each station, and when each link was last promised the next position of each sender.
 #[derive(Drop)]
 pub struct Heard {
-    heard: Vec<Entry>,
-    promises: Vec<Entry>,
+    heard: Groups,
+    promises: Groups,
     hasher: RandomState,
 }
 
 impl Model for Heard {
-    ghost use Rattle.heard_routing.specs.Entries.{HasEachOnce};
     ghost use Rattle.heard_routing.specs.Heard.{HeardSeen};
 
     ghost Value = { HeardSeen };
 
-    ghost view = { λ h. record { heard = h.heard.items; promises = h.promises.items; hasher = h.hasher } };
-
-    ghost invariant = { λ h. HasEachOnce h.heard.items × HasEachOnce h.promises.items };
+    ghost view = { λ h. record { heard = h.heard; promises = h.promises; hasher = h.hasher } };
 }
 
 impl Heard {
@@ -41,29 +37,31 @@ impl Heard {
     pub fn new(alloc: Global, hasher: &RandomState) -> Result<Heard, Memory>
         ensures empty { IfOk result (λ table. table ≡ nothing hasher.now) }
         ensures last { (lives : ℕ → Bool) → IfOk result (λ table. Agrees lives table []) }
+        ensures exactly { (now : ℕ) (lives : ℕ → Bool) → IfOk result (λ table. HasExactly now lives table []) }
     {
         Ok(Heard {
-            heard: Vec::new(alloc),
-            promises: Vec::new(alloc),
+            heard: Groups::new(alloc, hasher),
+            promises: Groups::new(alloc, hasher),
             hasher: *hasher,
         })
     }
 
     /// Notes that the link heard the call at `now`, in seconds, in place of when it heard it before.
-    pub fn note(&mut self, _alloc: Global, link: u32, call: &Call, now: u64) -> Result<(), Memory>
+    pub fn note(&mut self, alloc: Global, link: u32, call: &Call, now: u64) -> Result<(), Memory>
         ensures ok { OnOk result (self.new ≡ noted link call.now now self.old) }
         // After a packet of a living link the table goes on to have when living links last heard each call.
         ensures last { (lives : ℕ → Bool) (packets : List PacketSeen) (packet : PacketSeen) → IsHeard packet link call.now now → lives link ≡ true → Agrees lives self.old packets → OnOk result (Agrees lives self.new (packets ++ packet ∷ [])) }
         ensures last_at { (moment : ℕ) (lives : ℕ → Bool) (packets : List PacketSeen) (packet : PacketSeen) → IsHeard packet link call.now now → lives link ≡ true → AgreesAt moment lives self.old packets → OnOk result (AgreesAt moment lives self.new (packets ++ packet ∷ [])) }
+        ensures exactly { (lives : ℕ → Bool) (packets : List PacketSeen) (packet : PacketSeen) → IsHeard packet link call.now now → lives link ≡ true → HasExactly now lives self.old packets → OnOk result (HasExactly now lives self.new (packets ++ packet ∷ [])) }
         ensures err { OnErr result (self.new ≡ self.old) }
     {
-        set(&mut self.heard, link, call, now)
+        self.heard.set(alloc, &self.hasher, link, call, now)
     }
 
     /// Promises the link the sender's next position, at `now`, in seconds, in place of an earlier promise.
     pub fn promise(
         &mut self,
-        _alloc: Global,
+        alloc: Global,
         link: u32,
         sender: &Call,
         now: u64,
@@ -71,7 +69,7 @@ impl Heard {
         ensures ok { OnOk result (self.new ≡ promised link sender.now now self.old) }
         ensures err { OnErr result (self.new ≡ self.old) }
     {
-        set(&mut self.promises, link, sender, now)
+        self.promises.set(alloc, &self.hasher, link, sender, now)
     }
 
     /// Appends to `out` the links that heard the call at most three hours before `now`, rising; `now` is in seconds.
@@ -88,7 +86,7 @@ impl Heard {
         ensures last { (lives : ℕ → Bool) (packets : List PacketSeen) → AgreesAt now lives self.now packets → IsRisingListOf (receivers self.now to.now now) (is_hearer lives packets to.now now) }
         ensures err { OnErr result (out.new.items ≡ out.old.items) }
     {
-        append_links(alloc, self.heard.as_slice(), to, now, HEARD_AGE, out)
+        self.heard.append_recent(alloc, to, now, HEARD_AGE, out)
     }
 
     /// Appends to `out` the links that were promised the sender's next position at most half an hour before `now`, rising,
@@ -105,15 +103,9 @@ impl Heard {
         ensures spent { OnOk result (self.new ≡ without_promises sender.now self.old) }
         ensures err { OnErr result ((out.new.items ≡ out.old.items) × (self.new ≡ self.old)) }
     {
-        append_links(
-            alloc,
-            self.promises.as_slice(),
-            sender,
-            now,
-            PROMISE_AGE,
-            out,
-        )?;
-        remove_call(&mut self.promises, sender);
+        self.promises
+            .append_recent(alloc, sender, now, PROMISE_AGE, out)?;
+        self.promises.clear(sender);
         Ok(())
     }
 
@@ -122,9 +114,10 @@ impl Heard {
         ensures removed { self.new ≡ without_link link self.old }
         ensures last { (lives : ℕ → Bool) (packets : List PacketSeen) → Agrees lives self.old packets → Agrees (but_not link lives) self.new packets }
         ensures last_at { (moment : ℕ) (lives : ℕ → Bool) (packets : List PacketSeen) → AgreesAt moment lives self.old packets → AgreesAt moment (but_not link lives) self.new packets }
+        ensures exactly { (moment : ℕ) (lives : ℕ → Bool) (packets : List PacketSeen) → HasExactly moment lives self.old packets → HasExactly moment (but_not link lives) self.new packets }
     {
-        remove_link(&mut self.heard, link);
-        remove_link(&mut self.promises, link);
+        self.heard.forget(link);
+        self.promises.forget(link);
     }
 
     /// Removes what is too old at `now`, in seconds, to be given any more: what was heard more than three hours before, and
@@ -134,8 +127,9 @@ impl Heard {
         // From now on the same links are given as without it.
         ensures given { (call : List ℕ) (later : ℕ) → now ≤ later → (receivers self.new call later ≡ receivers self.old call later) × (courtesies self.new call later ≡ courtesies self.old call later) }
         ensures last_at { (before : ℕ) (lives : ℕ → Bool) (packets : List PacketSeen) → before ≤ now → AgreesAt before lives self.old packets → AgreesAt now lives self.new packets }
+        ensures exactly { (before : ℕ) (lives : ℕ → Bool) (packets : List PacketSeen) → before ≤ now → HasExactly before lives self.old packets → HasExactly now lives self.new packets }
     {
-        keep_recent(&mut self.heard, now, HEARD_AGE);
-        keep_recent(&mut self.promises, now, PROMISE_AGE);
+        self.heard.expire(now, HEARD_AGE);
+        self.promises.expire(now, PROMISE_AGE);
     }
 }

@@ -1,9 +1,10 @@
 //! Which stations each link heard, and to which links a message's sender owes its next position.
 #![tactic(auto)]
 
-mod entries;
+mod groups;
 mod heard;
 mod links;
+mod listed;
 #[cfg(test)]
 mod tests;
 

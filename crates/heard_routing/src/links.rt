@@ -1,51 +1,163 @@
-//! The links that have a call, in rising order.
-ghost use Rattle.std.specs.Prelude.{◌≡◌, ◌++◌, map, filter, IfOk, OnOk, OnErr};
-ghost use Rattle.heard_routing.specs.Entries.{HasEachOnce};
-ghost use Rattle.heard_routing.specs.Heard.{IsRisingListOf, has_recent, is_recent_of, link_of, links_with};
+//! The links that have a call, in rising order, with a moment of each.
+ghost use Rattle.std.specs.Prelude.{◌≡◌, ◌≤◌, ◌<◌, ◌++◌, ◌∷◌, [], is_some, length, filter, nat_eq, nat_lt, slice_get, IfOk, OnOk, OnErr};
+ghost use Rattle.std.specs.Map.{keys_of, lookup};
+ghost use Rattle.filter_eval.specs.Passes.{is_some_and};
+ghost use Rattle.heard_routing.specs.Entries.{Rises, is_another, is_below, is_of, with_link};
+ghost use Rattle.heard_routing.specs.Heard.{is_recent, is_recent_entry};
 
-use crate::entries::{Entry, is_recent};
-use aprs_base::{Call, Memory};
+use aprs_base::Memory;
 use std::alloc::Global;
+use std::marker::Model;
 
-/// Whether the entry is the call's and at most `age` old at `now`; both in seconds.
-fn is_recent_of(entry: &Entry, call: &Call, now: u64, age: u64) -> bool
-    ensures { result ≡ is_recent_of age call.now now entry.now }
+/// A link and a moment, in seconds.
+type Entry = (u32, u64);
+
+/// How many of the links are lower, which is where the link belongs.
+fn place_of(entries: &[Entry], link: u32) -> usize
+    ensures place { Rises entries.now → result ≡ length (filter (is_below link) entries.now) }
+    ensures within { result ≤ length entries.now }
 {
-    *call == entry.0.1 && is_recent(entry.1, now, age)
+    entries.partition_point(|entry| entry.0 < link)
 }
 
-fn collect_links(
-    alloc: Global,
-    entries: &[Entry],
-    call: &Call,
-    now: u64,
-    age: u64,
-) -> Result<Vec<u32>, Memory>
-    ensures { IfOk result (λ links. links.items ≡ map link_of (filter (is_recent_of age call.now now) entries.now)) }
+fn is_at(entries: &[Entry], place: usize, link: u32) -> bool
+    ensures { result ≡ is_some_and (is_of link) (slice_get entries.now place) }
+{
+    match entries.get(place) {
+        Some(entry) => link == entry.0,
+        None => false,
+    }
+}
+
+/// Whether the link is among them.
+fn has(entries: &[Entry], link: u32) -> bool
+    ensures { Rises entries.now → result ≡ is_some (lookup (nat_eq link) entries.now) }
+{
+    is_at(entries, place_of(entries, link), link)
+}
+
+/// Sets the moment of the link. A link that is new goes between those that are lower and those that are higher.
+fn set(entries: &mut Vec<Entry>, link: u32, moment: u64) -> Result<(), Memory>
+    ensures ok { Rises entries.old.items → OnOk result (entries.new.items ≡ with_link link moment entries.old.items) }
+    ensures err { OnErr result (entries.new.items ≡ entries.old.items) }
+{
+    let place = place_of(entries.as_slice(), link);
+    if is_at(entries.as_slice(), place, link) {
+        entries[place] = (link, moment);
+    } else {
+        entries.insert(place, (link, moment))?;
+    }
+    Ok(())
+}
+
+/// Whether the moment is at most `age` before `now`; all in seconds.
+fn is_recent(moment: u64, now: u64, age: u64) -> bool
+    ensures { result ≡ is_recent age now moment }
+{
+    now.saturating_sub(moment) <= age
+}
+
+fn recent_links(alloc: Global, entries: &[Entry], now: u64, age: u64) -> Result<Vec<u32>, Memory>
+    ensures { IfOk result (λ links. links.items ≡ keys_of (filter (is_recent_entry age now) entries.now)) }
 {
     let links = entries
         .iter()
-        .filter(|entry| is_recent_of(entry, call, now, age))
-        .map(|entry| entry.0.0)
+        .filter(|entry| is_recent(entry.1, now, age))
+        .map(|entry| entry.0)
         .collect(alloc)?;
     Ok(links)
 }
 
-/// Appends the links that have the call at most `age` before `now`, rising; both in seconds.
-pub fn append_links(
-    alloc: Global,
-    entries: &[Entry],
-    call: &Call,
-    now: u64,
-    age: u64,
-    out: &mut Vec<u32>,
-) -> Result<(), Memory>
-    ensures ok { OnOk result (out.new.items ≡ out.old.items ++ links_with age call.now now entries.now) }
-    ensures links { HasEachOnce entries.now → IsRisingListOf (links_with age call.now now entries.now) (has_recent age now entries.now call.now) }
-    ensures err { OnErr result (out.new.items ≡ out.old.items) }
+fn keep_recent(entries: &mut Vec<Entry>, now: u64, age: u64)
+    ensures { entries.new.items ≡ filter (is_recent_entry age now) entries.old.items }
 {
-    let mut links = collect_links(alloc, entries, call, now, age)?;
-    links.sort_unstable();
-    out.append(&mut links)?;
-    Ok(())
+    entries.retain(|entry| is_recent(entry.1, now, age));
+}
+
+fn remove(entries: &mut Vec<Entry>, link: u32)
+    ensures { entries.new.items ≡ filter (is_another link) entries.old.items }
+{
+    entries.retain(|entry| link != entry.0);
+}
+
+/// The links that have a call, rising, with a moment of each.
+#[derive(Drop)]
+pub struct Links {
+    entries: Vec<Entry>,
+}
+
+impl Model for Links {
+    ghost use Rattle.std.specs.Prelude.{List};
+    ghost use Rattle.heard_routing.specs.Entries.{Entry, Rises};
+
+    ghost Value = { List Entry };
+
+    ghost view = { λ links. links.entries.items };
+
+    ghost invariant = { λ links. Rises links.entries.items };
+}
+
+impl Links {
+    /// One link.
+    pub fn one(alloc: Global, link: u32, moment: u64) -> Result<Links, Memory>
+        ensures { IfOk result (λ links. links ≡ (link, moment) ∷ []) }
+    {
+        let mut entries = Vec::new(alloc);
+        entries.push((link, moment))?;
+        Ok(Links { entries })
+    }
+
+    /// Whether the link is among them.
+    pub fn has(&self, link: u32) -> bool
+        ensures { result ≡ is_some (lookup (nat_eq link) self.now) }
+    {
+        has(self.entries.as_slice(), link)
+    }
+
+    /// Sets the moment of the link, which may be new.
+    pub fn set(&mut self, link: u32, moment: u64) -> Result<(), Memory>
+        ensures ok { OnOk result (self.new ≡ with_link link moment self.old) }
+        ensures err { OnErr result (self.new ≡ self.old) }
+    {
+        set(&mut self.entries, link, moment)
+    }
+
+    /// Removes the link.
+    pub fn remove(&mut self, link: u32)
+        ensures { self.new ≡ filter (is_another link) self.old }
+    {
+        remove(&mut self.entries, link);
+    }
+
+    /// Removes all links.
+    pub fn clear(&mut self)
+        ensures { self.new ≡ [] }
+    {
+        self.entries.clear();
+    }
+
+    /// Keeps what is at most `age` old at `now`; both in seconds. Says whether a link is left.
+    pub fn keep_recent(&mut self, now: u64, age: u64) -> bool
+        ensures kept { self.new ≡ filter (is_recent_entry age now) self.old }
+        ensures left { result ≡ nat_lt 0 (length self.new) }
+    {
+        keep_recent(&mut self.entries, now, age);
+        !self.entries.is_empty()
+    }
+
+    /// Appends to `out` the links whose moments are at most `age` before `now`; both in seconds.
+    pub fn append_recent(
+        &self,
+        alloc: Global,
+        now: u64,
+        age: u64,
+        out: &mut Vec<u32>,
+    ) -> Result<(), Memory>
+        ensures ok { OnOk result (out.new.items ≡ out.old.items ++ keys_of (filter (is_recent_entry age now) self.now)) }
+        ensures err { OnErr result (out.new.items ≡ out.old.items) }
+    {
+        let mut links = recent_links(alloc, self.entries.as_slice(), now, age)?;
+        out.append(&mut links)?;
+        Ok(())
+    }
 }

@@ -172,3 +172,144 @@ fn expires_what_is_too_old(rt: HostRuntime) -> Result<(), Fail> {
     assert!(rt; links.as_slice() == [2].as_slice());
     Ok(())
 }
+
+/// A link, the number of a station, and a moment.
+type Row = (u32, u8, u64);
+
+/// The same table as plain rows, each look-up through all of them.
+#[derive(Drop)]
+struct Plain {
+    heard: Vec<Row>,
+    promises: Vec<Row>,
+}
+
+fn set_row(rows: &mut Vec<Row>, link: u32, station: u8, moment: u64) -> Result<(), Memory> {
+    rows.retain(|row| row.0 != link || row.1 != station);
+    rows.push((link, station, moment))?;
+    Ok(())
+}
+
+fn links_at(
+    rows: &[Row],
+    alloc: Global,
+    station: u8,
+    now: u64,
+    age: u64,
+) -> Result<Vec<u32>, Memory> {
+    let mut links: Vec<u32> = rows
+        .iter()
+        .filter(|row| row.1 == station && now <= row.2.saturating_add(age))
+        .map(|row| row.0)
+        .collect(alloc)?;
+    links.sort_unstable();
+    Ok(links)
+}
+
+impl Plain {
+    fn forget(&mut self, link: u32) {
+        self.heard.retain(|row| row.0 != link);
+        self.promises.retain(|row| row.0 != link);
+    }
+
+    fn expire(&mut self, now: u64) {
+        self.heard.retain(|row| now <= row.2.saturating_add(10_800));
+        self.promises
+            .retain(|row| now <= row.2.saturating_add(1_800));
+    }
+}
+
+/// The next number of a linear congruential generator, below 256.
+fn draw(state: &mut u64) -> u8 {
+    *state = state
+        .wrapping_mul(6_364_136_223_846_793_005)
+        .wrapping_add(1_442_695_040_888_963_407);
+    ((*state >> 40) % 256) as u8
+}
+
+/// Notes or promises, in both tables.
+fn tell(
+    alloc: Global,
+    heard: &mut Heard,
+    plain: &mut Plain,
+    row: (u32, u8),
+    text: &Call,
+    now: u64,
+    is_promise: bool,
+) -> Result<(), Memory> {
+    if is_promise {
+        heard.promise(alloc, row.0, text, now)?;
+        set_row(&mut plain.promises, row.0, row.1, now)
+    } else {
+        heard.note(alloc, row.0, text, now)?;
+        set_row(&mut plain.heard, row.0, row.1, now)
+    }
+}
+
+/// Whether both tables give the same links, and the first spends its promises as the second does.
+fn is_same(
+    alloc: Global,
+    heard: &mut Heard,
+    plain: &mut Plain,
+    station: u8,
+    text: &Call,
+    now: u64,
+    is_courtesy: bool,
+) -> Result<bool, Memory> {
+    if is_courtesy {
+        let links = courtesy(heard, alloc, text, now)?;
+        let want = links_at(plain.promises.as_slice(), alloc, station, now, 1_800)?;
+        plain.promises.retain(|row| row.1 != station);
+        return Ok(links.as_slice() == want.as_slice());
+    }
+    let links = receivers(heard, alloc, text, now)?;
+    let want = links_at(plain.heard.as_slice(), alloc, station, now, 10_800)?;
+    Ok(links.as_slice() == want.as_slice())
+}
+
+/// Makes one call, drawn by the state. Says whether both tables answered the same.
+fn step<R: Abort>(
+    rt: &R,
+    alloc: Global,
+    heard: &mut Heard,
+    plain: &mut Plain,
+    state: &mut u64,
+    now: u64,
+) -> Result<bool, Memory> {
+    let link = u32::from(draw(state) % 12);
+    let station = draw(state) % 10;
+    let text = call(rt, [b'K', b'1', b'A' + station].as_slice());
+    let before = now.saturating_sub(u64::from(draw(state)) * 20);
+    match draw(state) % 16 {
+        0..=4 => tell(alloc, heard, plain, (link, station), &text, now, false)?,
+        5..=8 => tell(alloc, heard, plain, (link, station), &text, now, true)?,
+        9..=11 => return is_same(alloc, heard, plain, station, &text, before, false),
+        12..=13 => return is_same(alloc, heard, plain, station, &text, before, true),
+        14 => {
+            heard.forget(link);
+            plain.forget(link);
+        }
+        _ => {
+            heard.expire(now);
+            plain.expire(now);
+        }
+    }
+    Ok(true)
+}
+
+#[test]
+fn agrees_with_plain_rows(rt: HostRuntime) -> Result<(), Fail> {
+    let hasher = RandomState::new(&rt)?;
+    let mut heard = Heard::new(rt.alloc(), &hasher)?;
+    let mut plain = Plain {
+        heard: Vec::new(rt.alloc()),
+        promises: Vec::new(rt.alloc()),
+    };
+    let mut state = 1;
+    let mut now: u64 = 100_000;
+    for _ in 0..1000 {
+        now = now.saturating_add(u64::from(draw(&mut state)));
+        let same = step(&rt, rt.alloc(), &mut heard, &mut plain, &mut state, now)?;
+        assert!(rt; same);
+    }
+    Ok(())
+}

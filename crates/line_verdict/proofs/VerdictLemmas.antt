@@ -12,7 +12,7 @@ use Rattle.filter_lang.specs.Terms.{TermSeen}
 use Rattle.filter_lang.specs.declared.errors.FilterError.{FilterError}
 use Rattle.filter_lang.specs.declared.errors.FilterError.TheVariants as error
 use Rattle.filter_lang.proofs.ReadBounds.{few_terms}
-use Rattle.line_verdict.specs.Fit.{IsFit, all_few, has_few}
+use Rattle.line_verdict.specs.Fit.{IsFit, IsNew, all_few, has_few}
 use Rattle.line_verdict.specs.Voices.{comment_verdict, filtered, line_verdict, voice_of, voice_verdict}
 use Rattle.line_verdict.specs.declared.voices.Voice.{Voice}
 use Rattle.line_verdict.specs.declared.voices.Voice.TheVariants as voice
@@ -28,14 +28,14 @@ use Rattle.aprs_history.specs.Texts.{login_by, login_reply, verified_word}
 use Rattle.aprs_base.specs.Bytes.{IsCall, is_digit, is_inner, is_station, IsInner, IsLine}
 use Rattle.aprs_base.specs.declared.packets.Parts.{Parts}
 use Rattle.tnc2_line.specs.Packet.{parts_of, text_of}
-use Rattle.aprs_history.specs.Verdicts.{Carrier, Scene, Speaker, Visitor, answer_by, answer_of, carried_verdict, command_verdict, filter_command, login_answer, login_verdict, spoken_verdict, text_at, verdict_of, packet_verdict, read_and_routed, is_comment, is_duplicate}
+use Rattle.aprs_history.specs.Verdicts.{Carrier, Scene, Speaker, Visitor, answer_by, answer_of, carried_verdict, command_verdict, filter_command, login_answer, login_verdict, spoken_verdict, text_at, verdict_of, packet_verdict, read_and_routed, is_comment}
 use Rattle.login_pass.specs.Login.{login_of, login_with, words_of, later, first_text, is_keyword, code_of, filter_in, is_verified}
 use Rattle.login_pass.specs.declared.login_line.LoginFault.{LoginFault}
 use Rattle.login_pass.specs.declared.login_line.LoginFault.TheVariants as fault
 use Rattle.aprs_base.specs.PacketSeen.{PacketSeen}
 use Rattle.aprs_base.specs.declared.cutting.Cut.{Cut}
 use Rattle.aprs_base.specs.declared.cutting.Cut.TheVariants as cut
-use Rattle.aprs_history.specs.Keys.{is_text}
+use Rattle.dupe_window.specs.Keys.{is_text}
 use Rattle.aprs_history.specs.declared.verdicts.Refusal.{Refusal}
 use Rattle.aprs_history.specs.declared.verdicts.Refusal.TheVariants as refusal
 use Rattle.aprs_history.specs.declared.verdicts.Verdict.TheVariants.{Refused, LoggedIn, Accepted}
@@ -148,16 +148,16 @@ login_fit server filters line (Ok login) is = by_name (is_text login.call server
     by_name true = tt
     by_name false = (login_station line login is, few_login filters line login.filter)
 
-packet_fit : (now : ℕ) (accepted : List PacketSeen) (routed : Result Parts Refusal) → IsFit (packet_verdict now accepted routed)
-packet_fit now accepted (Err why) = tt
-packet_fit now accepted (Ok parts) = by_copy (is_duplicate now accepted parts)
+packet_fit : (copies : Parts → Bool) (routed : Result Parts Refusal) → IsFit (packet_verdict copies routed)
+packet_fit copies (Err why) = tt
+packet_fit copies (Ok parts) = by_copy (copies parts)
   where
     by_copy : (again : Bool) → IsFit (if again then Refused (refusal.Duplicate parts (text_of parts)) else Accepted parts (text_of parts))
     by_copy true = tt
     by_copy false = tt
 
 carried_fit : (scene : Scene) (origin : Origin) (text : List ℕ) → IsFit (carried_verdict scene origin text)
-carried_fit scene origin text = packet_fit scene.moment scene.accepted (read_and_routed scene.server origin scene.others (parts_of text))
+carried_fit scene origin text = packet_fit scene.copies (read_and_routed scene.server origin scene.others (parts_of text))
 
 filtered_fit : (filters : Bool) (command : Option (List ℕ)) → IsFit (filtered filters command)
 filtered_fit filters None = tt
@@ -208,3 +208,51 @@ voice_says scene (Carrier origin) text = refl
 pub verdict_fit : (scene : Scene) (cut : Cut) → IsFit (verdict_of scene cut)
 verdict_fit scene cut.Long = tt
 verdict_fit scene (cut.Line text) = subst IsFit (sym (voice_says scene scene.speaker text)) (voice_fit scene (voice_of scene.speaker) text)
+
+-- ---- what is accepted is no copy
+
+module _ (copies : Parts → Bool) where
+  packet_new : (routed : Result Parts Refusal) → IsNew copies (packet_verdict copies routed)
+  packet_new (Err why) = tt
+  packet_new (Ok parts) = by_copy (copies parts) refl
+    where
+      by_copy : (again : Bool) → copies parts ≡ again → IsNew copies (if again then Refused (refusal.Duplicate parts (text_of parts)) else Accepted parts (text_of parts))
+      by_copy true is = tt
+      by_copy false is = is
+
+  login_new : (server : List ℕ) (filters : Bool) (line : List ℕ) (read : Result Login LoginFault) → IsNew copies (login_verdict server filters line read)
+  login_new server filters line (Err why) = tt
+  login_new server filters line (Ok login) = by_name (is_text login.call server)
+    where
+      by_name : (own : Bool)
+          → IsNew copies (if own then Refused refusal.OwnName else LoggedIn (record { call = login.call; verified = is_verified login }) (login_answer filters line login.filter))
+      by_name true = tt
+      by_name false = tt
+
+  filtered_new : (filters : Bool) (command : Option (List ℕ)) → IsNew copies (filtered filters command)
+  filtered_new filters None = tt
+  filtered_new filters (Some text) = tt
+
+  comment_new : (who : Voice) (text : List ℕ) → IsNew copies (comment_verdict who text)
+  comment_new (voice.Nameless filters) text = tt
+  comment_new voice.Reader text = filtered_new false (filter_command text)
+  comment_new (voice.Client filters origin) text = filtered_new filters (filter_command text)
+  comment_new (voice.Carrier origin) text = tt
+
+module _ (scene : Scene) where
+  line_new : (who : Voice) (text : List ℕ) → IsNew scene.copies (line_verdict scene who text)
+  line_new (voice.Nameless filters) text = login_new scene.copies scene.server filters text (login_of text)
+  line_new voice.Reader text = tt
+  line_new (voice.Client filters origin) text = packet_new scene.copies (read_and_routed scene.server origin scene.others (parts_of text))
+  line_new (voice.Carrier origin) text = packet_new scene.copies (read_and_routed scene.server origin scene.others (parts_of text))
+
+  voice_new : (who : Voice) (text : List ℕ) → IsNew scene.copies (voice_verdict scene who text)
+  voice_new who text = by_mark (is_comment text)
+    where
+      by_mark : (comment : Bool) → IsNew scene.copies (if comment then comment_verdict who text else line_verdict scene who text)
+      by_mark true = comment_new scene.copies who text
+      by_mark false = line_new who text
+
+  pub verdict_new : (cut : Cut) → IsNew scene.copies (verdict_of scene cut)
+  verdict_new cut.Long = tt
+  verdict_new (cut.Line text) = subst (IsNew scene.copies) (sym (voice_says scene scene.speaker text)) (voice_new (voice_of scene.speaker) text)

@@ -3,8 +3,8 @@ ghost use Rattle.std.specs.Prelude.{◌≡◌, ◌-◌, ◌≤◌, ◌&&◌, IsT
 ghost use Rattle.std.specs.List.{prefix_len, suffix_len};
 ghost use Rattle.filter_lang.specs.Grammar.{terms_of};
 ghost use Rattle.aprs_base.specs.Bytes.{is_blank, is_station};
-ghost use Rattle.aprs_history.specs.Keys.{is_same_key, key_of, without_last_blanks};
-ghost use Rattle.aprs_history.specs.Verdicts.{after_filter, answer_by, answer_of, filter_command, is_comment, is_duplicate, is_repeat, login_answer, login_verdict, packet_verdict, read_and_routed, text_at, unpadded};
+ghost use Rattle.dupe_window.specs.Windows.{has_copy};
+ghost use Rattle.aprs_history.specs.Verdicts.{after_filter, answer_by, answer_of, filter_command, is_comment, login_answer, login_verdict, packet_verdict, read_and_routed, text_at, unpadded};
 ghost use Rattle.login_pass.specs.Login.{login_of};
 ghost use Rattle.line_verdict.specs.Voices.{comment_verdict, filtered};
 ghost use Rattle.q_construct.specs.Rule.{has_station};
@@ -12,16 +12,14 @@ ghost use Rattle.tnc2_line.specs.Packet.{IsParts, parts_of, text_of};
 
 use crate::replies::active_line;
 use crate::voices::Voice;
-use aprs_base::{Call, Line, Memory, Packet, Parts};
+use aprs_base::{Call, Line, Memory, Parts};
 use aprs_history::{FilterAnswer, FilterFault, Refusal, Session, Verdict};
+use dupe_window::{Key, Window};
 use filter_lang::FilterError;
 use login_pass::read_login;
 use q_construct::{Origin, process};
 use std::alloc::Global;
 use tnc2_line::{read, write};
-
-/// For how many seconds a packet is taken as a copy of one that was accepted.
-const DUPLICATE_SECONDS: u64 = 30;
 
 /// Whether a line is a comment or a command.
 pub fn is_comment_line(line: &Line) -> bool
@@ -189,57 +187,32 @@ fn last_blanks(text: &[u8]) -> usize
     text.iter().rev().take_while(|byte| **byte == b' ').count()
 }
 
-/// The text without the blanks at its end.
-fn without_blanks(text: &[u8]) -> &[u8]
-    ensures { result.now ≡ without_last_blanks text.now }
+/// Whether the packet is a copy of one that the window has.
+fn is_copy(moment: u64, window: &Window, parts: &Parts) -> bool
+    ensures { result ≡ has_copy moment window.now parts.now }
 {
-    &text[..text.len().saturating_sub(last_blanks(text))]
+    window.seen(&Key::of(parts), moment).is_some()
 }
 
-/// Whether two packets are the same but for their ways: source, destination without its SSID, and body without the blanks
-/// at its end.
-fn is_same(parts: &Parts, other: &Parts) -> bool
-    ensures { result ≡ is_same_key (key_of parts.now) (key_of other.now) }
-{
-    parts.source.bytes() == other.source.bytes()
-        && parts.dest.base() == other.dest.base()
-        && without_blanks(parts.body.as_slice()) == without_blanks(other.body.as_slice())
-}
-
-/// Whether the packet was accepted before, and that less than 30 seconds ago.
-fn is_repeat(moment: u64, parts: &Parts, packet: &Packet) -> bool
-    ensures { result ≡ is_repeat moment (key_of parts.now) packet.now }
-{
-    moment.saturating_sub(packet.moment) < DUPLICATE_SECONDS && is_same(parts, &packet.parts)
-}
-
-fn is_duplicate(moment: u64, accepted: &[Packet], parts: &Parts) -> bool
-    ensures { result ≡ is_duplicate moment accepted.now parts.now }
-{
-    accepted
-        .iter()
-        .any(|packet| is_repeat(moment, parts, packet))
-}
-
-/// The verdict on a packet from there. `others` are the logins of the other verified links, and `accepted` the packets that
-/// were accepted up to this moment.
+/// The verdict on a packet from there. `others` are the logins of the other verified links, and the window has the packets that
+/// were accepted before; `moment` is in seconds.
 pub fn judge_packet(
     server: &Call,
     origin: &Origin,
     others: &[Call],
     moment: u64,
-    accepted: &[Packet],
+    window: &Window,
     line: &Line,
 ) -> Verdict
     requires server { IsTrue (is_station server.now) }
     requires origin { IsTrue (has_station origin.now) }
-    ensures { result ≡ packet_verdict moment accepted.now (read_and_routed server.now origin.now others.now (parts_of line.now)) }
+    ensures { result ≡ packet_verdict (has_copy moment window.now) (read_and_routed server.now origin.now others.now (parts_of line.now)) }
 {
     match route(server, origin, others, line) {
         Err(refusal) => Verdict::Refused(refusal),
         Ok(parts) => {
             let line = line_of(&parts);
-            if is_duplicate(moment, accepted, &parts) {
+            if is_copy(moment, window, &parts) {
                 Verdict::Refused(Refusal::Duplicate(parts, line))
             } else {
                 Verdict::Accepted(parts, line)

@@ -1,5 +1,5 @@
 -- The steps of the core, and the trace that it follows.
-use Rattle.std.proofs.Common.{◌≡◌, ℕ, ◌<◌, ◌==◌, ◌/◌, nat_lt, length, if◌then◌else◌, ◌∷◌, ◌++◌, [], List, map, filter, refl, sym, ap, ◌∙◌, subst, Bool, true, false, Option, Some, None, max, min, append-nil, arith, ⊎_elim, ◌||◌, not, cond, ◌^◌, IfOk, Result, Ok, Err, Vec, Global}
+use Rattle.std.proofs.Common.{◌≡◌, ℕ, ◌<◌, ◌==◌, ◌/◌, nat_lt, length, if◌then◌else◌, ◌∷◌, ◌++◌, [], List, map, filter, refl, sym, ap, ◌∙◌, subst, Bool, true, false, Option, Some, None, max, min, append-nil, arith, ⊎_elim, ◌||◌, not, cond, ◌^◌, IfOk, Result, Ok, Err, Vec, Global, ◌≤◌}
 use Rattle.std.specs.List.{flat_map}
 use Rattle.std.proofs.lemmas.Bool.{true≢false, cases_Bool}
 use Rattle.std.proofs.lemmas.List.{length-map}
@@ -22,7 +22,7 @@ use Rattle.aprs_history.specs.declared.verdicts.Refusal.{Refusal}
 use Rattle.aprs_history.specs.declared.verdicts.Verdict.{Verdict}
 use Rattle.aprs_history.specs.declared.verdicts.Verdict.TheVariants.{PassedOver, Refused, LoggedIn, Filtered, Accepted}
 use Rattle.aprs_history.specs.Setting.{Setting, kind_at}
-use Rattle.aprs_history.specs.Scenes.{datagram_scene, logins_of, others_of, scene_of, speaker_of, verified_login}
+use Rattle.aprs_history.specs.Scenes.{datagram_scene, logins_of, others_of, scene_of, speaker_of, verified_login, accepted_of}
 use Rattle.tnc2_line.specs.Packet.{parts_of, text_of}
 use Rattle.aprs_history.specs.declared.verdicts.Refusal.TheVariants as refusal
 use Rattle.aprs_history.specs.Verdicts.{Visitor, carried_verdict, is_comment, is_duplicate, packet_verdict, read_and_routed, verdict_of}
@@ -33,8 +33,8 @@ use Rattle.aprs_history.specs.declared.verdicts.EndReason.TheVariants.{FoundGone
 use Rattle.aprs_history.specs.Links.{client_links, is_client_link, session_of, opening_of, brought_by, gone_links, late_links, late_reason}
 use Rattle.aprs_history.specs.Dates.{comment_text}
 use Rattle.aprs_history.specs.History.{admission, admitted, joined_admission, refuse_datagram, begin_round, comment_seconds, dated, end_each, end_stopped, refused_links, refused_reason, relay, say_all}
-use Rattle.aprs_history.specs.Stands.{LinkSeen, CoreSeen, ReachSeen, link_seen, Follows}
-use Rattle.server_core.specs.LinkSteps.{at_link, has_that, has_number, is_in_time, is_late_link, is_none_of, is_overfull, is_there, is_another, with_room, with_bytes, numbers, Rises, IsDatagram, admitted_in, joined_outcome, client_kept, clients_in, ended_all, held_at, held_kept, logins_at, speaker_at, speaker_kept, with_date, others_at, at_moment, forgotten_all, is_lost}
+use Rattle.aprs_history.specs.Stands.{LinkSeen, CoreSeen, ReachSeen, link_seen, Follows, window_of}
+use Rattle.server_core.specs.LinkSteps.{at_link, has_that, has_number, is_in_time, is_late_link, is_none_of, is_overfull, is_there, is_another, with_room, with_bytes, numbers, Rises, IsDatagram, admitted_in, joined_outcome, client_kept, clients_in, ended_all, held_at, held_kept, logins_at, speaker_at, speaker_kept, with_date, others_at, at_moment, forgotten_all, is_lost, passed}
 use Rattle.heard_routing.specs.Heard.{HeardSeen, without_link}
 use Rattle.aprs_conf.specs.Seen.{ConfSeen}
 use Rattle.server_core.specs.Meaning.{CoreMeaning, setting_of, timeouts_of}
@@ -43,8 +43,12 @@ use Rattle.server_core.specs.Steps.{SameRest, Walks, carried_at, scene_at, with_
 use Rattle.server_core.proofs.LinkLemmas.{changed_none, rises_at, rises_filter, rises_to, rises_push}
 use Rattle.server_core.proofs.FollowLemmas.{picked_missing, picked_seen}
 use Rattle.server_core.proofs.HeardLemmas.{remembers_no_end}
-use Rattle.server_core.proofs.WalkLemmas.{with_ends, with_links, with_reach, filter_seen, follows_began, follows_dated, follows_gone, follows_late, follows_looked, follows_turned_away, follows_unasked, follows_unjoined, follows_refused_links, going_after, late_goes, refused_goes, follows_said, follows_roomed, follows_ticked, follows_brought, follows_opened, follows_unserved, follows_ended, follows_stopped}
+use Rattle.server_core.proofs.WalkLemmas.{with_ends, with_links, with_reach, filter_seen, follows_began, follows_dated, follows_gone, follows_late, follows_looked, follows_turned_away, follows_unasked, follows_unjoined, follows_refused_links, going_after, late_goes, refused_goes, follows_said, follows_roomed, follows_risen, follows_brought, follows_opened, follows_unserved, follows_ended, follows_stopped, follows_stayed}
 use Rattle.aprs_history.proofs.EntryLemmas.{IsSaidBy}
+use Rattle.dupe_window.specs.Windows.{has_copy}
+use Rattle.dupe_window.proofs.RecalledLemmas.{seen_at-recalled}
+use Rattle.station_table.specs.Last.{HasExactly}
+use Rattle.station_table.specs.Stations.{young}
 
 -- the core with other links
 abbrev pub relinked : List LinkSeen → CoreMeaning → CoreMeaning
@@ -115,20 +119,28 @@ module _ (core : CoreMeaning) (t : Trace) (walks : Walks core t) where
   others_now : (number : ℕ) → others_at number core.seen.links ≡ others_of t number
   others_now number = ap (others_at number) live_now ∙ others_seen (setting_of core.conf) t number (live_links t)
 
+  -- the window has the copies that the search of all accepted packets finds
+  copies_same : (parts : Parts) → has_copy core.seen.moment core.seen.window parts ≡ is_duplicate (moment_of t) (accepted_of t) parts
+  copies_same parts =
+      ap (λ now. has_copy now core.seen.window parts) walks.follows.moment
+      ∙ ap (λ window. has_copy (moment_of t) window parts) walks.follows.tables.window
+      ∙ seen_at-recalled (moment_of t) parts (accepted_of t) (window_of t) refl
+
+  copies_now : has_copy core.seen.moment core.seen.window ≡ is_duplicate (moment_of t) (accepted_of t)
+  copies_now = λ j parts. copies_same parts j
+
   -- a line of a link that lives meets what the trace says
   pub scene_now : (number : ℕ) → is_live t number ≡ true → scene_at core number ≡ scene_of (setting_of core.conf) t number
   scene_now number live =
       ap (λ speaker. record (scene_at core number) { speaker = speaker }) (speaker_now number live)
-      ∙ ap (λ others. record (scene_of (setting_of core.conf) t number) { others = others; moment = core.seen.moment; accepted = core.seen.accepted }) (others_now number)
-      ∙ ap (λ moment. record (scene_of (setting_of core.conf) t number) { moment = moment; accepted = core.seen.accepted }) walks.follows.moment
-      ∙ ap (λ accepted. record (scene_of (setting_of core.conf) t number) { accepted = accepted }) walks.follows.tables.accepted
+      ∙ ap (λ others. record (scene_of (setting_of core.conf) t number) { others = others; copies = has_copy core.seen.moment core.seen.window }) (others_now number)
+      ∙ ap (λ copies. record (scene_of (setting_of core.conf) t number) { copies = copies }) copies_now
 
   -- and so does a line of a datagram
   pub carried_now : (origin : Origin) → carried_at origin core ≡ datagram_scene (setting_of core.conf) origin t
   carried_now origin =
       ap (λ others. record (carried_at origin core) { others = others }) (ap logins_at live_now ∙ logins_seen (setting_of core.conf) t (live_links t))
-      ∙ ap (λ moment. record (datagram_scene (setting_of core.conf) origin t) { moment = moment; accepted = core.seen.accepted }) walks.follows.moment
-      ∙ ap (λ accepted. record (datagram_scene (setting_of core.conf) origin t) { accepted = accepted }) walks.follows.tables.accepted
+      ∙ ap (λ copies. record (datagram_scene (setting_of core.conf) origin t) { copies = copies }) copies_now
 
   -- how many clients there are
   pub clients_now : clients_in core.seen.links ≡ length (client_links t)
@@ -318,7 +330,7 @@ walks_no_end core t walks number links heard reach dead new forgotten reached =
         turned = follows.turned;
         closing = follows.closing;
         links = follows.links;
-        tables = record { accepted = follows.tables.accepted; stations = follows.tables.stations; heard = remembers_no_end core.seen.heard t number dead follows.tables.heard };
+        tables = record { window = follows.tables.window; stations = follows.tables.stations; heard = remembers_no_end core.seen.heard t number dead follows.tables.heard };
         took = follows.took;
         totals = follows.totals;
       };
@@ -337,20 +349,29 @@ walks_unbrought core t walks number links reach (Ok cuts) dead reached h =
     let same : record core.seen { links = links; reach = reach } ≡ core.seen = rw stays (ap (λ ls. record core.seen { links = ls }) h.1) in
     (h.0, subst (λ seen. Walks (record core { seen = seen }) t) (sym same) walks)
 
-pub walks_ticked : (core : CoreMeaning) (t : Trace) → Walks core t → (m : ℕ) (moment : ℕ) (links : List LinkSeen) → moment ≡ max (min m last_moment) core.seen.moment
-    → links ≡ map (at_moment moment) core.seen.links
-    → Walks (record core { seen = record core.seen { moment = moment; links = links } }) (Ticked m ∷ t)
-walks_ticked core t walks m moment links is new =
-    subst (λ ls. Walks (record core { seen = record core.seen { moment = moment; links = ls } }) (Ticked m ∷ t)) (sym new)
-    (subst (λ n. Walks (record core { seen = record core.seen { moment = n; links = map (at_moment n) core.seen.links } }) (Ticked m ∷ t)) (sym is)
-    (record { follows = follows_ticked (setting_of core.conf) core.seen t walks.follows m; going = walks.going }))
+pub max_above : (a b : ℕ) → b ≤ a → max a b ≡ a
+max_above a b le = omega arith
+
+pub max_below : (a b : ℕ) → a ≤ b → max a b ≡ b
+max_below a b le = omega arith
+
+pub walks_passed : (core : CoreMeaning) (t : Trace) → Walks core t → (m : ℕ) (now : ℕ) → now ≡ moment_of (Ticked m ∷ t) → HasExactly now (young now core.seen.stations) (accepted_of t)
+    → Walks (record core { seen = passed now core.seen }) (Ticked m ∷ t)
+walks_passed core t walks m now is sights =
+    subst (λ n. Walks (record core { seen = passed n core.seen }) (Ticked m ∷ t)) (sym is) (record {
+      follows = follows_risen (setting_of core.conf) core.seen t walks.follows m (subst (λ n. HasExactly n (young n core.seen.stations) (accepted_of t)) is sights);
+      going = walks.going;
+    })
+
+pub walks_stayed : (core : CoreMeaning) (t : Trace) → Walks core t → (m : ℕ) → moment_of (Ticked m ∷ t) ≡ moment_of t → Walks core (Ticked m ∷ t)
+walks_stayed core t walks m same = record { follows = follows_stayed (setting_of core.conf) core.seen t walks.follows m same; going = walks.going }
 
 -- a core stays sound as a link comes
 pub kept_above : (core : CoreMeaning) (k : ℕ) → IsKept core → core.seen.greatest < k → k < 2 ^ 32 → IsKept (record core { seen = record core.seen { greatest = k } })
-kept_above core k kept above small = record { rising = rises_to 0 core.seen.greatest k (numbers core.seen.links) kept.rising (omega arith); small = small; station = kept.station; group = kept.group; few = kept.few }
+kept_above core k kept above small = record { rising = rises_to 0 core.seen.greatest k (numbers core.seen.links) kept.rising (omega arith); small = small; station = kept.station; group = kept.group; few = kept.few; window = kept.window }
 
 pub kept_turned : (core : CoreMeaning) (turned : List ℕ) → IsKept core → IsKept (record core { seen = record core.seen { turned = turned } })
-kept_turned core turned kept = record { rising = kept.rising; small = kept.small; station = kept.station; group = kept.group; few = kept.few }
+kept_turned core turned kept = record { rising = kept.rising; small = kept.small; station = kept.station; group = kept.group; few = kept.few; window = kept.window }
 
 pub kept_links : (core : CoreMeaning) (links : List LinkSeen) → links ≡ core.seen.links → IsKept core → IsKept (record core { seen = record core.seen { links = links } })
 kept_links core links same kept = subst (λ ls. IsKept (record core { seen = record core.seen { links = ls } })) (sym same) kept
@@ -365,6 +386,7 @@ kept_pushed core k link links kept above small is new =
       station = kept.station;
       group = kept.group;
       few = kept.few;
+      window = kept.window;
     }
 
 -- some links leave
@@ -376,6 +398,7 @@ kept_left core keep links heard reach turned closing left kept = record {
   station = kept.station;
   group = kept.group;
   few = kept.few;
+  window = kept.window;
 }
 
 -- one link changes
@@ -387,6 +410,7 @@ kept_at core number step links same changed kept = record {
   station = kept.station;
   group = kept.group;
   few = kept.few;
+  window = kept.window;
 }
 
 -- ---- links end
@@ -471,9 +495,9 @@ is_carried (LoggedIn session answer) = false
 is_carried (Filtered answer) = false
 is_carried (Accepted parts line) = true
 
-packet_carried : (now : ℕ) (accepted : List PacketSeen) (read : Result Parts Refusal) → is_carried (packet_verdict now accepted read) ≡ true
-packet_carried now accepted (Err why) = refl
-packet_carried now accepted (Ok parts) = by (is_duplicate now accepted parts)
+packet_carried : (copies : Parts → Bool) (read : Result Parts Refusal) → is_carried (packet_verdict copies read) ≡ true
+packet_carried copies (Err why) = refl
+packet_carried copies (Ok parts) = by (copies parts)
   where
     by : (b : Bool) → is_carried (if b then Refused (refusal.Duplicate parts (text_of parts)) else Accepted parts (text_of parts)) ≡ true
     by true = refl
@@ -485,7 +509,7 @@ line_carried core from (cut.Line text) = by (is_comment text)
   where
     by : (b : Bool) → is_carried (if b then PassedOver else carried_verdict (carried_at from core) from text) ≡ true
     by true = refl
-    by false = packet_carried core.seen.moment core.seen.accepted (read_and_routed core.conf.server from (logins_at core.seen.links) (parts_of text))
+    by false = packet_carried (has_copy core.seen.moment core.seen.window) (read_and_routed core.conf.server from (logins_at core.seen.links) (parts_of text))
 
 -- ---- comment lines
 

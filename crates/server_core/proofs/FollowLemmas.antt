@@ -369,6 +369,10 @@ module _ (s : Setting) where
       ap (λ friends. record (link_seen s t j) { friends = friends; mine = own_place (Ticked m ∷ t) j }) (sym (friends_later (accepted_of t) (moment_of t) (moment_of (Ticked m ∷ t)) later (filter_of t j)))
       ∙ ap (λ place. record (link_seen s t j) { friends = map (fresh (moment_of (Ticked m ∷ t))) (friends_of t j); mine = place }) (sym (login_later (accepted_of t) (moment_of t) (moment_of (Ticked m ∷ t)) later (session_of t j)))
 
+  pub stayed_seen : (t : Trace) (m j : ℕ) → moment_of (Ticked m ∷ t) ≡ moment_of t → link_seen s (Ticked m ∷ t) j ≡ link_seen s t j
+  unfolding link_seen
+  stayed_seen t m j same = ap (λ now. record (link_seen s t j) { friends = map (friend_in (accepted_of t) now) (filter_of t j); mine = login_in (accepted_of t) now (session_of t j) }) same
+
   -- a line that is refused without a reply, and one with a reply
   pub refused_seen : (t : Trace) (from : Source) (cut : Cut) (why : Refusal) (j : ℕ) → refused_lines t from why j ≡ (if is_from j from then reply_lines (refusal_reply why) else []) → None ≡ refusal_reply why
       → link_seen s (Said from cut (Refused why) ∷ t) j ≡ link_seen s t j

@@ -1,7 +1,7 @@
 -- What links heard and were promised, as packets come and links end.
-use Rattle.std.proofs.Common.{◌≡◌, ℕ, ◌==◌, ◌&&◌, ◌||◌, Bool, true, false, not, List, [], ◌∷◌, ◌++◌, filter, refl, sym, ap, ◌∙◌, subst, Option, Some, None, cond, if◌then◌else◌, append-nil}
+use Rattle.std.proofs.Common.{◌≡◌, ℕ, ◌-◌, ◌≤◌, ◌<◌, ◌==◌, ◌&&◌, ◌||◌, min, ⊎_elim, arith, Bool, true, false, not, List, [], ◌∷◌, ◌++◌, filter, refl, sym, ap, ◌∙◌, subst, Option, Some, None, cond, if◌then◌else◌, append-nil}
 use Rattle.std.specs.Bool.{⊤}
-use Rattle.std.proofs.lemmas.Bool.{eqb-true, true≢false}
+use Rattle.std.proofs.lemmas.Bool.{cases_Bool, eqb-true, false_from_ne_true, leb-false, leb-true, le-leb, true≢false}
 use Rattle.std.proofs.lemmas.Cmp.{nat_list_eq_equiv}
 use Rattle.aprs_base.specs.PacketSeen.{PacketSeen}
 use Rattle.aprs_base.specs.Bytes.{is_call}
@@ -11,24 +11,68 @@ use Rattle.aprs_base.specs.declared.packets.Source.{Source}
 use Rattle.aprs_base.specs.declared.packets.Source.TheVariants as source
 use Rattle.aprs_base.specs.declared.texts.Addr.{Addr}
 use Rattle.filter_eval.specs.Passes.{is_some_and, is_text}
-use Rattle.heard_routing.specs.Entries.{HasEachOnce}
-use Rattle.heard_routing.specs.Heard.{HeardSeen, courtesies, heard_age, heard_at, is_among, is_of_another_call, is_of_another_link, is_recent, noted, promise_age, promised, promised_at, receivers, without_link, without_promises}
-use Rattle.heard_routing.proofs.EntryLemmas.{links_listed, once_filtered, once_set}
-use Rattle.heard_routing.proofs.LookLemmas.{heard_noted, heard_without_link, promised_promised, promised_without_link, promised_without_promises}
+use Rattle.heard_routing.specs.Entries.{HasEachOnce, is_another}
+use Rattle.heard_routing.specs.Heard.{HeardSeen, courtesies, heard_age, heard_at, is_among, is_recent, noted, promise_age, promised, promised_at, receivers, recent, without_link, without_promises}
+use Rattle.heard_routing.specs.LastHeard.{still}
+use Rattle.heard_routing.proofs.EntryLemmas.{links_listed, once_emptied, once_filtered, once_recent, once_set}
+use Rattle.heard_routing.proofs.LookLemmas.{heard_noted, heard_recent, heard_without_link, promised_promised, promised_recent, promised_without_link, promised_without_promises}
 use Rattle.aprs_history.specs.declared.verdicts.Verdict.TheVariants.{Accepted}
 use Rattle.aprs_history.specs.declared.verdicts.LinkKind.{LinkKind}
 use Rattle.aprs_history.specs.declared.verdicts.LinkKind.TheVariants.{Client, Uplink}
 use Rattle.aprs_history.specs.declared.verdicts.Admission.{Admission}
 use Rattle.aprs_history.specs.declared.verdicts.Admission.TheVariants.{Served}
-use Rattle.aprs_history.specs.Trace.{Door, Ended, Opened, Said, opened_link, Trace, is_from, is_live, is_member, is_other, live_links, moment_of}
+use Rattle.aprs_history.specs.Trace.{Door, Ended, Opened, Said, Ticked, last_moment, opened_link, Trace, is_from, is_live, is_member, is_other, live_links, moment_of}
 use Rattle.aprs_history.specs.declared.verdicts.EndReason.{EndReason}
 use Rattle.aprs_history.specs.Links.{Opening, has_filters, is_client, is_client_link, is_client_of, is_filter_of, opening_by, opening_of}
 use Rattle.aprs_history.specs.Scenes.{packet_of}
 use Rattle.aprs_history.specs.Messages.{has_heard, heard_of, is_message, is_owed, is_position, is_to_heard, promise_after, promise_of, promises}
 use Rattle.aprs_history.specs.History.{end_each}
-use Rattle.aprs_history.specs.Stands.{LinkSeen, Remembers}
+use Rattle.aprs_history.specs.Stands.{LinkSeen, Remembers, kept_hearing, kept_promise}
 use Rattle.server_core.specs.LinkSteps.{call_in, client_at, filters_at, forgotten_all, hearers_of, may_promise, noted_from, promised_all, promised_one, receiver_of, spent}
 use Rattle.server_core.proofs.MemberLemmas.{eqb_turned, member_filter, member_push}
+use Rattle.std.proofs.Math.Nat.{le-max_right}
+
+-- ---- what still counts
+
+still_recent : (age now : ℕ) (told : Option ℕ) → is_some_and (is_recent age now) (still age now told) ≡ is_some_and (is_recent age now) told
+still_recent age now None = refl
+still_recent age now (Some moment) = by (is_recent age now moment) refl
+  where
+    by : (recent : Bool) → is_recent age now moment ≡ recent → is_some_and (is_recent age now) (if recent then Some moment else None) ≡ is_recent age now moment
+    by true is = refl
+    by false is = sym is
+
+still_unless : (new : Bool) (age now : ℕ) (told : Option ℕ) → still age now (if new then None else told) ≡ (if new then None else still age now told)
+still_unless true age now told = refl
+still_unless false age now told = refl
+
+still_now : (age now : ℕ) → still age now (Some now) ≡ Some now
+still_now age now = let none : now - now ≤ age = omega arith in ap (λ b. if b then Some now else None) (le-leb (now - now) age none)
+
+still_set : (set : Bool) (age now : ℕ) (told : Option ℕ) → still age now (if set then Some now else told) ≡ (if set then Some now else still age now told)
+still_set true age now told = still_now age now
+still_set false age now told = refl
+
+still_after : (same promised spent : Bool) (age now : ℕ) (told : Option ℕ)
+    → still age now (if same then promise_after promised spent now told else told) ≡ (if same then promise_after promised spent now (still age now told) else still age now told)
+still_after true true spent age now told = still_now age now
+still_after true false true age now told = refl
+still_after true false false age now told = refl
+still_after false promised spent age now told = refl
+
+too_late : (a b age moment : ℕ) → a ≤ b → is_recent age a moment ≡ false → is_recent age b moment ≡ false
+too_late a b age moment le old =
+    let past : age < a - moment = leb-false (a - moment) age old in
+    false_from_ne_true _ (λ recent. let under : b - moment ≤ age = leb-true (b - moment) age recent in absurd (omega arith))
+
+-- what is too old stays so
+still_later : (age a b : ℕ) → a ≤ b → (told : Option ℕ) → still age b (still age a told) ≡ still age b told
+still_later age a b le None = refl
+still_later age a b le (Some moment) =
+    ⊎_elim
+    (λ recent. rw recent refl)
+    (λ old. ap (λ o. still age b (if o then Some moment else None)) old ∙ sym (ap (λ o. if o then Some moment else None) (too_late a b age moment le old)))
+    (cases_Bool (is_recent age a moment))
 
 -- ---- promises of several links
 
@@ -76,7 +120,7 @@ module _ (links : List LinkSeen) (from : Source) (sender : List ℕ) (now : ℕ)
   one_once table k once = by (may_promise links from k)
     where
       by : (b : Bool) → HasEachOnce (if b then promised k sender now table else table).promises
-      by true = once_set (k, sender) now table.promises (promised k sender now table).promises refl once
+      by true = once_set k sender now table.promises (promised k sender now table).promises refl once
       by false = once
 
   all_once : (ks : List ℕ) (table : HeardSeen) → HasEachOnce table.promises → HasEachOnce (promised_all links from sender now ks table).promises
@@ -132,8 +176,10 @@ pub remembers_opened : (table : HeardSeen) (t : Trace) (door : Door) (kind : Lin
 remembers_opened table t door kind k from dead remembers = record {
   once_heard = remembers.once_heard;
   once_promised = remembers.once_promised;
-  heard = λ l call. remembers.heard l call ∙ came_as (heard_of t l call) l;
-  promised = λ l sender. remembers.promised l sender ∙ came (promise_of t l sender) l;
+  heard = λ l call. remembers.heard l call ∙ came_as (kept_hearing t l call) l
+      ∙ ap (λ told. if is_client (Opened door (Served kind) k from ∷ t) l then told else None) (sym (still_unless (l == k) heard_age (moment_of t) (heard_of t l call)));
+  promised = λ l sender. remembers.promised l sender ∙ came (kept_promise t l sender) l
+      ∙ ap (λ told. if is_live (Opened door (Served kind) k from ∷ t) l then told else None) (sym (still_unless (l == k) promise_age (moment_of t) (promise_of t l sender)));
 }
   where
     new : Option Opening
@@ -160,8 +206,10 @@ pub remembers_unserved : (table : HeardSeen) (t : Trace) (door : Door) (admissio
 remembers_unserved table t door admission k from none dead remembers = record {
   once_heard = remembers.once_heard;
   once_promised = remembers.once_promised;
-  heard = λ l call. remembers.heard l call ∙ missed_as (heard_of t l call) l;
-  promised = λ l sender. remembers.promised l sender ∙ missed (promise_of t l sender) l;
+  heard = λ l call. remembers.heard l call ∙ missed_as (kept_hearing t l call) l
+      ∙ ap (λ told. if is_client (Opened door admission k from ∷ t) l then told else None) (sym (still_unless (l == k) heard_age (moment_of t) (heard_of t l call)));
+  promised = λ l sender. remembers.promised l sender ∙ missed (kept_promise t l sender) l
+      ∙ ap (λ told. if is_live (Opened door admission k from ∷ t) l then told else None) (sym (still_unless (l == k) promise_age (moment_of t) (promise_of t l sender)));
 }
   where
     new : Option Opening
@@ -186,10 +234,10 @@ remembers_unserved table t door admission k from none dead remembers = record {
 
 pub remembers_ended : (table : HeardSeen) (t : Trace) (k : ℕ) (reason : EndReason) → Remembers table t → Remembers (without_link k table) (Ended k reason ∷ t)
 remembers_ended table t k reason remembers = record {
-  once_heard = once_filtered (is_of_another_link k) table.heard (without_link k table).heard refl remembers.once_heard;
-  once_promised = once_filtered (is_of_another_link k) table.promises (without_link k table).promises refl remembers.once_promised;
-  heard = λ l call. heard_without_link table k l call ∙ ap (λ told. cond (not (k == l)) told None) (remembers.heard l call) ∙ gone_as (heard_of t l call) l;
-  promised = λ l sender. promised_without_link table k l sender ∙ ap (λ told. cond (not (k == l)) told None) (remembers.promised l sender) ∙ gone (promise_of t l sender) l;
+  once_heard = once_filtered (is_another k) table.heard (without_link k table).heard refl remembers.once_heard;
+  once_promised = once_filtered (is_another k) table.promises (without_link k table).promises refl remembers.once_promised;
+  heard = λ l call. heard_without_link table k l call ∙ ap (λ told. cond (not (k == l)) told None) (remembers.heard l call) ∙ gone_as (kept_hearing t l call) l;
+  promised = λ l sender. promised_without_link table k l sender ∙ ap (λ told. cond (not (k == l)) told None) (remembers.promised l sender) ∙ gone (kept_promise t l sender) l;
 }
   where
     left : (l : ℕ) → (not (k == l) && is_live t l) ≡ is_member l (filter (is_other k) (live_links t))
@@ -207,13 +255,32 @@ remembers_all_ended reason [] table t remembers = remembers
 remembers_all_ended reason (k ∷ ks) table t remembers =
     remembers_all_ended reason ks (without_link k table) (Ended k (reason k) ∷ t) (remembers_ended table t k (reason k) remembers)
 
+-- as time goes on, what is too old is let go
+pub remembers_passed : (table : HeardSeen) (t : Trace) (m : ℕ) → Remembers table t → Remembers (recent (moment_of (Ticked m ∷ t)) table) (Ticked m ∷ t)
+remembers_passed table t m remembers =
+    let now = moment_of (Ticked m ∷ t) in
+    let le : moment_of t ≤ now = le-max_right (min m last_moment) (moment_of t) in
+    record {
+      once_heard = once_recent heard_age now table.heard (recent now table).heard refl remembers.once_heard;
+      once_promised = once_recent promise_age now table.promises (recent now table).promises refl remembers.once_promised;
+      heard = λ l call. heard_recent now table l call remembers.once_heard ∙ ap (still heard_age now) (remembers.heard l call)
+          ∙ later (is_client t l) heard_age now le (heard_of t l call);
+      promised = λ l sender. promised_recent now table l sender remembers.once_promised ∙ ap (still promise_age now) (remembers.promised l sender)
+          ∙ later (is_live t l) promise_age now le (promise_of t l sender);
+    }
+  where
+    later : (lives : Bool) (age now : ℕ) → moment_of t ≤ now → (told : Option ℕ)
+        → still age now (if lives then still age (moment_of t) told else None) ≡ (if lives then still age now told else None)
+    later true age now le told = still_later age (moment_of t) now le told
+    later false age now le told = refl
+
 -- a link that doesn't live is remembered nowhere, so forgetting it changes no answer
 pub remembers_no_end : (table : HeardSeen) (t : Trace) (k : ℕ) → is_live t k ≡ false → Remembers table t → Remembers (without_link k table) t
 remembers_no_end table t k dead remembers = record {
-  once_heard = once_filtered (is_of_another_link k) table.heard (without_link k table).heard refl remembers.once_heard;
-  once_promised = once_filtered (is_of_another_link k) table.promises (without_link k table).promises refl remembers.once_promised;
-  heard = λ l call. heard_without_link table k l call ∙ ap (λ told. cond (not (k == l)) told None) (remembers.heard l call) ∙ nowhere_as (heard_of t l call) l;
-  promised = λ l sender. promised_without_link table k l sender ∙ ap (λ told. cond (not (k == l)) told None) (remembers.promised l sender) ∙ nowhere (promise_of t l sender) l;
+  once_heard = once_filtered (is_another k) table.heard (without_link k table).heard refl remembers.once_heard;
+  once_promised = once_filtered (is_another k) table.promises (without_link k table).promises refl remembers.once_promised;
+  heard = λ l call. heard_without_link table k l call ∙ ap (λ told. cond (not (k == l)) told None) (remembers.heard l call) ∙ nowhere_as (kept_hearing t l call) l;
+  promised = λ l sender. promised_without_link table k l sender ∙ ap (λ told. cond (not (k == l)) told None) (remembers.promised l sender) ∙ nowhere (kept_promise t l sender) l;
 }
   where
     nowhere_shape : (gone member : Bool) (told : Option ℕ) → (gone ≡ true → member ≡ false) → cond (not gone) (if member then told else None) None ≡ (if member then told else None)
@@ -300,7 +367,8 @@ module _ (table : HeardSeen) (t : Trace) (remembers : Remembers table t) (packet
       heard_there : (to : List ℕ) → is_among l (receivers table to (moment_of t)) ≡ is_some_and (is_recent heard_age (moment_of t)) (heard_of t l to)
       heard_there to =
           (links_listed heard_age (moment_of t) to table.heard remembers.once_heard).exactly l
-          ∙ ap (is_some_and (is_recent heard_age (moment_of t))) (remembers.heard l to ∙ ap (λ b. if b then heard_of t l to else None) client)
+          ∙ ap (is_some_and (is_recent heard_age (moment_of t))) (remembers.heard l to ∙ ap (λ b. if b then kept_hearing t l to else None) client)
+          ∙ still_recent heard_age (moment_of t) (heard_of t l to)
 
       by_call : (to : List ℕ) (call : Bool) → is_among l (hearers_of (moment_of t) table (if call then Some to else None)) ≡ call && is_some_and (is_recent heard_age (moment_of t)) (heard_of t l to)
       by_call to true = heard_there to
@@ -319,7 +387,8 @@ module _ (table : HeardSeen) (t : Trace) (remembers : Remembers table t) (packet
           ≡ position && is_some_and (is_recent promise_age (moment_of t)) (promise_of t l packet.parts.source)
       by true =
           (links_listed promise_age (moment_of t) packet.parts.source table.promises remembers.once_promised).exactly l
-          ∙ ap (is_some_and (is_recent promise_age (moment_of t))) (remembers.promised l packet.parts.source ∙ ap (λ b. if b then promise_of t l packet.parts.source else None) live)
+          ∙ ap (is_some_and (is_recent promise_age (moment_of t))) (remembers.promised l packet.parts.source ∙ ap (λ b. if b then kept_promise t l packet.parts.source else None) live)
+          ∙ still_recent promise_age (moment_of t) (promise_of t l packet.parts.source)
       by false = refl
 
   spent_at : (l : ℕ) (s : List ℕ) → promised_at (spent packet table) l s ≡ (if is_position packet then cond (not (is_text s packet.parts.source)) (promised_at table l s) None else promised_at table l s)
@@ -343,7 +412,7 @@ module _ (table : HeardSeen) (t : Trace) (remembers : Remembers table t) (packet
   spent_once = by (is_position packet)
     where
       by : (position : Bool) → HasEachOnce (if position then without_promises packet.parts.source table else table).promises
-      by true = once_filtered (is_of_another_call packet.parts.source) table.promises (without_promises packet.parts.source table).promises refl remembers.once_promised
+      by true = once_emptied packet.parts.source table.promises (without_promises packet.parts.source table).promises refl remembers.once_promised
       by false = remembers.once_promised
 
 -- a packet of a link that isn't a client is heard by nobody
@@ -354,18 +423,18 @@ unnoted_shape true false same now told none = refl
 unnoted_shape false from same now told none = refl
 
 -- what becomes of what was heard, where the packet came from there
-module _ (table : HeardSeen) (t : Trace) (heard : (link : ℕ) (call : List ℕ) → heard_at table link call ≡ (if is_client t link then heard_of t link call else None)) (links : List LinkSeen) (call : List ℕ) where
+module _ (table : HeardSeen) (t : Trace) (heard : (link : ℕ) (call : List ℕ) → heard_at table link call ≡ (if is_client t link then kept_hearing t link call else None)) (links : List LinkSeen) (call : List ℕ) where
   abbrev NotedSo : Source → Type 0
-  NotedSo from = (l : ℕ) (c : List ℕ) → heard_at (noted_from links from call (moment_of t) table) l c ≡ (if is_client t l then (if is_from l from && is_text c call then Some (moment_of t) else heard_of t l c) else None)
+  NotedSo from = (l : ℕ) (c : List ℕ) → heard_at (noted_from links from call (moment_of t) table) l c ≡ (if is_client t l then (if is_from l from && is_text c call then Some (moment_of t) else kept_hearing t l c) else None)
 
   noted_at : (k : ℕ) (b : Bool) → client_at k links ≡ b → is_client t k ≡ b → (l : ℕ) (c : List ℕ)
-      → heard_at (if b then noted k call (moment_of t) table else table) l c ≡ (if is_client t l then (if l == k && is_text c call then Some (moment_of t) else heard_of t l c) else None)
+      → heard_at (if b then noted k call (moment_of t) table else table) l c ≡ (if is_client t l then (if l == k && is_text c call then Some (moment_of t) else kept_hearing t l c) else None)
   noted_at k true at is l c =
       heard_noted table k l call c (moment_of t)
       ∙ ap (cond (l == k && is_text c call) (Some (moment_of t))) (heard l c)
-      ∙ noted_shape (is_client t l) (l == k) (is_text c call) (moment_of t) (heard_of t l c) (λ same. ap (is_client t) (eqb-true l k same) ∙ is)
+      ∙ noted_shape (is_client t l) (l == k) (is_text c call) (moment_of t) (kept_hearing t l c) (λ same. ap (is_client t) (eqb-true l k same) ∙ is)
   noted_at k false at is l c =
-      heard l c ∙ unnoted_shape (is_client t l) (l == k) (is_text c call) (moment_of t) (heard_of t l c) (λ same. ap (is_client t) (eqb-true l k same) ∙ is)
+      heard l c ∙ unnoted_shape (is_client t l) (l == k) (is_text c call) (moment_of t) (kept_hearing t l c) (λ same. ap (is_client t) (eqb-true l k same) ∙ is)
 
   noted_as : (k : ℕ) → client_at k links ≡ is_client t k → NotedSo (source.Link k)
   noted_as k same l c = ap (λ b. heard_at (if b then noted k call (moment_of t) table else table) l c) same ∙ noted_at k (is_client t k) same refl l c
@@ -373,7 +442,7 @@ module _ (table : HeardSeen) (t : Trace) (heard : (link : ℕ) (call : List ℕ)
   noted_elsewhere : (from : Source) → noted_from links from call (moment_of t) table ≡ table → ((l : ℕ) → is_from l from ≡ false) → NotedSo from
   noted_elsewhere from none other l c =
       ap (λ entries. heard_at entries l c) none ∙ heard l c
-      ∙ ap (λ told. if is_client t l then told else None) (sym (ap (λ b. if b && is_text c call then Some (moment_of t) else heard_of t l c) (other l)))
+      ∙ ap (λ told. if is_client t l then told else None) (sym (ap (λ b. if b && is_text c call then Some (moment_of t) else kept_hearing t l c) (other l)))
 
 -- whose packet it is: that of a link that lives, or of a datagram
 abbrev pub Speaks : Trace → List LinkSeen → Source → Type 0
@@ -381,7 +450,7 @@ Speaks t links (source.Link k) = (is_live t k ≡ true) × (client_at k links �
 Speaks t links (source.Submit listener) = ⊤
 Speaks t links (source.Peer peer) = ⊤
 
-noted_so : (table : HeardSeen) (t : Trace) (heard : (link : ℕ) (call : List ℕ) → heard_at table link call ≡ (if is_client t link then heard_of t link call else None))
+noted_so : (table : HeardSeen) (t : Trace) (heard : (link : ℕ) (call : List ℕ) → heard_at table link call ≡ (if is_client t link then kept_hearing t link call else None))
     (links : List LinkSeen) (call : List ℕ) (from : Source) → Speaks t links from → NotedSo table t heard links call from
 noted_so table t heard links call (source.Link k) speaks = noted_as table t heard links call k speaks.1
 noted_so table t heard links call (source.Submit listener) speaks = noted_elsewhere table t heard links call (source.Submit listener) refl (λ l. refl)
@@ -391,7 +460,7 @@ noted_once : (table : HeardSeen) (links : List LinkSeen) (call : List ℕ) (now 
 noted_once table links call now (source.Link k) once = by (client_at k links)
   where
     by : (b : Bool) → HasEachOnce (if b then noted k call now table else table).heard
-    by true = once_set (k, call) now table.heard (noted k call now table).heard refl once
+    by true = once_set k call now table.heard (noted k call now table).heard refl once
     by false = once
 noted_once table links call now (source.Submit listener) once = once
 noted_once table links call now (source.Peer peer) once = once
@@ -423,7 +492,7 @@ module _ (table : HeardSeen) (t : Trace) (remembers : Remembers table t) (links 
   same_heard : promised_now.heard ≡ table.heard
   same_heard = all_heard links from parts.source (moment_of t) hearers (spent packet table) ∙ spent_heard table t remembers packet
 
-  heard_then : (l : ℕ) (call : List ℕ) → heard_at after l call ≡ (if is_client t l then (if is_from l from && is_text call parts.source then Some (moment_of t) else heard_of t l call) else None)
+  heard_then : (l : ℕ) (call : List ℕ) → heard_at after l call ≡ (if is_client t l then (if is_from l from && is_text call parts.source then Some (moment_of t) else kept_hearing t l call) else None)
   heard_then = noted_so promised_now t (λ l call. ap (λ entries. heard_at (record table { heard = entries }) l call) same_heard ∙ remembers.heard l call) links parts.source from speaks
 
   promised_before : (l : ℕ) (s : List ℕ) → promised_at after l s ≡ promised_at promised_now l s
@@ -431,19 +500,19 @@ module _ (table : HeardSeen) (t : Trace) (remembers : Remembers table t) (links 
 
   promised_then : (l : ℕ) (s : List ℕ) (live : Bool) → is_live t l ≡ live
       → promised_at promised_now l s
-      ≡ (if live then (if is_text s parts.source then promise_after (promises t packet l) (is_position packet) (moment_of t) (promise_of t l s) else promise_of t l s) else None)
+      ≡ (if live then (if is_text s parts.source then promise_after (promises t packet l) (is_position packet) (moment_of t) (kept_promise t l s) else kept_promise t l s) else None)
   promised_then l s true is =
       all_promised links from parts.source (moment_of t) hearers (spent packet table) l s
       ∙ ap (cond (is_among l hearers && (may_promise links from l && is_text s parts.source)) (Some (moment_of t)))
       (spent_at table t remembers packet l s
-      ∙ ap (λ told. if is_position packet then cond (not (is_text s parts.source)) told None else told) (remembers.promised l s ∙ ap (λ b. if b then promise_of t l s else None) is))
-      ∙ ap (λ b. cond (is_among l hearers && ((not (is_from l from) && b) && is_text s parts.source)) (Some (moment_of t)) (if is_position packet then cond (not (is_text s parts.source)) (promise_of t l s) None else promise_of t l s))
+      ∙ ap (λ told. if is_position packet then cond (not (is_text s parts.source)) told None else told) (remembers.promised l s ∙ ap (λ b. if b then kept_promise t l s else None) is))
+      ∙ ap (λ b. cond (is_among l hearers && ((not (is_from l from) && b) && is_text s parts.source)) (Some (moment_of t)) (if is_position packet then cond (not (is_text s parts.source)) (kept_promise t l s) None else kept_promise t l s))
       (filters l is)
       ∙ by_filters (has_filters (opening_of t l)) (client_with_filters (opening_of t l))
-      ∙ ap (λ b. if is_text s parts.source then promise_after (not (is_from l from) && b && has_filters (opening_of t l) && is_to_heard t packet l) (is_position packet) (moment_of t) (promise_of t l s) else promise_of t l s) (sym is)
+      ∙ ap (λ b. if is_text s parts.source then promise_after (not (is_from l from) && b && has_filters (opening_of t l) && is_to_heard t packet l) (is_position packet) (moment_of t) (kept_promise t l s) else kept_promise t l s) (sym is)
     where
       left : Option ℕ
-      left = if is_position packet then cond (not (is_text s parts.source)) (promise_of t l s) None else promise_of t l s
+      left = if is_position packet then cond (not (is_text s parts.source)) (kept_promise t l s) None else kept_promise t l s
 
       -- only clients have filters
       client_with_filters : (opening : Option Opening) → has_filters opening ≡ true → is_client_link opening ≡ true
@@ -456,18 +525,18 @@ module _ (table : HeardSeen) (t : Trace) (remembers : Remembers table t) (links 
 
       by_filters : (b : Bool) → (b ≡ true → is_client_link (opening_of t l) ≡ true)
           → cond (is_among l hearers && ((not (is_from l from) && b) && is_text s parts.source)) (Some (moment_of t)) left
-          ≡ (if is_text s parts.source then promise_after (not (is_from l from) && true && b && is_to_heard t packet l) (is_position packet) (moment_of t) (promise_of t l s) else promise_of t l s)
+          ≡ (if is_text s parts.source then promise_after (not (is_from l from) && true && b && is_to_heard t packet l) (is_position packet) (moment_of t) (kept_promise t l s) else kept_promise t l s)
       by_filters true client =
           let is_one : is_client t l ≡ true = ap (λ b. b && is_client_link (opening_of t l)) is ∙ client refl in
           ap (λ b. cond (b && ((not (is_from l from) && true) && is_text s parts.source)) (Some (moment_of t)) left) (hearers_are table t remembers packet l is_one)
-          ∙ promise_shape (is_to_heard t packet l) (not (is_from l from)) true (is_text s parts.source) (is_position packet) (moment_of t) (promise_of t l s)
+          ∙ promise_shape (is_to_heard t packet l) (not (is_from l from)) true (is_text s parts.source) (is_position packet) (moment_of t) (kept_promise t l s)
       by_filters false client =
-          unpromised_shape (is_among l hearers) (not (is_from l from)) (is_text s parts.source) (is_position packet) (is_to_heard t packet l) (moment_of t) (promise_of t l s)
+          unpromised_shape (is_among l hearers) (not (is_from l from)) (is_text s parts.source) (is_position packet) (is_to_heard t packet l) (moment_of t) (kept_promise t l s)
   promised_then l s false is =
       all_promised links from parts.source (moment_of t) hearers (spent packet table) l s
       ∙ ap (cond (is_among l hearers && (may_promise links from l && is_text s parts.source)) (Some (moment_of t)))
       (spent_at table t remembers packet l s
-      ∙ ap (λ told. if is_position packet then cond (not (is_text s parts.source)) told None else told) (remembers.promised l s ∙ ap (λ b. if b then promise_of t l s else None) is))
+      ∙ ap (λ told. if is_position packet then cond (not (is_text s parts.source)) told None else told) (remembers.promised l s ∙ ap (λ b. if b then kept_promise t l s else None) is))
       ∙ ap (λ b. cond (is_among l hearers && ((not (is_from l from) && b) && is_text s parts.source)) (Some (moment_of t)) (if is_position packet then cond (not (is_text s parts.source)) None None else None))
       (nowhere l is)
       ∙ unlived_shape (is_among l hearers) (not (is_from l from)) (is_text s parts.source) (is_position packet) (moment_of t) None
@@ -478,6 +547,9 @@ module _ (table : HeardSeen) (t : Trace) (remembers : Remembers table t) (links 
     once_heard = noted_once promised_now links parts.source (moment_of t) from (subst (λ entries. HasEachOnce entries) (sym same_heard) remembers.once_heard);
     once_promised = subst (λ entries. HasEachOnce entries) (sym (noted_promises promised_now links parts.source (moment_of t) from))
         (all_once links from parts.source (moment_of t) hearers (spent packet table) (spent_once table t remembers packet));
-    heard = heard_then;
-    promised = λ l s. promised_before l s ∙ promised_then l s (is_live t l) refl;
+    heard = λ l call. heard_then l call
+        ∙ ap (λ told. if is_client t l then told else None) (sym (still_set (is_from l from && is_text call parts.source) heard_age (moment_of t) (heard_of t l call)));
+    promised = λ l s. promised_before l s ∙ promised_then l s (is_live t l) refl
+        ∙ ap (λ told. if is_live t l then told else None)
+        (sym (still_after (is_text s parts.source) (promises t packet l) (is_position packet) promise_age (moment_of t) (promise_of t l s)));
   }

@@ -12,3 +12,4 @@ pub mod TellingLemmas
 pub mod TurnedLemmas
 pub mod WalkLemmas
 pub mod WholeRoundLemmas
+pub mod WindowLemmas

@@ -7,9 +7,9 @@ use Rattle.aprs_base.specs.declared.events.Happening.TheVariants as did
 use Rattle.aprs_base.specs.declared.packets.ListenSpec.{ListenSpec}
 use Rattle.heard_routing.specs.Heard.{nothing}
 use Rattle.heard_routing.proofs.EntryLemmas.{once_none}
-use Rattle.station_table.specs.Last.{Agrees}
+use Rattle.station_table.specs.Last.{HasExactly}
 use Rattle.station_table.specs.Stations.{no_stations}
-use Rattle.station_table.proofs.LastSeen.{new_agrees}
+use Rattle.station_table.proofs.LastSeen.{new_exactly}
 use Rattle.aprs_history.specs.Counts.{totals_of}
 use Rattle.aprs_history.specs.Setting.{Setting}
 use Rattle.aprs_history.specs.Trace.{Trace, served_links, is_member}
@@ -24,6 +24,7 @@ use Rattle.server_core.specs.Meaning.{CoreMeaning, setting_of, Stands}
 use Rattle.server_core.proofs.FollowLemmas.{queued-bytes, picked_seen, picked_missing}
 use Rattle.server_core.proofs.WalkLemmas.{follows_took, follows_lost}
 use Rattle.server_core.proofs.CoreLemmas.{number_member, relinked}
+use Rattle.dupe_window.specs.Windows.{empty_window}
 
 module _ (s : Setting) (core : CoreSeen) (t : Trace) (follows : Follows s core t) (k : ℕ) where
   pending_served : is_member k (served_links t) ≡ true → pending_at k core.links ≡ untaken s t k
@@ -95,10 +96,10 @@ stands_listening s core (spec ∷ specs) n h stands = stands_listening s core sp
 })
 
 -- nothing has happened
-pub stands_new : (s : Setting) (core : CoreSeen) (hasher : RandomState) → core.moment ≡ 0 → core.links ≡ [] → core.turned ≡ [] → core.closing ≡ [] → core.accepted ≡ [] → core.stations ≡ no_stations hasher → core.heard ≡ nothing hasher
+pub stands_new : (s : Setting) (core : CoreSeen) (hasher : RandomState) → core.moment ≡ 0 → core.links ≡ [] → core.turned ≡ [] → core.closing ≡ [] → core.window ≡ empty_window 30 → core.stations ≡ no_stations hasher → core.heard ≡ nothing hasher
     → core.reach ≡ reach_of s [] → core.greatest ≡ 0 → core.stopped ≡ false → core.totals ≡ totals_of s [] → StandsFor s core []
 unfolding trace_of
-stands_new s core hasher moment links turned closing accepted stations heard reach greatest stopped totals = record {
+stands_new s core hasher moment links turned closing window stations heard reach greatest stopped totals = record {
   finished = refl;
   follows = record {
     moment = moment;
@@ -107,8 +108,8 @@ stands_new s core hasher moment links turned closing accepted stations heard rea
     closing = closing;
     links = links;
     tables = record {
-      accepted = accepted;
-      stations = subst (λ table. Agrees table []) (sym stations) (new_agrees hasher);
+      window = window;
+      stations = subst (λ table. HasExactly 0 table []) (sym stations) (new_exactly 0 hasher);
       heard = subst (λ table. Remembers table []) (sym heard)
           (record { once_heard = once_none [] refl; once_promised = once_none [] refl; heard = λ l call. refl; promised = λ l sender. refl });
     };

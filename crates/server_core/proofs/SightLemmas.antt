@@ -1,5 +1,5 @@
 -- Where stations were last seen: as time goes on, as a packet comes, and by the table.
-use Rattle.std.proofs.Common.{◌≡◌, ℕ, ◌-◌, ◌≤◌, ◌<◌, Bool, true, false, List, [], ◌∷◌, ◌++◌, map, refl, sym, ap, ◌∙◌, arith, Option, Some, None, option_map, ⊎_elim, nat_lt, cond}
+use Rattle.std.proofs.Common.{◌≡◌, ℕ, ◌-◌, ◌≤◌, ◌<◌, Bool, true, false, List, [], ◌∷◌, ◌++◌, map, refl, sym, ap, ◌∙◌, arith, Option, Some, None, option_map, ⊎_elim, nat_lt, cond, if◌then◌else◌}
 use Rattle.std.specs.List.{zip}
 use Rattle.std.specs.Option.{option_and_then}
 use Rattle.std.proofs.lemmas.Bool.{cases_Bool, ltb-true, ltb-false, false_from_ne_true, lt-ltb}
@@ -10,7 +10,7 @@ use Rattle.aprs_base.specs.declared.packets.Place.{Place}
 use Rattle.aprs_body.specs.Classes.{position_bit}
 use Rattle.filter_eval.specs.Passes.{fresh, has_class, is_some_and, is_text, is_young, position_age}
 use Rattle.filter_eval.specs.declared.seen.Seen.{Seen}
-use Rattle.station_table.specs.Last.{Agrees, last_place, later_or, place_by}
+use Rattle.station_table.specs.Last.{HasExactly, fresh_gate, last_gate, last_place, later_or, place_by}
 use Rattle.station_table.specs.Stations.{gate_at, place_at, seen_at, seen_in}
 use Rattle.station_table.proofs.LastSeen.{told_more}
 use Rattle.aprs_history.specs.declared.verdicts.FilterAnswer.{FilterAnswer}
@@ -141,9 +141,18 @@ told_at packet seen is = told_by (has_class packet.body.class position_bit) pack
 
 -- ---- the table agrees
 
-module _ (core : CoreSeen) (accepted : List PacketSeen) (now : ℕ) (moment : core.moment ≡ now) (agrees : Agrees core.stations accepted) where
+-- a gate that counts still does
+young_gate : (now : ℕ) (gate : Option ℕ) → is_some_and (is_young now) (fresh_gate now gate) ≡ is_some_and (is_young now) gate
+young_gate now None = refl
+young_gate now (Some moment) = by (is_young now moment) refl
+  where
+    by : (young : Bool) → is_young now moment ≡ young → is_some_and (is_young now) (if young then Some moment else None) ≡ is_young now moment
+    by true is = refl
+    by false is = sym is
+
+module _ (core : CoreSeen) (accepted : List PacketSeen) (now : ℕ) (moment : core.moment ≡ now) (agrees : HasExactly now core.stations accepted) where
   pub sighting_found : (call : List ℕ) → place_young core.moment core.stations call ≡ sighting accepted now call
-  sighting_found call = ap (λ m. fresh m (place_at core.stations call)) moment ∙ ap (fresh now) (agrees.place call)
+  sighting_found call = ap (λ m. fresh m (place_at core.stations call)) moment ∙ ap (fresh now) (agrees.place call) ∙ fresh_later now now (omega arith) (last_place accepted call)
 
   friend_found : (named : Option (List ℕ)) → option_and_then (place_young core.moment core.stations) named ≡ option_and_then (sighting accepted now) named
   friend_found None = refl
@@ -158,7 +167,8 @@ module _ (core : CoreSeen) (accepted : List PacketSeen) (now : ℕ) (moment : co
       let submitted = submitted_from from core.links in
       ap (λ (place : Option Seen). record { place = place; gate = is_some_and (is_young core.moment) (gate_at core.stations call); submitted = submitted }) (sighting_found call)
       ∙ ap (λ (m : ℕ). record { place = sighting accepted now call; gate = is_some_and (is_young m) (gate_at core.stations call); submitted = submitted }) moment
-      ∙ ap (λ (gate : Option ℕ). record { place = sighting accepted now call; gate = is_some_and (is_young now) gate; submitted = submitted }) (agrees.gate call)
+      ∙ ap (λ (gate : Bool). record { place = sighting accepted now call; gate = gate; submitted = submitted })
+      (ap (is_some_and (is_young now)) (agrees.gate call) ∙ young_gate now (last_gate accepted call))
 
 -- answers by two ways of finding that find the same
 pub answer_same : (f g : TermSeen → Option Seen) → ((term : TermSeen) → f term ≡ g term) → (answer : FilterAnswer) (link : LinkSeen)

@@ -8,9 +8,10 @@ use Rattle.aprs_base.specs.declared.packets.Parts.{Parts}
 use Rattle.aprs_base.specs.declared.packets.Source.{Source}
 use Rattle.aprs_base.specs.declared.totals.Totals.{Totals}
 use Rattle.aprs_base.specs.declared.packets.Source.TheVariants as source
-use Rattle.heard_routing.specs.Heard.{HeardSeen, without_link}
-use Rattle.station_table.specs.Last.{Agrees}
-use Rattle.station_table.proofs.LastSeen.{note_agrees}
+use Rattle.heard_routing.specs.Heard.{HeardSeen, without_link, heard_age, promise_age, recent}
+use Rattle.station_table.specs.Last.{HasExactly}
+use Rattle.station_table.specs.Stations.{young}
+use Rattle.station_table.proofs.LastSeen.{note_exactly}
 use Rattle.aprs_history.specs.declared.verdicts.FilterAnswer.{FilterAnswer}
 use Rattle.aprs_history.specs.declared.verdicts.Session.{Session}
 use Rattle.aprs_history.specs.declared.verdicts.LinkKind.{LinkKind}
@@ -34,18 +35,24 @@ use Rattle.aprs_history.specs.Sights.{friend_in, is_gate_at, sighting}
 use Rattle.link_queue.specs.Lines.{text_bytes}
 use Rattle.aprs_history.specs.Texts.{comment_line, first_line, lines_of, over_links, refused_lines, reply_lines, text_to, added_by, login_reply, refusal_reply}
 use Rattle.aprs_history.specs.Counts.{is_duplicate_refusal, is_other_refusal, put_to_all, totals_of}
-use Rattle.aprs_history.specs.Stands.{LinkSeen, CoreSeen, ReachSeen, link_seen, reach_of, TookNoMore, Follows, Keeps, Remembers}
+use Rattle.aprs_history.specs.Stands.{LinkSeen, CoreSeen, ReachSeen, link_seen, reach_of, TookNoMore, Follows, Keeps, Remembers, kept_hearing, kept_promise, window_of}
 use Rattle.aprs_history.specs.Dates.{comment_text}
 use Rattle.aprs_history.specs.History.{end_all, end_each, end_gone, refused_links, refused_reason}
-use Rattle.server_core.specs.LinkSteps.{answer_counted, refusal_counted, takes_packet, takes_shown, with_accepted, with_duplicate, with_refused, at_source, client_at, client_kept, ended_all, submitted_from, with_date, with_refusal, with_shown, filters_at, filters_kept, forgotten_all, hearers_of, is_lost, owed_in, receiver_of, after_answer, after_login, after_login_answer, after_packet, after_verdict, found_in, has_that, with_answer, with_reply, at_link, at_moment, with_room, when_gone, with_taken, with_bytes, with_text, with_session, with_packet, new_link_seen, numbers, is_there, is_another, is_in_time, is_late_link, is_none_of, is_overfull, Rises}
+use Rattle.server_core.specs.LinkSteps.{answer_counted, refusal_counted, takes_packet, takes_shown, with_accepted, with_duplicate, with_refused, at_source, client_at, client_kept, ended_all, submitted_from, with_date, with_refusal, with_shown, filters_at, filters_kept, forgotten_all, hearers_of, is_lost, owed_in, receiver_of, after_answer, after_login, after_login_answer, after_packet, after_verdict, found_in, has_that, with_answer, with_reply, at_link, at_moment, with_room, when_gone, with_taken, with_bytes, with_text, with_session, with_packet, new_link_seen, numbers, is_there, is_another, is_in_time, is_late_link, is_none_of, is_overfull, Rises, passed}
 use Rattle.server_core.specs.declared.link.SourcePlace.{SourcePlace}
 use Rattle.server_core.specs.declared.link.Timeouts.{Timeouts}
 use Rattle.aprs_history.proofs.EntryLemmas.{IsSaidBy}
 use Rattle.server_core.proofs.CountLemmas.{accepted_puts, accepted_totals, answer_totals, duplicate_totals, login_totals, other_totals, quiet_totals, shown_puts}
 use Rattle.server_core.proofs.SightLemmas.{answer_same, friends_found, map_same, sighting_found, source_known}
 use Rattle.server_core.proofs.MemberLemmas.{eqb_turned, member_filtered, member_later}
-use Rattle.server_core.proofs.HeardLemmas.{Speaks, hearers_are, owed_are, remembers_accepted, remembers_all_ended, remembers_ended, remembers_opened, remembers_unserved}
-use Rattle.server_core.proofs.FollowLemmas.{picked_missing, picked_seen, answered_seen, map_through, dated_seen, round_seen, text_number, texts_grow, ticked_seen, with_login, roomed_seen, lost_seen, took_seen, brought_seen, refused_seen, replied_seen, passed_seen, login_seen, accepted_seen, opened_seen, new_seen, shown_seen, looked_seen, unjoined_seen}
+use Rattle.server_core.proofs.HeardLemmas.{Speaks, hearers_are, owed_are, remembers_accepted, remembers_all_ended, remembers_ended, remembers_opened, remembers_unserved, remembers_passed}
+use Rattle.server_core.proofs.FollowLemmas.{picked_missing, picked_seen, answered_seen, map_through, dated_seen, round_seen, text_number, texts_grow, ticked_seen, with_login, roomed_seen, lost_seen, took_seen, brought_seen, refused_seen, replied_seen, passed_seen, login_seen, accepted_seen, opened_seen, new_seen, shown_seen, looked_seen, unjoined_seen, stayed_seen}
+use Rattle.heard_routing.specs.LastHeard.{still}
+use Rattle.dupe_window.specs.Keys.{key_of}
+use Rattle.dupe_window.specs.Recalled.{recalled}
+use Rattle.dupe_window.specs.Windows.{expired, with_key}
+use Rattle.dupe_window.proofs.RecalledLemmas.{recalled-later, recalled-push_now}
+use Rattle.std.proofs.Math.Nat.{le-max_right}
 
 -- ---- lists of numbers
 
@@ -93,13 +100,15 @@ member_below low high (n ∷ ns) x rises member =
 -- ---- no link takes more than its text
 
 -- entries that leave live links and clients, and what they heard and were promised, leave what a table remembers
-remembers_as : (table : HeardSeen) (t u : Trace) → ((l : ℕ) → is_live u l ≡ is_live t l) → ((l : ℕ) → is_client u l ≡ is_client t l) → ((l : ℕ) (call : List ℕ) → heard_of u l call ≡ heard_of t l call)
+remembers_as : (table : HeardSeen) (t u : Trace) → moment_of u ≡ moment_of t → ((l : ℕ) → is_live u l ≡ is_live t l) → ((l : ℕ) → is_client u l ≡ is_client t l) → ((l : ℕ) (call : List ℕ) → heard_of u l call ≡ heard_of t l call)
     → ((l : ℕ) (sender : List ℕ) → promise_of u l sender ≡ promise_of t l sender) → Remembers table t → Remembers table u
-remembers_as table t u live client heard promised remembers = record {
+remembers_as table t u moment live client heard promised remembers = record {
   once_heard = remembers.once_heard;
   once_promised = remembers.once_promised;
-  heard = λ l call. remembers.heard l call ∙ ap (λ b. if b then heard_of t l call else None) (sym (client l)) ∙ ap (λ told. if is_client u l then told else None) (sym (heard l call));
-  promised = λ l sender. remembers.promised l sender ∙ ap (λ b. if b then promise_of t l sender else None) (sym (live l)) ∙ ap (λ told. if is_live u l then told else None) (sym (promised l sender));
+  heard = λ l call. remembers.heard l call ∙ ap (λ b. if b then kept_hearing t l call else None) (sym (client l))
+      ∙ ap (λ told. if is_client u l then told else None) (sym (ap (λ now. still heard_age now (heard_of u l call)) moment ∙ ap (still heard_age (moment_of t)) (heard l call)));
+  promised = λ l sender. remembers.promised l sender ∙ ap (λ b. if b then kept_promise t l sender else None) (sym (live l))
+      ∙ ap (λ told. if is_live u l then told else None) (sym (ap (λ now. still promise_age now (promise_of u l sender)) moment ∙ ap (still promise_age (moment_of t)) (promised l sender)));
 }
 
 module _ (s : Setting) where
@@ -146,17 +155,26 @@ with_heard heard core = record core { heard = heard }
 abbrev pub with_reach : ReachSeen → CoreSeen → CoreSeen
 with_reach reach core = record core { reach = reach }
 
-abbrev pub with_moment : ℕ → CoreSeen → CoreSeen
-with_moment moment core = record core { moment = moment; links = map (at_moment moment) core.links }
-
 module _ (s : Setting) (core : CoreSeen) (t : Trace) (follows : Follows s core t) where
-  -- entries that accept nothing, and leave live links with what they heard and were promised, leave what the tables have
-  same_tables : (u : Trace) → accepted_of u ≡ accepted_of t → ((l : ℕ) → is_live u l ≡ is_live t l) → ((l : ℕ) → is_client u l ≡ is_client t l) → ((l : ℕ) (call : List ℕ) → heard_of u l call ≡ heard_of t l call)
-      → ((l : ℕ) (sender : List ℕ) → promise_of u l sender ≡ promise_of t l sender) → Keeps core.accepted core.stations core.heard u
-  same_tables u accepted live client heard promised = record {
-    accepted = follows.tables.accepted ∙ sym accepted;
-    stations = subst (Agrees core.stations) (sym accepted) follows.tables.stations;
-    heard = remembers_as core.heard t u live client heard promised follows.tables.heard;
+  -- what the tables have at the same moment, where nothing more was accepted
+  same_window : (u : Trace) → moment_of u ≡ moment_of t → accepted_of u ≡ accepted_of t → core.window ≡ window_of u
+  same_window u moment accepted =
+      follows.tables.window
+      ∙ ap (λ now. record { pairs = recalled 30 now (accepted_of t); seconds = 30 }) (sym moment)
+      ∙ ap (λ packets. record { pairs = recalled 30 (moment_of u) packets; seconds = 30 }) (sym accepted)
+
+  same_stations : (u : Trace) → moment_of u ≡ moment_of t → accepted_of u ≡ accepted_of t → HasExactly (moment_of u) core.stations (accepted_of u)
+  same_stations u moment accepted =
+      subst (λ now. HasExactly now core.stations (accepted_of u)) (sym moment) (subst (HasExactly (moment_of t) core.stations) (sym accepted) follows.tables.stations)
+
+  -- entries that accept nothing, and leave the moment and live links with what they heard and were promised, leave what the
+  -- tables have
+  same_tables : (u : Trace) → moment_of u ≡ moment_of t → accepted_of u ≡ accepted_of t → ((l : ℕ) → is_live u l ≡ is_live t l) → ((l : ℕ) → is_client u l ≡ is_client t l)
+      → ((l : ℕ) (call : List ℕ) → heard_of u l call ≡ heard_of t l call) → ((l : ℕ) (sender : List ℕ) → promise_of u l sender ≡ promise_of t l sender) → Keeps core.window core.stations core.heard u
+  same_tables u moment accepted live client heard promised = record {
+    window = same_window u moment accepted;
+    stations = same_stations u moment accepted;
+    heard = remembers_as core.heard t u moment live client heard promised follows.tables.heard;
   }
 
   -- a round begins
@@ -168,22 +186,42 @@ module _ (s : Setting) (core : CoreSeen) (t : Trace) (follows : Follows s core t
     turned = refl;
     closing = refl;
     links = follows.links ∙ sym (map_on (link_seen s (RoundBegan ∷ t)) (link_seen s t) (served_links t) (λ j member. round_seen s t j));
-    tables = same_tables (RoundBegan ∷ t) refl (λ l. refl) (λ l. refl) (λ l call. refl) (λ l sender. refl);
+    tables = same_tables (RoundBegan ∷ t) refl refl (λ l. refl) (λ l. refl) (λ l call. refl) (λ l sender. refl);
     took = follows.took;
     totals = follows.totals;
   }
 
-  pub follows_ticked : (m : ℕ) → Follows s (with_moment (max (min m last_moment) core.moment) core) (Ticked m ∷ t)
+  -- the moment rises
+  pub follows_risen : (m : ℕ) → HasExactly (moment_of (Ticked m ∷ t)) (young (moment_of (Ticked m ∷ t)) core.stations) (accepted_of t) → Follows s (passed (moment_of (Ticked m ∷ t)) core) (Ticked m ∷ t)
   unfolding totals_of
-  follows_ticked m = record {
-    moment = ap (max (min m last_moment)) follows.moment;
+  follows_risen m sights =
+      let now = moment_of (Ticked m ∷ t) in
+      let later : moment_of t ≤ now = le-max_right (min m last_moment) (moment_of t) in
+      record {
+        moment = refl;
+        reach = follows.reach;
+        turned = follows.turned;
+        closing = follows.closing;
+        links = ap (map (at_moment now)) follows.links ∙ sym (map_through (link_seen s (Ticked m ∷ t)) (at_moment now) (link_seen s t) (ticked_seen s t m) (served_links t));
+        tables = record {
+          window = ap (expired now) follows.tables.window ∙ ap (λ pairs. record { pairs = pairs; seconds = 30 }) (recalled-later 30 (moment_of t) now (accepted_of t) later);
+          stations = sights;
+          heard = remembers_passed core.heard t m follows.tables.heard;
+        };
+        took = follows.took;
+        totals = follows.totals;
+      }
+
+  -- a tick within the same second
+  pub follows_stayed : (m : ℕ) → moment_of (Ticked m ∷ t) ≡ moment_of t → Follows s core (Ticked m ∷ t)
+  unfolding totals_of
+  follows_stayed m same = record {
+    moment = follows.moment ∙ sym same;
     reach = follows.reach;
     turned = follows.turned;
     closing = follows.closing;
-    links = ap (λ now. map (at_moment (max (min m last_moment) now)) core.links) follows.moment
-        ∙ ap (map (at_moment (moment_of (Ticked m ∷ t)))) follows.links
-        ∙ sym (map_through (link_seen s (Ticked m ∷ t)) (at_moment (moment_of (Ticked m ∷ t))) (link_seen s t) (ticked_seen s t m) (served_links t));
-    tables = same_tables (Ticked m ∷ t) refl (λ l. refl) (λ l. refl) (λ l call. refl) (λ l sender. refl);
+    links = follows.links ∙ sym (map_on (link_seen s (Ticked m ∷ t)) (link_seen s t) (served_links t) (λ j member. stayed_seen s t m j same));
+    tables = same_tables (Ticked m ∷ t) same refl (λ l. refl) (λ l. refl) (λ l call. refl) (λ l sender. refl);
     took = follows.took;
     totals = follows.totals;
   }
@@ -196,7 +234,7 @@ module _ (s : Setting) (core : CoreSeen) (t : Trace) (follows : Follows s core t
     turned = follows.turned;
     closing = follows.closing;
     links = ap (map (at_link k with_room)) follows.links ∙ sym (map_through (link_seen s (Roomed k ∷ t)) (at_link k with_room) (link_seen s t) (roomed_seen s t k) (served_links t));
-    tables = same_tables (Roomed k ∷ t) refl (λ l. refl) (λ l. refl) (λ l call. refl) (λ l sender. refl);
+    tables = same_tables (Roomed k ∷ t) refl refl (λ l. refl) (λ l. refl) (λ l call. refl) (λ l sender. refl);
     took = follows.took;
     totals = follows.totals;
   }
@@ -209,7 +247,7 @@ module _ (s : Setting) (core : CoreSeen) (t : Trace) (follows : Follows s core t
     turned = follows.turned;
     closing = follows.closing;
     links = ap (map (at_link k when_gone)) follows.links ∙ sym (map_through (link_seen s (Lost k ∷ t)) (at_link k when_gone) (link_seen s t) (lost_seen s t k) (served_links t));
-    tables = same_tables (Lost k ∷ t) refl (λ l. refl) (λ l. refl) (λ l call. refl) (λ l sender. refl);
+    tables = same_tables (Lost k ∷ t) refl refl (λ l. refl) (λ l. refl) (λ l call. refl) (λ l sender. refl);
     took = follows.took;
     totals = follows.totals;
   }
@@ -224,7 +262,7 @@ module _ (s : Setting) (core : CoreSeen) (t : Trace) (follows : Follows s core t
     closing = follows.closing;
     links = ap (map (at_link k (with_taken offered n))) follows.links
         ∙ sym (map_through (link_seen s (Took k offered n ∷ t)) (at_link k (with_taken offered n)) (link_seen s t) (took_seen s t k offered n) (served_links t));
-    tables = same_tables (Took k offered n ∷ t) refl (λ l. refl) (λ l. refl) (λ l call. refl) (λ l sender. refl);
+    tables = same_tables (Took k offered n ∷ t) refl refl (λ l. refl) (λ l. refl) (λ l call. refl) (λ l sender. refl);
     took = took_took s t follows.took k offered n le;
     totals = follows.totals;
   }
@@ -247,7 +285,7 @@ module _ (s : Setting) (core : CoreSeen) (t : Trace) (follows : Follows s core t
         ∙ ap (map (at_link k (with_bytes (moment_of t) (held_after (brought_by t k ++ bytes))))) follows.links
         ∙ sym (map_through (link_seen s (Brought k bytes ∷ t)) (at_link k (with_bytes (moment_of t) (held_after (brought_by t k ++ bytes)))) (link_seen s t)
         (brought_seen s t k bytes) (served_links t));
-    tables = same_tables (Brought k bytes ∷ t) refl (λ l. refl) (λ l. refl) (λ l call. refl) (λ l sender. refl);
+    tables = same_tables (Brought k bytes ∷ t) refl refl (λ l. refl) (λ l. refl) (λ l call. refl) (λ l sender. refl);
     took = follows.took;
     totals = follows.totals;
   }
@@ -265,7 +303,7 @@ module _ (s : Setting) (core : CoreSeen) (t : Trace) (follows : Follows s core t
     turned = follows.turned;
     closing = follows.closing;
     links = follows.links ∙ sym (map_on (link_seen s (Looked ∷ t)) (link_seen s t) (served_links t) (λ j member. looked_seen s t j));
-    tables = same_tables (Looked ∷ t) refl (λ l. refl) (λ l. refl) (λ l call. refl) (λ l sender. refl);
+    tables = same_tables (Looked ∷ t) refl refl (λ l. refl) (λ l. refl) (λ l call. refl) (λ l sender. refl);
     took = follows.took;
     totals = follows.totals;
   }
@@ -278,7 +316,7 @@ module _ (s : Setting) (core : CoreSeen) (t : Trace) (follows : Follows s core t
     turned = follows.turned;
     closing = follows.closing;
     links = follows.links ∙ sym (map_on (link_seen s (Unjoined uplink ∷ t)) (link_seen s t) (served_links t) (λ j member. unjoined_seen s t uplink j));
-    tables = same_tables (Unjoined uplink ∷ t) refl (λ l. refl) (λ l. refl) (λ l call. refl) (λ l sender. refl);
+    tables = same_tables (Unjoined uplink ∷ t) refl refl (λ l. refl) (λ l. refl) (λ l call. refl) (λ l sender. refl);
     took = follows.took;
     totals = follows.totals;
   }
@@ -303,7 +341,7 @@ module _ (s : Setting) (core : CoreSeen) (t : Trace) (follows : Follows s core t
     turned = follows.turned;
     closing = follows.closing;
     links = follows.links ∙ sym (map_on (link_seen s (Said from cut PassedOver ∷ t)) (link_seen s t) (served_links t) (λ j member. passed_seen s t from cut j));
-    tables = same_tables (Said from cut PassedOver ∷ t) (append-nil (accepted_of t)) (λ l. refl) (λ l. refl) (λ l call. refl) (λ l sender. refl);
+    tables = same_tables (Said from cut PassedOver ∷ t) refl (append-nil (accepted_of t)) (λ l. refl) (λ l. refl) (λ l call. refl) (λ l sender. refl);
     took = took_said s t follows.took from cut PassedOver;
     totals = follows.totals ∙ sym (quiet_totals s t from cut PassedOver refl refl refl (λ j. refl));
   }
@@ -317,7 +355,7 @@ module _ (s : Setting) (core : CoreSeen) (t : Trace) (follows : Follows s core t
     turned = follows.turned;
     closing = follows.closing;
     links = are;
-    tables = same_tables (Said from cut (Refused why) ∷ t) (append-nil (accepted_of t)) (λ l. refl) (λ l. refl) (λ l call. refl) (λ l sender. refl);
+    tables = same_tables (Said from cut (Refused why) ∷ t) refl (append-nil (accepted_of t)) (λ l. refl) (λ l. refl) (λ l call. refl) (λ l sender. refl);
     took = took_said s t follows.took from cut (Refused why);
     totals = counts;
   }
@@ -387,7 +425,7 @@ module _ (s : Setting) (core : CoreSeen) (t : Trace) (follows : Follows s core t
     closing = follows.closing;
     links = answers_agree from answer core.links
         ∙ stepped_at from (with_answer (friend_in (accepted_of t) (moment_of t)) answer) (Said from cut (Filtered answer) ∷ t) (answered_seen s t follows.took from cut answer);
-    tables = same_tables (Said from cut (Filtered answer) ∷ t) (append-nil (accepted_of t)) (λ l. refl) (λ l. refl) (λ l call. refl) (λ l sender. refl);
+    tables = same_tables (Said from cut (Filtered answer) ∷ t) refl (append-nil (accepted_of t)) (λ l. refl) (λ l. refl) (λ l call. refl) (λ l sender. refl);
     took = took_said s t follows.took from cut (Filtered answer);
     totals = ap (answer_counted answer) follows.totals ∙ answer_totals s t from cut answer;
   }
@@ -427,7 +465,7 @@ module _ (s : Setting) (core : CoreSeen) (t : Trace) (follows : Follows s core t
         turned = follows.turned;
         closing = follows.closing;
         links = links;
-        tables = same_tables (Said from cut (LoggedIn session None) ∷ t) (append-nil (accepted_of t)) (λ l. refl) (λ l. refl) (λ l call. refl) (λ l sender. refl);
+        tables = same_tables (Said from cut (LoggedIn session None) ∷ t) refl (append-nil (accepted_of t)) (λ l. refl) (λ l. refl) (λ l call. refl) (λ l sender. refl);
         took = took_said s t follows.took from cut (LoggedIn session None);
         totals = follows.totals ∙ login_totals s t from cut session None;
       }
@@ -437,7 +475,7 @@ module _ (s : Setting) (core : CoreSeen) (t : Trace) (follows : Follows s core t
         turned = follows.turned;
         closing = follows.closing;
         links = links;
-        tables = same_tables (Said from cut (LoggedIn session (Some given)) ∷ t) (append-nil (accepted_of t)) (λ l. refl) (λ l. refl) (λ l call. refl) (λ l sender. refl);
+        tables = same_tables (Said from cut (LoggedIn session (Some given)) ∷ t) refl (append-nil (accepted_of t)) (λ l. refl) (λ l. refl) (λ l call. refl) (λ l sender. refl);
         took = took_said s t follows.took from cut (LoggedIn session (Some given));
         totals = ap (answer_counted given) follows.totals ∙ login_totals s t from cut session (Some given);
       }
@@ -492,8 +530,9 @@ module _ (s : Setting) (core : CoreSeen) (t : Trace) (follows : Follows s core t
             (λ client. hearers_are core.heard t follows.tables.heard packet j (ap (λ b. b && is_client_link (opening_of t j)) here ∙ client))
             (owed_are core.heard t follows.tables.heard packet j here)));
         tables = record {
-          accepted = ap (λ packets. packets ++ packet ∷ []) follows.tables.accepted;
-          stations = note_agrees core.stations (accepted_of t) packet follows.tables.stations;
+          window = ap (with_key (key_of parts) (moment_of t)) follows.tables.window
+              ∙ ap (λ pairs. record { pairs = pairs; seconds = 30 }) (sym (recalled-push_now 30 (accepted_of t) packet (omega arith)));
+          stations = note_exactly (moment_of t) core.stations (accepted_of t) packet refl follows.tables.stations;
           heard = remembers_accepted core.heard t follows.tables.heard core.links from cut parts line (speaks going from says) (filters_live going) (filters_nowhere going);
         };
         took = took_said s t follows.took from cut (Accepted parts line);
@@ -557,7 +596,7 @@ module _ (s : Setting) (core : CoreSeen) (t : Trace) (follows : Follows s core t
             ∙ sym (map_push seen (served_links t) k)
             ∙ ap (map seen) (append_assoc (stopped_links t) (live_links t) (k ∷ []));
         tables = record {
-          accepted = follows.tables.accepted;
+          window = follows.tables.window;
           stations = follows.tables.stations;
           heard = remembers_opened core.heard t door kind k from (not_yet k high rises above) follows.tables.heard;
         };
@@ -579,7 +618,7 @@ module _ (s : Setting) (core : CoreSeen) (t : Trace) (follows : Follows s core t
         links = follows.links ∙ opened_kept door admission k high from rises above
             ∙ ap (λ ks. map seen (stopped_links t ++ ks)) (sym (ap (λ new. live_links t ++ new) none ∙ append-nil (live_links t)));
         tables = record {
-          accepted = follows.tables.accepted;
+          window = follows.tables.window;
           stations = follows.tables.stations;
           heard = remembers_unserved core.heard t door admission k from none (not_yet k high rises above) follows.tables.heard;
         };
@@ -617,7 +656,7 @@ module _ (s : Setting) (core : CoreSeen) (t : Trace) (follows : Follows s core t
         links = ap (map told) follows.links ∙ map_twice told (link_seen s t) (served_links t)
             ∙ sym (map_on (link_seen s (Dated moment ∷ t)) (λ j. told (link_seen s t j)) (served_links t)
             (λ j member. dated_seen s t follows.took moment j (subst (λ stopped. is_member j (stopped ++ live_links t) ≡ true) going member)));
-        tables = same_tables (Dated moment ∷ t) refl (λ l. refl) (λ l. refl) (λ l call. refl) (λ l sender. refl);
+        tables = same_tables (Dated moment ∷ t) refl refl (λ l. refl) (λ l. refl) (λ l call. refl) (λ l sender. refl);
         took = took_dated s t follows.took moment;
         totals = follows.totals;
       }
@@ -655,7 +694,7 @@ module _ (s : Setting) (core : CoreSeen) (t : Trace) (follows : Follows s core t
         ∙ filter_seen (is_another k) (is_other k) (live_links t) (another_seen k)
         ∙ sym (ended_seen k ByPeer (filter (is_other k) (live_links t)))
         ∙ ap (λ stopped. map (link_seen s (Ended k ByPeer ∷ t)) (stopped ++ filter (is_other k) (live_links t))) (sym (append-nil (stopped_links t) ∙ going));
-    tables = record { accepted = follows.tables.accepted; stations = follows.tables.stations; heard = remembers_ended core.heard t k ByPeer follows.tables.heard };
+    tables = record { window = follows.tables.window; stations = follows.tables.stations; heard = remembers_ended core.heard t k ByPeer follows.tables.heard };
     took = follows.took;
     totals = follows.totals;
   }
@@ -871,8 +910,8 @@ module _ (s : Setting) (core : CoreSeen) (t : Trace) (follows : Follows s core t
             ∙ ap (map (link_seen s now)) (sym (live_after reason ks t))
             ∙ ap (λ stopped. map (link_seen s now) (stopped ++ live_links now)) (sym (going_after reason none ks t ∙ going));
         tables = record {
-          accepted = follows.tables.accepted ∙ sym (accepted_after reason ks t);
-          stations = subst (Agrees core.stations) (sym (accepted_after reason ks t)) follows.tables.stations;
+          window = same_window s core t follows (end_each reason ks t) (moment_after reason ks t) (accepted_after reason ks t);
+          stations = same_stations s core t follows (end_each reason ks t) (moment_after reason ks t) (accepted_after reason ks t);
           heard = remembers_all_ended reason ks core.heard t follows.tables.heard;
         };
         took = took_after s reason ks t follows.took;
@@ -931,8 +970,8 @@ module _ (s : Setting) (core : CoreSeen) (t : Trace) (follows : Follows s core t
             ∙ ap (λ live. (stopped_links t ++ live_links t) ++ live) (live_after stops (live_links t) t ∙ left_none (live_links t))
             ∙ append-nil (stopped_links t ++ live_links t)));
         tables = record {
-          accepted = follows.tables.accepted ∙ sym (accepted_after stops (live_links t) t);
-          stations = subst (Agrees core.stations) (sym (accepted_after stops (live_links t) t)) follows.tables.stations;
+          window = same_window s core t follows (end_each stops (live_links t) t) (moment_after stops (live_links t) t) (accepted_after stops (live_links t) t);
+          stations = same_stations s core t follows (end_each stops (live_links t) t) (moment_after stops (live_links t) t) (accepted_after stops (live_links t) t);
           heard = remembers_all_ended stops (live_links t) core.heard t follows.tables.heard;
         };
         took = took_after s stops (live_links t) t follows.took;

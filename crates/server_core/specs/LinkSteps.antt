@@ -11,7 +11,9 @@ use Rattle.filter_eval.specs.Passes.{fresh, is_some_and, is_text, is_young, pass
 use Rattle.filter_eval.specs.declared.seen.Seen.{Seen}
 use Rattle.station_table.specs.Stations.{StationsSeen, gate_at, place_at, seen_in}
 use Rattle.station_table.specs.Stations as station
-use Rattle.heard_routing.specs.Heard.{HeardSeen, courtesies, is_among, noted, promised, receivers, without_link, without_promises}
+use Rattle.heard_routing.specs.Heard.{HeardSeen, courtesies, is_among, noted, promised, receivers, recent, without_link, without_promises}
+use Rattle.dupe_window.specs.Keys.{key_of}
+use Rattle.dupe_window.specs.Windows.{expired, with_key}
 use Rattle.aprs_history.specs.declared.verdicts.FilterAnswer.{FilterAnswer}
 use Rattle.aprs_history.specs.declared.verdicts.FilterAnswer.TheVariants.{Active, Denied}
 use Rattle.aprs_history.specs.declared.verdicts.Session.{Session}
@@ -117,6 +119,16 @@ with_places packet link = with_seen packet.parts.source (seen_in packet) link
 -- positions that count no more are let go
 abbrev pub at_moment : ℕ → LinkSeen → LinkSeen
 at_moment now link = record link { friends = map (fresh now) link.friends; mine = fresh now link.mine }
+
+-- what is kept when the moment has risen: nothing that is too old by then
+abbrev pub passed : ℕ → CoreSeen → CoreSeen
+passed now core = record core {
+  moment = now;
+  links = map (at_moment now) core.links;
+  window = expired now core.window;
+  stations = station.young now core.stations;
+  heard = recent now core.heard;
+}
 
 abbrev pub number_of : LinkSeen → ℕ
 number_of link = link.link
@@ -442,7 +454,7 @@ takers_in core packet = filter (takes_packet packet (source_found core packet.fr
 abbrev pub after_packet : List Peer → PacketSeen → CoreSeen → CoreSeen
 after_packet peers packet core = record core {
   links = map (with_packet packet (source_found core packet.from packet.parts.source) (hearers_in core packet) (owed_in core packet)) core.links;
-  accepted = core.accepted ++ packet ∷ [];
+  window = with_key (key_of packet.parts) packet.moment core.window;
   stations = station.noted packet core.stations;
   heard = heard_with packet core;
   reach = record core.reach { casts = cast_with peers packet core };

@@ -5,6 +5,7 @@ use Rattle.aprs_base.specs.declared.events.Event.{Event}
 use Rattle.aprs_history.specs.Trace.{Trace, stopped_links}
 use Rattle.aprs_history.specs.declared.verdicts.Verdict.{Verdict}
 use Rattle.aprs_base.specs.declared.packets.Source.{Source}
+use Rattle.dupe_window.specs.Windows.{has_copy}
 use Rattle.q_construct.specs.declared.origins.Origin.{Origin}
 use Rattle.aprs_history.specs.Verdicts.{Carrier, Scene}
 use Rattle.aprs_history.specs.History.{greater_link, is_stop}
@@ -35,8 +36,7 @@ scene_at core number = record {
   server = core.conf.server;
   speaker = speaker_at number core.seen.links;
   others = others_at number core.seen.links;
-  moment = core.seen.moment;
-  accepted = core.seen.accepted;
+  copies = has_copy core.seen.moment core.seen.window;
 }
 
 -- what a line of a datagram meets
@@ -45,8 +45,7 @@ carried_at origin core = record {
   server = core.conf.server;
   speaker = Carrier origin;
   others = logins_at core.seen.links;
-  moment = core.seen.moment;
-  accepted = core.seen.accepted;
+  copies = has_copy core.seen.moment core.seen.window;
 }
 
 -- the core after a verdict on what was said

@@ -32,8 +32,9 @@ use crate::conf::uplink_timeout;
 use crate::link::Link;
 use crate::links::{lose, offer, take};
 use crate::reach::Reach;
-use aprs_base::{Event, JournalLine, Memory, Packet, Totals};
+use aprs_base::{Event, JournalLine, Memory, Totals};
 use aprs_conf::Conf;
+use dupe_window::Window;
 use heard_routing::Heard;
 use station_table::Stations;
 use std::alloc::Global;
@@ -43,6 +44,9 @@ use std::thread::Threads;
 
 /// The most bytes of one offer.
 const MOST_OFFERED: usize = 65_536;
+
+/// For how many seconds a packet is taken as a copy of one that was accepted.
+const DUPLICATE_SECONDS: u32 = 30;
 
 /// What there is for other servers at first.
 fn reach_for(alloc: Global, conf: &Conf) -> Reach
@@ -69,8 +73,8 @@ pub struct Core {
     /// The links that were turned away in this round, and those that ended in it and are to be closed, both rising.
     turned: Vec<u32>,
     closing: Vec<u32>,
-    /// All packets that were accepted, in order.
-    accepted: Vec<Packet>,
+    /// The packets that were accepted a short while ago.
+    window: Window,
     /// Where stations were last seen, and which are gates.
     stations: Stations,
     /// Which stations each link heard, and whose next positions links are owed.
@@ -88,9 +92,9 @@ impl Model for Core {
 
     ghost Value = { CoreMeaning };
 
-    ghost view = { λ c. record { conf = c.conf; seen = record { moment = c.moment; links = c.links.items; turned = c.turned.items; closing = c.closing.items; accepted = c.accepted.items; stations = c.stations; heard = c.heard; reach = c.reach; greatest = c.greatest; stopped = c.stopped; totals = c.totals } } };
+    ghost view = { λ c. record { conf = c.conf; seen = record { moment = c.moment; links = c.links.items; turned = c.turned.items; closing = c.closing.items; window = c.window; stations = c.stations; heard = c.heard; reach = c.reach; greatest = c.greatest; stopped = c.stopped; totals = c.totals } } };
 
-    ghost invariant = { λ c. IsKept (record { conf = c.conf; seen = record { moment = c.moment; links = c.links.items; turned = c.turned.items; closing = c.closing.items; accepted = c.accepted.items; stations = c.stations; heard = c.heard; reach = c.reach; greatest = c.greatest; stopped = c.stopped; totals = c.totals } }) };
+    ghost invariant = { λ c. IsKept (record { conf = c.conf; seen = record { moment = c.moment; links = c.links.items; turned = c.turned.items; closing = c.closing.items; window = c.window; stations = c.stations; heard = c.heard; reach = c.reach; greatest = c.greatest; stopped = c.stopped; totals = c.totals } }) };
 }
 
 impl Core {
@@ -119,7 +123,7 @@ impl Core {
             links: Vec::new(alloc),
             turned: Vec::new(alloc),
             closing: Vec::new(alloc),
-            accepted: Vec::new(alloc),
+            window: Window::new(alloc, *hasher, DUPLICATE_SECONDS),
             stations: Stations::new(alloc, hasher)?,
             heard: Heard::new(alloc, hasher)?,
             reach,

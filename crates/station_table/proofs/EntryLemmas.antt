@@ -33,24 +33,6 @@ module _ {K X : Type 0} (eq : K → K → Bool) (k : K) where
   abbrev pub is_of : K × X → Bool
   is_of e = eq k e.0
 
-  first_value : (d : K × X) (es : List (K × X)) → position_or_len is_of es < length es → lookup (eq k) es ≡ Some (get_or es (position_or_len is_of es) d).1
-  first_value d [] h = absurd (omega arith)
-  first_value d (e ∷ es) h = by (first_value d es) (eq k e.0) refl h
-    where
-      by : (position_or_len is_of es < length es → lookup (eq k) es ≡ Some (get_or es (position_or_len is_of es) d).1) → (b : Bool) → eq k e.0 ≡ b
-          → cond (not b) (1 + position_or_len is_of es) 0 < length (e ∷ es)
-          → cond (eq k e.0) (Some e.1) (lookup (eq k) es) ≡ Some (get_or (e ∷ es) (cond (not (eq k e.0)) (1 + position_or_len is_of es) 0) d).1
-      by rest true is h = rw is refl
-      by rest false is h = rw is (rest (omega arith) ∙ ap (λ p. Some p.1) (sym (get_or_next e es (position_or_len is_of es) d)))
-
-  no_value : (es : List (K × X)) → length es ≤ position_or_len is_of es → lookup (eq k) es ≡ None
-  no_value [] h = refl
-  no_value (e ∷ es) h = by (no_value es) (eq k e.0) refl h
-    where
-      by : (length es ≤ position_or_len is_of es → lookup (eq k) es ≡ None) → (b : Bool) → eq k e.0 ≡ b → length (e ∷ es) ≤ cond (not b) (1 + position_or_len is_of es) 0 → cond (eq k e.0) (Some e.1) (lookup (eq k) es) ≡ None
-      by rest true is h = absurd (omega arith)
-      by rest false is h = rw is (rest (omega arith))
-
   first_set : (v : X) (d : K × X) (es : List (K × X)) → position_or_len is_of es < length es
       → set es (position_or_len is_of es) ((get_or es (position_or_len is_of es) d).0, v) ≡ insert_entry eq es k v
   first_set v d [] h = absurd (omega arith)
@@ -73,15 +55,6 @@ module _ {K X : Type 0} (eq : K → K → Bool) (k : K) where
           → e ∷ (es ++ (k, v) ∷ []) ≡ cond (eq k e.0) ((e.0, v) ∷ es) (e ∷ insert_entry eq es k v)
       by rest true is h = absurd (omega arith)
       by rest false is h = rw is (ap (λ l. e ∷ l) (rest (omega arith)))
-
-  -- what a look-up gives, by the place of the key
-  pub lookup_there : (d : K × X) (es : List (K × X)) (i : ℕ) → Some i ≡ position is_of es → Some (get_or es i d).1 ≡ lookup (eq k) es
-  lookup_there d es i h =
-      let place = place_within is_of es i (sym h) in
-      ap (λ n. Some (get_or es n d).1) (sym place.0) ∙ sym (first_value d es (subst (λ n. n < length es) (sym place.0) place.1))
-
-  pub lookup_nowhere : (es : List (K × X)) → None ≡ position is_of es → None ≡ lookup (eq k) es
-  lookup_nowhere es h = sym (no_value es (place_past is_of es (sym h)))
 
   -- what setting leaves, by the place of the key
   pub set_there : (v : X) (e : K × X) (es : List (K × X)) (i : ℕ) → Some i ≡ position is_of es → e ≡ get_or es i e → set es i (e.0, v) ≡ insert_entry eq es k v

@@ -1,32 +1,19 @@
 -- A table of stations keeps the last that packets told of each call.
-use Rattle.std.proofs.Common.{◌≡◌, ℕ, ◌-◌, ◌≤◌, ◌<◌, Bool, true, false, cond, filter, List, [], ◌∷◌, ◌++◌, Option, Some, None, Result, Ok, Err, OnOk, refl, sym, ap, ◌∙◌, subst, arith, true≢false}
-use Rattle.std.specs.List.{IsDistinct}
+use Rattle.std.proofs.Common.{◌≡◌, ℕ, ◌-◌, ◌≤◌, ◌<◌, Bool, true, false, cond, List, [], ◌∷◌, ◌++◌, Option, Some, None, option_map, is_some, Result, Ok, Err, OnOk, refl, sym, ap, ◌∙◌, subst, arith, true≢false}
 use Rattle.std.specs.Map.{lookup}
 use Rattle.std.specs.declared.random_state.RandomState.{RandomState}
 use Rattle.std.proofs.lemmas.Bool.{ltb-true, ltb-false}
 use Rattle.std.proofs.lemmas.Cmp.{nat_list_eq_equiv}
 use Rattle.std.proofs.lemmas.Map.Entries.{lookup-filter-values, option_filter}
-use Rattle.std.proofs.lemmas.Map.Made.{IsDistinct-keys_filter}
 use Rattle.aprs_base.specs.PacketSeen.{PacketSeen}
-use Rattle.filter_eval.specs.Passes.{fresh, is_some_and, is_text, is_young, position_age}
+use Rattle.aprs_base.specs.declared.packets.Place.{Place}
+use Rattle.aprs_body.specs.Classes.{position_bit}
+use Rattle.filter_eval.specs.Passes.{fresh, has_class, is_some_and, is_text, is_young, position_age}
 use Rattle.filter_eval.specs.declared.seen.Seen.{Seen}
-use Rattle.indexmap.specs.IndexMap.{insert_entry}
 use Rattle.station_table.specs.Entries.{HasEachOnce}
-use Rattle.station_table.specs.Last.{Agrees, AgreesAt, fresh_gate, gate_by, last_gate, last_place, last_told, later_or, place_by}
-use Rattle.station_table.specs.Stations.{StationsSeen, gate_at, gate_in, no_stations, noted, place_at, put_gate, put_place, seen_in, young}
-use Rattle.station_table.proofs.EntryLemmas.{distinct_set, lookup_set}
-
--- ---- no call stands twice
-
-pub once_none : {T : Type 0} (entries : List (List ℕ × T)) → entries ≡ [] → HasEachOnce entries
-unfolding IsDistinct
-once_none {T} entries is = subst (HasEachOnce {T = T}) (sym is) tt
-
-pub once_set : {T : Type 0} (call : List ℕ) (value : T) (entries new : List (List ℕ × T)) → new ≡ insert_entry is_text entries call value → HasEachOnce entries → HasEachOnce new
-once_set call value entries new is once = subst HasEachOnce (sym is) (distinct_set nat_list_eq_equiv call value entries once)
-
-pub once_filtered : {T : Type 0} (test : List ℕ × T → Bool) (entries new : List (List ℕ × T)) → new ≡ filter test entries → HasEachOnce entries → HasEachOnce new
-once_filtered test entries new is once = subst HasEachOnce (sym is) (IsDistinct-keys_filter is_text test entries once)
+use Rattle.station_table.specs.Last.{Agrees, AgreesAt, HasExactly, fresh_gate, gate_by, last_gate, last_place, last_told, later_or, place_by}
+use Rattle.station_table.specs.Stations.{StationsSeen, gate_at, gate_in, no_stations, noted, place_at, put_gate, put_place, seen_at, seen_in, young}
+use Rattle.station_table.proofs.EntryLemmas.{lookup_set}
 
 -- ---- the later of two
 
@@ -153,6 +140,19 @@ place_young now table call once = lookup-filter-values nat_list_eq_equiv (λ see
 pub gate_young : (now : ℕ) (table : StationsSeen) (call : List ℕ) → HasEachOnce table.gates → gate_at (young now table) call ≡ fresh_gate now (gate_at table call)
 gate_young now table call once = lookup-filter-values nat_list_eq_equiv (is_young now) call table.gates once ∙ fresh_gate_is now (gate_at table call)
 
+-- whether a call is a gate, by what the packets told
+was_gate : (now : ℕ) (o : Option ℕ) → is_some_and (is_young now) o ≡ is_some (fresh_gate now o)
+was_gate now None = refl
+was_gate now (Some moment) = by (is_young now moment)
+  where
+    by : (young : Bool) → young ≡ is_some (cond young (Some moment) None)
+    by true = refl
+    by false = refl
+
+pub gate_told : (now : ℕ) (table : StationsSeen) (packets : List PacketSeen) (call : List ℕ) → AgreesAt now table packets
+    → is_some_and (is_young now) (gate_at table call) ≡ is_some_and (is_young now) (last_gate packets call)
+gate_told now table packets call agrees = was_gate now (gate_at table call) ∙ ap is_some (agrees.gate call) ∙ sym (was_gate now (last_gate packets call))
+
 -- what agreed at an earlier moment
 pub agrees_later : (before now : ℕ) (table : StationsSeen) (packets : List PacketSeen) → before ≤ now → AgreesAt before table packets → AgreesAt now table packets
 agrees_later before now table packets h agrees = record {
@@ -169,4 +169,76 @@ young_agrees_at before now table packets places gates h agrees =
     let here : now ≤ now = omega arith in record {
       place = λ call. ap (fresh now) (place_young now table call places) ∙ fresh_again now now (place_at table call) here ∙ later.place call;
       gate = λ call. ap (fresh_gate now) (gate_young now table call gates) ∙ fresh_gate_again now now (gate_at table call) here ∙ later.gate call;
+    }
+
+-- ---- exactly what is younger than two days
+
+young_at_once : (now : ℕ) → is_young now now ≡ true
+young_at_once now = by (is_young now now) refl
+  where
+    by : (b : Bool) → is_young now now ≡ b → b ≡ true
+    by true is = refl
+    by false is = let old : position_age ≤ now - now = ltb-false _ _ is in absurd (omega arith)
+
+-- what a packet tells has the packet's moment, at which it is young
+place_by_young : (call : List ℕ) (packet : PacketSeen) → fresh packet.moment (place_by call packet) ≡ place_by call packet
+place_by_young call packet = by (is_text call packet.parts.source) (has_class packet.body.class position_bit) packet.body.place
+  where
+    by : (named positioned : Bool) (place : Option Place)
+        → fresh packet.moment (cond named (cond positioned (option_map (seen_at packet.moment) place) None) None) ≡ cond named (cond positioned (option_map (seen_at packet.moment) place) None) None
+    by false positioned place = refl
+    by true false place = refl
+    by true true None = refl
+    by true true (Some place) = rw (young_at_once packet.moment) refl
+
+gate_by_young : (call : List ℕ) (packet : PacketSeen) → fresh_gate packet.moment (gate_by call packet) ≡ gate_by call packet
+gate_by_young call packet = by (is_some_and (is_text call) (gate_in packet.parts))
+  where
+    by : (named : Bool) → fresh_gate packet.moment (cond named (Some packet.moment) None) ≡ cond named (Some packet.moment) None
+    by false = refl
+    by true = rw (young_at_once packet.moment) refl
+
+fresh_or_later : (now : ℕ) (a o : Option Seen) → fresh now o ≡ o → later_or (fresh now a) o ≡ fresh now (later_or a o)
+fresh_or_later now a None young = refl
+fresh_or_later now a (Some seen) young = sym young
+
+fresh_gate_or_later : (now : ℕ) (a o : Option ℕ) → fresh_gate now o ≡ o → later_or (fresh_gate now a) o ≡ fresh_gate now (later_or a o)
+fresh_gate_or_later now a None young = refl
+fresh_gate_or_later now a (Some moment) young = sym young
+
+pub new_exactly : (now : ℕ) (hasher : RandomState) → HasExactly now (no_stations hasher) []
+new_exactly now hasher = record { place = λ call. refl; gate = λ call. refl }
+
+-- a packet of this moment comes to a table that has exactly the last
+pub note_exactly : (now : ℕ) (table : StationsSeen) (packets : List PacketSeen) (packet : PacketSeen) → packet.moment ≡ now → HasExactly now table packets
+    → HasExactly now (noted packet table) (packets ++ packet ∷ [])
+note_exactly now table packets packet is exactly = record {
+  place = λ call.
+      place_noted table packet call ∙ ap (λ o. later_or o (place_by call packet)) (exactly.place call)
+      ∙ fresh_or_later now (last_place packets call) (place_by call packet) (subst (λ m. fresh m (place_by call packet) ≡ place_by call packet) is (place_by_young call packet))
+      ∙ ap (fresh now) (sym (told_more (place_by call) packets packet));
+  gate = λ call.
+      gate_noted table packet call ∙ ap (λ o. later_or o (gate_by call packet)) (exactly.gate call)
+      ∙ fresh_gate_or_later now (last_gate packets call) (gate_by call packet) (subst (λ m. fresh_gate m (gate_by call packet) ≡ gate_by call packet) is (gate_by_young call packet))
+      ∙ ap (fresh_gate now) (sym (told_more (gate_by call) packets packet));
+}
+
+pub note_goes_on_exactly : {A E : Type 0} (result : Result A E) (now : ℕ) (old new : StationsSeen) (packet : PacketSeen) (packets : List PacketSeen)
+    → OnOk result (new ≡ noted packet old) → packet.moment ≡ now → HasExactly now old packets → OnOk result (HasExactly now new (packets ++ packet ∷ []))
+note_goes_on_exactly (Ok x) now old new packet packets noted_is is exactly =
+    subst (λ table. HasExactly now table (packets ++ packet ∷ [])) (sym noted_is) (note_exactly now old packets packet is exactly)
+note_goes_on_exactly (Err e) now old new packet packets noted_is is exactly = tt
+
+pub young_exactly : (before now : ℕ) (table : StationsSeen) (packets : List PacketSeen) → HasEachOnce table.places → HasEachOnce table.gates → before ≤ now
+    → HasExactly before table packets → HasExactly now (young now table) packets
+young_exactly before now table packets places gates h exactly = record {
+  place = λ call. place_young now table call places ∙ ap (fresh now) (exactly.place call) ∙ fresh_again before now (last_place packets call) h;
+  gate = λ call. gate_young now table call gates ∙ ap (fresh_gate now) (exactly.gate call) ∙ fresh_gate_again before now (last_gate packets call) h;
+}
+
+pub exactly_agrees : (now : ℕ) (table : StationsSeen) (packets : List PacketSeen) → HasExactly now table packets → AgreesAt now table packets
+exactly_agrees now table packets exactly =
+    let here : now ≤ now = omega arith in record {
+      place = λ call. ap (fresh now) (exactly.place call) ∙ fresh_again now now (last_place packets call) here;
+      gate = λ call. ap (fresh_gate now) (exactly.gate call) ∙ fresh_gate_again now now (last_gate packets call) here;
     }

@@ -44,3 +44,8 @@ fresh_gate now (Some moment) = if is_young now moment then Some moment else None
 pub record AgreesAt (now : ℕ) (table : StationsSeen) (packets : List PacketSeen) : Type 0 where
   pub place : (call : List ℕ) → fresh now (place_at table call) ≡ fresh now (last_place packets call)
   pub gate : (call : List ℕ) → fresh_gate now (gate_at table call) ≡ fresh_gate now (last_gate packets call)
+
+-- a table has exactly the last that these packets told, as far as that is younger than two days, and nothing else
+pub record HasExactly (now : ℕ) (table : StationsSeen) (packets : List PacketSeen) : Type 0 where
+  pub place : (call : List ℕ) → place_at table call ≡ fresh now (last_place packets call)
+  pub gate : (call : List ℕ) → gate_at table call ≡ fresh_gate now (last_gate packets call)

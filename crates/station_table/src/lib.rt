@@ -1,7 +1,6 @@
 //! Where stations were last seen, and which stations are gates.
 #![tactic(auto)]
 
-mod entries;
 mod stations;
 #[cfg(test)]
 mod tests;

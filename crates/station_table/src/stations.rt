@@ -1,15 +1,15 @@
 //! The table of stations.
 ghost use Rattle.std.specs.Prelude.{◌≡◌, ℕ, ◌≤◌, ◌⊎◌, List, [], ◌∷◌, ◌++◌, filter, option_map, OnOk, OnErr, IfOk};
-ghost use Rattle.filter_eval.specs.Passes.{fresh, is_some_and, is_young, third};
+ghost use Rattle.filter_eval.specs.Passes.{fresh, is_some_and, is_text, is_young, third};
 ghost use Rattle.aprs_base.specs.PacketSeen.{PacketSeen};
-ghost use Rattle.station_table.specs.Entries.{HasEachOnce};
-ghost use Rattle.station_table.specs.Last.{Agrees, AgreesAt, last_gate, last_place};
+ghost use Rattle.indexmap.specs.IndexMap.{hasher_of, IsUnchanged, IsUnique};
+ghost use Rattle.station_table.specs.Last.{Agrees, AgreesAt, HasExactly, last_gate, last_place};
 ghost use Rattle.station_table.specs.Stations.{gate_at, gate_in, is_gate_letter, is_young_gate, is_young_place, noted, no_stations, place_at, put_gate, put_place, seen_in, with_place, young};
 
-use crate::entries::{lookup, set};
-use aprs_base::{Call, Memory, Packet, Parts};
+use aprs_base::{Call, Memory, Packet, Parts, copy_call};
 use aprs_body::class;
 use filter_eval::{Seen, is_young};
+use indexmap::IndexMap;
 use std::alloc::Global;
 use std::hash::RandomState;
 use std::marker::Model;
@@ -18,20 +18,21 @@ use tnc2_line::construct;
 /// Where stations were last seen, and when stations were last gates.
 #[derive(Drop)]
 pub struct Stations {
-    places: Vec<(Call, Seen)>,
-    gates: Vec<(Call, u64)>,
-    hasher: RandomState,
+    places: IndexMap<Call, Seen, RandomState>,
+    gates: IndexMap<Call, u64, RandomState>,
 }
 
 impl Model for Stations {
-    ghost use Rattle.station_table.specs.Entries.{HasEachOnce};
+    ghost use Rattle.std.specs.Prelude.{◌≡◌};
+    ghost use Rattle.indexmap.specs.IndexMap.{hasher_of, IsUnique};
+    ghost use Rattle.filter_eval.specs.Passes.{is_text};
     ghost use Rattle.station_table.specs.Stations.{StationsSeen};
 
     ghost Value = { StationsSeen };
 
-    ghost view = { λ s. record { places = s.places.items; gates = s.gates.items; hasher = s.hasher } };
+    ghost view = { λ s. record { places = s.places.entries; gates = s.gates.entries; hasher = hasher_of s.places } };
 
-    ghost invariant = { λ s. HasEachOnce s.places.items × HasEachOnce s.gates.items };
+    ghost invariant = { λ s. IsUnique is_text s.places × IsUnique is_text s.gates × (hasher_of s.gates ≡ hasher_of s.places) };
 }
 
 /// Where an accepted packet says that its source is: a position with a place.
@@ -67,52 +68,56 @@ fn gate_in(parts: &Parts) -> Option<&Call>
     vias.get(place + 1).map(|via| &via.call)
 }
 
-fn note_place(places: &mut Vec<(Call, Seen)>, packet: &Packet) -> Result<(), Memory>
-    ensures ok { OnOk result (places.new.items ≡ put_place packet.now.parts.source (seen_in packet.now) places.old.items) }
-    ensures err { OnErr result (places.new.items ≡ places.old.items) }
-    ensures once { HasEachOnce places.old.items → HasEachOnce places.new.items }
+fn note_place(places: &mut IndexMap<Call, Seen, RandomState>, packet: &Packet) -> Result<(), Memory>
+    ensures ok { OnOk result (places.new.entries ≡ put_place packet.now.parts.source (seen_in packet.now) places.old.entries) }
+    ensures err { OnErr result (IsUnchanged places.old places.new) }
+    ensures unique { IsUnique is_text places.old → IsUnique is_text places.new }
+    ensures hasher { hasher_of places.new ≡ hasher_of places.old }
 {
-    match seen_in(packet) {
-        Some(seen) => set(places, &packet.parts.source, seen),
-        None => Ok(()),
+    if let Some(seen) = seen_in(packet) {
+        places.insert(copy_call(&packet.parts.source), seen)?;
     }
+    Ok(())
 }
 
-fn note_gate(gates: &mut Vec<(Call, u64)>, packet: &Packet) -> Result<(), Memory>
-    ensures ok { OnOk result (gates.new.items ≡ put_gate (gate_in packet.now.parts) packet.now.moment gates.old.items) }
-    ensures err { OnErr result (gates.new.items ≡ gates.old.items) }
-    ensures once { HasEachOnce gates.old.items → HasEachOnce gates.new.items }
+fn note_gate(gates: &mut IndexMap<Call, u64, RandomState>, packet: &Packet) -> Result<(), Memory>
+    ensures ok { OnOk result (gates.new.entries ≡ put_gate (gate_in packet.now.parts) packet.now.moment gates.old.entries) }
+    ensures err { OnErr result (IsUnchanged gates.old gates.new) }
+    ensures unique { IsUnique is_text gates.old → IsUnique is_text gates.new }
+    ensures hasher { hasher_of gates.new ≡ hasher_of gates.old }
 {
-    match gate_in(&packet.parts) {
-        Some(gate) => set(gates, gate, packet.moment),
-        None => Ok(()),
+    if let Some(gate) = gate_in(&packet.parts) {
+        gates.insert(copy_call(gate), packet.moment)?;
     }
+    Ok(())
 }
 
-fn keep_young_places(places: &mut Vec<(Call, Seen)>, now: u64)
-    ensures kept { places.new.items ≡ filter (is_young_place now) places.old.items }
-    ensures once { HasEachOnce places.old.items → HasEachOnce places.new.items }
+fn keep_young_places(places: &mut IndexMap<Call, Seen, RandomState>, now: u64)
+    ensures kept { places.new.entries ≡ filter (is_young_place now) places.old.entries }
+    ensures unique { IsUnique is_text places.new }
+    ensures hasher { hasher_of places.new ≡ hasher_of places.old }
 {
-    places.retain(|entry| entry.1.is_fresh(now));
+    places.retain(|_, seen| seen.is_fresh(now));
 }
 
-fn keep_young_gates(gates: &mut Vec<(Call, u64)>, now: u64)
-    ensures kept { gates.new.items ≡ filter (is_young_gate now) gates.old.items }
-    ensures once { HasEachOnce gates.old.items → HasEachOnce gates.new.items }
+fn keep_young_gates(gates: &mut IndexMap<Call, u64, RandomState>, now: u64)
+    ensures kept { gates.new.entries ≡ filter (is_young_gate now) gates.old.entries }
+    ensures unique { IsUnique is_text gates.new }
+    ensures hasher { hasher_of gates.new ≡ hasher_of gates.old }
 {
-    gates.retain(|entry| is_young(entry.1, now));
+    gates.retain(|_, moment| is_young(*moment, now));
 }
 
 impl Stations {
-    /// No station was seen. The table has a clone of the hasher.
+    /// No station was seen. Each map has a copy of the hasher.
     pub fn new(alloc: Global, hasher: &RandomState) -> Result<Stations, Memory>
         ensures empty { IfOk result (λ table. table ≡ no_stations hasher.now) }
         ensures last { IfOk result (λ table. Agrees table []) }
+        ensures exactly { (now : ℕ) → IfOk result (λ table. HasExactly now table []) }
     {
         Ok(Stations {
-            places: Vec::new(alloc),
-            gates: Vec::new(alloc),
-            hasher: *hasher,
+            places: IndexMap::with_hasher(alloc, *hasher),
+            gates: IndexMap::with_hasher(alloc, *hasher),
         })
     }
 
@@ -123,6 +128,8 @@ impl Stations {
         // The table goes on to have the last that the packets told, this one after the others.
         ensures last { (packets : List PacketSeen) → Agrees self.old packets → OnOk result (Agrees self.new (packets ++ packet.now ∷ [])) }
         ensures last_at { (moment : ℕ) (packets : List PacketSeen) → AgreesAt moment self.old packets → OnOk result (AgreesAt moment self.new (packets ++ packet.now ∷ [])) }
+        // A table with exactly those of less than two days before the packet's moment goes on to be one.
+        ensures exactly { (now : ℕ) (packets : List PacketSeen) → packet.now.moment ≡ now → HasExactly now self.old packets → OnOk result (HasExactly now self.new (packets ++ packet.now ∷ [])) }
         ensures err { OnErr result ((self.new ≡ self.old) ⊎ (self.new ≡ with_place packet.now self.old)) }
     {
         note_place(&mut self.places, packet)?;
@@ -135,8 +142,10 @@ impl Stations {
         // Its last position.
         ensures last { (packets : List PacketSeen) → AgreesAt now self.now packets → result ≡ fresh now (last_place packets call.now) }
     {
-        let seen = lookup(self.places.as_slice(), call)?;
-        if seen.is_fresh(now) { Some(seen) } else { None }
+        self.places
+            .get(call)
+            .copied()
+            .filter(|seen| seen.is_fresh(now))
     }
 
     /// Whether the call was a gate less than two days before `now`, which is in seconds.
@@ -144,16 +153,16 @@ impl Stations {
         ensures exact { result ≡ is_some_and (is_young now) (gate_at self.now call.now) }
         ensures last { (packets : List PacketSeen) → AgreesAt now self.now packets → result ≡ is_some_and (is_young now) (last_gate packets call.now) }
     {
-        match lookup(self.gates.as_slice(), call) {
-            Some(moment) => is_young(moment, now),
-            None => false,
-        }
+        self.gates
+            .get(call)
+            .is_some_and(|moment| is_young(*moment, now))
     }
 
     /// Forgets what is two days old or older at `now`, which is in seconds.
     pub fn expire(&mut self, now: u64)
         ensures kept { self.new ≡ young now self.old }
         ensures last_at { (before : ℕ) (packets : List PacketSeen) → before ≤ now → AgreesAt before self.old packets → AgreesAt now self.new packets }
+        ensures exactly { (before : ℕ) (packets : List PacketSeen) → before ≤ now → HasExactly before self.old packets → HasExactly now self.new packets }
     {
         keep_young_places(&mut self.places, now);
         keep_young_gates(&mut self.gates, now);

@@ -1,6 +1,7 @@
 //! What an accepted packet comes to.
-ghost use Rattle.std.specs.Prelude.{◌≡◌, IfOk, OnOk, map};
+ghost use Rattle.std.specs.Prelude.{◌≡◌, IfOk, OnOk, false, map};
 ghost use Rattle.std.specs.Arc.{arc_value};
+ghost use Rattle.dupe_window.specs.Windows.{has_copy};
 ghost use Rattle.aprs_history.specs.Scenes.{packet_of};
 ghost use Rattle.aprs_history.specs.declared.verdicts.Verdict.{Verdict};
 ghost use Rattle.server_core.specs.LinkSteps.{after_packet, cast_with, noted_from, owed_in, promised_all, source_found, spent, submitted_from};
@@ -15,6 +16,7 @@ use crate::messages::{hearers_of, is_position, note_from, owed_to, promise_all, 
 use aprs_base::{Line, Memory, Packet, Parts, Source};
 use aprs_body::classify;
 use aprs_history::Verdict;
+use dupe_window::Key;
 use std::alloc::Global;
 use std::sync::Arc;
 
@@ -101,6 +103,8 @@ impl Core {
 
     /// An accepted packet goes to the links that want it and to the peers, tells where its source is, is counted, and is kept.
     fn keep(&mut self, alloc: Global, packet: Packet) -> Result<(), Memory>
+        requires now { packet.moment ≡ self.old.seen.moment }
+        requires new { has_copy self.old.seen.moment self.old.seen.window packet.parts ≡ false }
         ensures { OnOk result (self.new ≡ record self.old { seen = after_packet (map peer_of self.old.conf.peers) packet self.old.seen }) }
     {
         let source = self.source_of(&packet);
@@ -119,7 +123,8 @@ impl Core {
         self.totals.accepted = raised(self.totals.accepted, 1);
         self.totals.queued = raised(self.totals.queued, takers);
         self.stations.note(alloc, &packet)?;
-        self.accepted.push(packet)?;
+        self.window
+            .insert(Key::of(&packet.parts), packet.moment)?;
         Ok(())
     }
 
@@ -131,6 +136,7 @@ impl Core {
         parts: Parts,
         line: Line,
     ) -> Result<(), Memory>
+        requires new { has_copy self.old.seen.moment self.old.seen.window parts ≡ false }
         ensures { OnOk result (self.new ≡ with_verdict from (Verdict.Accepted parts line) self.old) }
     {
         let line = Arc::new(alloc, line)?;

@@ -1,7 +1,11 @@
 //! What a tick brings: the moment, the date, a dial.
-ghost use Rattle.std.specs.Prelude.{◌∷◌, OnOk};
+ghost use Rattle.std.specs.Prelude.{◌≡◌, ◌≤◌, ◌∷◌, List, OnOk};
+ghost use Rattle.aprs_base.specs.PacketSeen.{PacketSeen};
+ghost use Rattle.station_table.specs.Last.{HasExactly};
+ghost use Rattle.station_table.specs.Stations.{young};
 ghost use Rattle.aprs_history.specs.Trace.{Trace, Looked, Ticked};
 ghost use Rattle.aprs_history.specs.History.{dated, with_tick};
+ghost use Rattle.server_core.specs.LinkSteps.{passed};
 ghost use Rattle.server_core.specs.Meaning.{setting_of};
 ghost use Rattle.server_core.specs.Steps.{SameRest, Walks};
 ghost use Rattle.server_core.specs.Telling.{Tells};
@@ -21,13 +25,28 @@ const LAST_MOMENT: u64 = 253_402_300_799;
 const COMMENT_SECONDS: u64 = 20;
 
 impl Core {
-    /// The moment goes on.
+    /// The moment has risen: what is too old by now is let go.
+    fn pass(&mut self, now: u64)
+        requires { self.old.seen.moment ≤ now }
+        ensures seen { self.new ≡ record self.old { seen = passed now self.old.seen } }
+        ensures sights { (packets : List PacketSeen) → HasExactly self.old.seen.moment self.old.seen.stations packets → HasExactly now (young now self.old.seen.stations) packets }
+    {
+        self.moment = now;
+        forget_places(&mut self.links, now);
+        self.window.expire(now);
+        self.stations.expire(now);
+        self.heard.expire(now);
+    }
+
+    /// The moment goes on. Within one second nothing grows older.
     fn go_on(&mut self, moment: u64)
         ensures walks { (t : Trace) → Walks self.old t → Walks self.new (Ticked moment ∷ t) }
         ensures rest { SameRest self.old self.new }
     {
-        self.moment = moment.min(LAST_MOMENT).max(self.moment);
-        forget_places(&mut self.links, self.moment);
+        let now = moment.min(LAST_MOMENT);
+        if self.moment < now {
+            self.pass(now);
+        }
     }
 
     /// The clients are told the date, where the moment has passed a border since.

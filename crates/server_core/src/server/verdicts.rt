@@ -2,6 +2,7 @@
 ghost use Rattle.std.specs.Prelude.{◌≡◌, IsTrue, IfOk};
 ghost use Rattle.q_construct.specs.Rule.{has_station};
 ghost use Rattle.tnc2_line.specs.Packet.{parts_of};
+ghost use Rattle.dupe_window.specs.Windows.{has_copy};
 ghost use Rattle.line_verdict.specs.Voices.{HasStation, line_verdict, voice_verdict};
 ghost use Rattle.aprs_history.specs.Verdicts.{packet_verdict, read_and_routed, verdict_of};
 ghost use Rattle.server_core.specs.Steps.{carried_at, scene_at};
@@ -19,14 +20,14 @@ impl Core {
     /// The verdict on a packet from there.
     fn judge_sent(&self, origin: &Origin, others: &[Call], line: &Line) -> Verdict
         requires { IsTrue (has_station origin.now) }
-        ensures { result ≡ packet_verdict self.now.seen.moment self.now.seen.accepted (read_and_routed self.now.conf.server origin.now others.now (parts_of line.now)) }
+        ensures { result ≡ packet_verdict (has_copy self.now.seen.moment self.now.seen.window) (read_and_routed self.now.conf.server origin.now others.now (parts_of line.now)) }
     {
         judge_packet(
             server_of(&self.conf),
             origin,
             others,
             self.moment,
-            self.accepted.as_slice(),
+            &self.window,
             line,
         )
     }

@@ -1,11 +1,11 @@
-use Rattle.std.proofs.Common.{◌≡◌, ◌⊎◌, map, sym, ◌∙◌, subst}
+use Rattle.std.proofs.Common.{◌≡◌, ◌⊎◌, ap, map, sym, ◌∙◌, subst}
 use Rattle.std.specs.Prelude.{string_bytes}
 use Rattle.aprs_history.specs.Runs.{AppendsRun}
 use Rattle.aprs_base.proofs.SlotLemmas.{each_takes_due}
 use Rattle.server_core.specs.Meaning.{setting_of}
 use Rattle.aprsc_daemon.specs.Phases.{JournalTold}
-use Rattle.aprsc_daemon.specs.Causes.{DrillEnds, Ended}
-use Rattle.aprsc_daemon.proofs.CauseLemmas.{complete, early, headline, keeps_promise}
+use Rattle.aprsc_daemon.specs.Causes.{DrillEnds, Ended, is_before_serving}
+use Rattle.aprsc_daemon.proofs.CauseLemmas.{complete, early, headline, keeps_promise, not_named}
 use Rattle.aprsc_daemon.proofs.WordsLemmas.{only_drill}
 use Rattle.aprsc_daemon.proofs.program.aprsc.Goals as goal
 
@@ -43,6 +43,9 @@ returns-clause-drill g c = λ asked drilled.
     let kept = c.run.ensures.drill asked drilled in (
       kept.0,
       kept.1,
-      c.run.ensures.refused (only_drill words asked drilled),
+      c.run.ensures.unnamed (λ conf read. not_named words read.asked (only_drill words asked drilled) read.named),
       subst (λ n. DrillEnds n asked.plan (g.S.Sink.shown c.args.out.now) (g.S.Sink.shown c.run.new.out)) (sym c.code.ensures) kept.2,
     )
+
+pub returns-clause-still : goal.returns-clause-still
+returns-clause-still g c = λ before. c.run.ensures.still (ap is_before_serving (sym c.code.ensures) ∙ before)

@@ -36,3 +36,7 @@ returns-in-Ok-Server-clause-drill g c = λ asked drilled. absurd (not_both_modes
 
 pub returns-in-Ok-Drill-clause-journals : goal.returns-in-Ok-Drill-clause-journals
 returns-in-Ok-Drill-clause-journals g c = λ conf told_files tells read. absurd (not_both_modes (map string_bytes c.args.words.now) c.in-Ok-Drill.asked read.asked (subst (AskFor (map string_bytes c.args.words.now)) c.in-Ok-Drill.field-0-is c.in-Ok-Drill.ensures.value) read.named)
+
+pub returns-in-Ok-Server-clause-unnamed : goal.returns-in-Ok-Server-clause-unnamed
+returns-in-Ok-Server-clause-unnamed g c = λ none.
+    c.run_file.ensures.unnamed (map string_bytes c.args.words.now) (subst (AskFor (map string_bytes c.args.words.now)) c.in-Ok-Server.field-0-is c.in-Ok-Server.ensures.value) none

@@ -1,12 +1,12 @@
-use Rattle.std.proofs.Common.{[], ap, refl, inr, subst, sym}
+use Rattle.std.proofs.Common.{◌∙◌, [], ap, refl, inr, subst, sym, true≢false}
 use Rattle.aprs_base.proofs.SlotLemmas.{each_takes-none}
 use Rattle.aprs_history.specs.Headline.{HasFreshLinks}
 use Rattle.aprs_history.specs.Runs.{AppendsRun}
 use Rattle.server_core.specs.Meaning.{setting_of}
-use Rattle.aprsc_daemon.specs.Causes.{code_of_status, status_of}
+use Rattle.aprsc_daemon.specs.Causes.{code_of_status, is_before_serving, status_of}
 use Rattle.aprsc_daemon.specs.Phases.{Ends, JournalTold, Served}
 use Rattle.aprsc_daemon.specs.Saying.{listen_failed_text}
-use Rattle.aprsc_daemon.proofs.CauseLemmas.{ended_cause, listener_cause, memory_cause, rose_later, said_runs}
+use Rattle.aprsc_daemon.proofs.CauseLemmas.{ended_cause, ended_serving, listener_cause, memory_cause, rose_later}
 use Rattle.aprsc_daemon.proofs.JournalLemmas.{told_by_end, told_none}
 use Rattle.aprsc_daemon.proofs.RunLemmas.{run_weaker}
 use Rattle.aprsc_daemon.proofs.program.run_conf.Goals as goal
@@ -63,5 +63,5 @@ returns-in-Err-Memory-clause-cause g c = λ words files files_after read.
       run = run_weaker s (g.W.Wire.shown c.args.wire.now).told (g.W.Wire.shown c.open.new.wire).told _ HasFreshLinks (λ more only. only.0) c.in-Err-Memory.ensures.err;
     }))
 
-pub returns-in-Err-Failed-clause-runs : goal.returns-in-Err-Failed-clause-runs
-returns-in-Err-Failed-clause-runs g c = said_runs _ _ (listen_failed_text c.in-Err-Failed.n) c.say_made.result (c.say_made.ensures (listen_failed_text c.in-Err-Failed.n) c.listen_failed.ensures)
+pub returns-in-Ok-clause-still : goal.returns-in-Ok-clause-still
+returns-in-Ok-clause-still g c = λ before. absurd (true≢false (sym before ∙ ap (λ status. is_before_serving (code_of_status status)) c.ended.ensures ∙ ended_serving c.serve.result))

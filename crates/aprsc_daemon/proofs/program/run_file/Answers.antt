@@ -41,3 +41,17 @@ returns-in-Err-Failed-clause-journals g c = λ conf told_files bytes tells serve
 
 pub returns-clause-journals : goal.returns-clause-journals
 returns-clause-journals g c = λ conf told_files bytes tells serve named reads. ([], each_takes-none (λ z. (goal.Journal-dyn g z).journal_shown z.1) c.args.journals.now.items, untouched (setting_of conf) (g.W.Wire.shown c.args.wire.now).told (code_of_status status.NoMemory))
+
+pub returns-in-Ok-clause-unnamed : goal.returns-in-Ok-clause-unnamed
+returns-in-Ok-clause-unnamed g c = λ words named none.
+    let found = c.in-Ok.ensures.ok in
+    let text : c.as_slice.result.now ≡ found.0 = c.as_slice.ensures.value ∙ found.3 ∙ ap (λ front. front ++ found.0) c.new-text.ensures.items in
+    c.run_text.ensures.unnamed (λ conf serve reads. none conf (record {
+      asked = _;
+      bytes = found.0;
+      named = named;
+      is_asked = serve;
+      holds = subst (λ asked. Holds (g.F.Files.shown c.args.files.now).told asked.file found.0) c.asked.view_is found.1;
+      short = found.2;
+      reads = ap conf_of (sym text) ∙ reads;
+    }))

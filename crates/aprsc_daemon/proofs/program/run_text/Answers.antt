@@ -55,3 +55,6 @@ returns-in-Err-Trouble-clause-journals g c = λ conf serve reads. ([], each_take
 
 pub returns-in-Err-Memory-clause-journals : goal.returns-in-Err-Memory-clause-journals
 returns-in-Err-Memory-clause-journals g c = λ conf serve reads. ([], each_takes-none (λ z. (goal.Journal-dyn g z).journal_shown z.1) c.args.journals.now.items, untouched (setting_of conf) (g.W.Wire.shown c.args.wire.now).told (code_of_status status.NoMemory))
+
+pub returns-in-Serve-clause-unnamed : goal.returns-in-Serve-clause-unnamed
+returns-in-Serve-clause-unnamed g c = λ none. absurd (none c.in-Ok.conf (search rules) c.in-Ok.ensures.value)

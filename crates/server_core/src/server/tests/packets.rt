@@ -97,19 +97,19 @@ fn drops_duplicates_for_half_a_minute(rt: HostRuntime) {
     run(&rt, rt.alloc(), b"T2TEST", &TWO_CLIENTS, &REPEATS);
 }
 
-const TWO_BODIES: [Row<'static>; 4] = [
-    Row::Says(
-        1,
-        b"N0CALL>APRS:!4903.50N/07201.75W-\r\nN0CALL>APRS::K1ABC    :hi\r\n",
-    ),
-    Row::Tick(1000),
-    Row::Keeps(0, 1000, 1),
-    Row::Keeps(1, 1000, 8),
+// A window keeps what was accepted less than half a minute before, and what is past is let go as time goes on.
+const WINDOW: [Row<'static>; 6] = [
+    Row::Says(1, b"N0CALL>APRS,WIDE1-1:>hi\r\n"),
+    Row::Tick(1029),
+    Row::Recalls(b"N0CALL>APRS-5:>hi  ", 1029, Some(1000)),
+    Row::Recalls(b"N0CALL>APRS:>ho", 1029, None),
+    Row::Tick(1030),
+    Row::Recalls(b"N0CALL>APRS:>hi", 1029, None),
 ];
 
 #[test]
-fn reads_the_bodies_of_accepted_packets(rt: HostRuntime) {
-    run(&rt, rt.alloc(), b"T2TEST", &TWO_CLIENTS, &TWO_BODIES);
+fn keeps_what_is_less_than_half_a_minute_old(rt: HostRuntime) {
+    run(&rt, rt.alloc(), b"T2TEST", &TWO_CLIENTS, &WINDOW);
 }
 
 #[test]

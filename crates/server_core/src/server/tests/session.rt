@@ -2,12 +2,14 @@
 use super::super::Core;
 use super::cores::{Limits, bytes, core_of, datagram, is_served, joined, opened, round, take_next};
 use crate::acts::{Acts, CastOut};
-use aprs_base::{Event, JournalLine, Kind};
+use aprs_base::{Event, JournalLine, Kind, Line};
+use dupe_window::Key;
 use std::alloc::Global;
 use std::marker::Sync;
 use std::process::Abort;
 use std::random::RandomSource;
 use std::thread::Threads;
+use tnc2_line::read;
 
 /// A row of a session: what comes, or what is to be done after it.
 #[derive(Clone, Copy)]
@@ -52,8 +54,8 @@ pub(super) enum Row<'a> {
     Done,
     /// The link isn't served.
     Lacks(u32),
-    /// The accepted packet at this place, from 0, came at this moment, and its body has these classes.
-    Keeps(usize, u64, u16),
+    /// At this moment the window has the packet of this line so, with the moment at which it was accepted.
+    Recalls(&'a [u8], u64, Option<u64>),
 }
 
 /// The limits of a configuration that names none.
@@ -141,10 +143,10 @@ fn are_told<R: Abort>(rt: &R, lines: &[JournalLine], want: &[(Kind, u64, &[u8])]
     }
 }
 
-fn keeps<R: Abort>(rt: &R, core: &Core, place: usize, moment: u64, class: u16) {
-    assert!(rt; place < core.accepted.len());
-    let packet = &core.accepted[place];
-    assert!(rt; packet.moment == moment && packet.body.class == class);
+fn recalls<R: Abort>(rt: &R, core: &Core, line: &[u8], now: u64, want: Option<u64>) {
+    let parts = Line::new(line).and_then(|line| read(&line).ok());
+    let seen = parts.and_then(|parts| core.window.seen(&Key::of(&parts), now));
+    assert!(rt; seen == want);
 }
 
 fn counts_of(core: &Core) -> [u64; 4] {
@@ -181,7 +183,7 @@ fn step<R: Threads + Sync + Abort>(rt: &R, alloc: Global, session: &mut Session,
         Row::Counts(want) => assert!(rt; counts_of(&session.core) == want),
         Row::Done => assert!(rt; session.acts.done),
         Row::Lacks(link) => assert!(rt; !is_served(&session.core, link)),
-        Row::Keeps(place, moment, class) => keeps(rt, &session.core, place, moment, class),
+        Row::Recalls(line, now, want) => recalls(rt, &session.core, line, now, want),
     }
 }
 

@@ -1,11 +1,7 @@
 use Rattle.std.proofs.Common.{rules}
-use Rattle.std.proofs.lemmas.Fn.{filter_same}
+use Rattle.indexmap.proofs.CallerLemmas.{filter-RetainsPairs}
 use Rattle.station_table.specs.Stations.{is_young_gate}
-use Rattle.station_table.proofs.LastSeen.{once_filtered}
 use Rattle.station_table.proofs.stations.keep_young_gates.Goals as goal
 
 pub returns-clause-kept : goal.returns-clause-kept
-returns-clause-kept c = filter_same _ (is_young_gate c.args.now) _ (λ x b p h. search rules) _ _ c.retain.ensures.filtered
-
-pub returns-clause-once : goal.returns-clause-once
-returns-clause-once c = λ once. once_filtered (is_young_gate c.args.now) c.args.gates.now.items c.retain.new.self.items (returns-clause-kept c) once
+returns-clause-kept c = filter-RetainsPairs _ (is_young_gate c.args.now) _ (λ k v b w g call. search rules) _ _ c.retain.ensures.filtered

@@ -14,7 +14,7 @@ reply-requires c = rises_to 0 c.self.inside.greatest (2 ^ 32) _ c.self.invariant
 pub returns-in_ok-line-in-Denied : goal.returns-in_ok-line-in-Denied
 returns-in_ok-line-in-Denied c =
     let i = c.self.inside in
-    let core : CoreMeaning = record { conf = i.conf; seen = record { moment = i.moment; links = i.links.items; turned = i.turned.items; closing = i.closing.items; accepted = i.accepted.items; stations = i.stations; heard = i.heard; reach = i.reach; greatest = i.greatest; stopped = i.stopped; totals = i.totals } } in
+    let core : CoreMeaning = record { conf = i.conf; seen = record { moment = i.moment; links = i.links.items; turned = i.turned.items; closing = i.closing.items; window = i.window; stations = i.stations; heard = i.heard; reach = i.reach; greatest = i.greatest; stopped = i.stopped; totals = i.totals } } in
     c.count_refused.ensures
     ∙ ap (λ links. record core { seen = record core.seen { links = links; totals = with_refused core.seen.totals } }) (c.reply.ensures.exact
     ∙ ap (λ line. map (at_link c.args.number (with_text line)) i.links.items) (c.in_ok-line-in-Denied.ensures.ok ∙ c.in_ok-denied_line-in-Denied.ensures))

@@ -14,7 +14,7 @@ invariant_of-self c = kept_at _ c.args.link when_gone c.lose.new.links.items (λ
 
 pub returns-clause-stands : goal.returns-clause-stands
 returns-clause-stands c = λ h bytes stands.
-    let core : CoreMeaning = record { conf = c.self.inside.conf; seen = record { moment = c.self.inside.moment; links = c.self.inside.links.items; turned = c.self.inside.turned.items; closing = c.self.inside.closing.items; accepted = c.self.inside.accepted.items; stations = c.self.inside.stations; heard = c.self.inside.heard; reach = c.self.inside.reach; greatest = c.self.inside.greatest; stopped = c.self.inside.stopped; totals = c.self.inside.totals } } in
+    let core : CoreMeaning = record { conf = c.self.inside.conf; seen = record { moment = c.self.inside.moment; links = c.self.inside.links.items; turned = c.self.inside.turned.items; closing = c.self.inside.closing.items; window = c.self.inside.window; stations = c.self.inside.stations; heard = c.self.inside.heard; reach = c.self.inside.reach; greatest = c.self.inside.greatest; stopped = c.self.inside.stopped; totals = c.self.inside.totals } } in
     stands_gone core c.lose.new.links.items c.args.link bytes h (subst (λ core. Stands core h) (sym c.self.view_is) stands) c.lose.ensures
 
 pub returns-clause-numbers : goal.returns-clause-numbers

@@ -16,7 +16,7 @@ log_in-requires-clause-rises c = rises_to 0 c.self.inside.greatest (2 ^ 32) _ c.
 pub returns : goal.returns
 returns c =
     let inside = c.self.inside in
-    let core : CoreMeaning = record { conf = inside.conf; seen = record { moment = inside.moment; links = inside.links.items; turned = inside.turned.items; closing = inside.closing.items; accepted = inside.accepted.items; stations = inside.stations; heard = inside.heard; reach = inside.reach; greatest = inside.greatest; stopped = inside.stopped; totals = inside.totals } } in
+    let core : CoreMeaning = record { conf = inside.conf; seen = record { moment = inside.moment; links = inside.links.items; turned = inside.turned.items; closing = inside.closing.items; window = inside.window; stations = inside.stations; heard = inside.heard; reach = inside.reach; greatest = inside.greatest; stopped = inside.stopped; totals = inside.totals } } in
     let reply : arc_value c.in_ok-line.line ≡ login_reply inside.conf.server c.args.session =
     c.in_ok-line.ensures.ok ∙ c.login_line.ensures ∙ ap (λ server. login_reply server c.args.session) c.server_of.ensures in
     ap (λ links. relinked links core) (c.log_in.ensures.exact

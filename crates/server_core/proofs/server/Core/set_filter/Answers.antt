@@ -16,7 +16,7 @@ set_filter-requires-clause-rises c = rises_to 0 c.self.inside.greatest (2 ^ 32) 
 pub returns : goal.returns
 returns c =
     let i = c.self.inside in
-    let core : CoreMeaning = record { conf = i.conf; seen = record { moment = i.moment; links = i.links.items; turned = i.turned.items; closing = i.closing.items; accepted = i.accepted.items; stations = i.stations; heard = i.heard; reach = i.reach; greatest = i.greatest; stopped = i.stopped; totals = i.totals } } in
+    let core : CoreMeaning = record { conf = i.conf; seen = record { moment = i.moment; links = i.links.items; turned = i.turned.items; closing = i.closing.items; window = i.window; stations = i.stations; heard = i.heard; reach = i.reach; greatest = i.greatest; stopped = i.stopped; totals = i.totals } } in
     ap (λ links. relinked links core) (c.set_filter.ensures.exact
     ∙ ap (λ friends. map (at_link c.args.number (with_filter c.args.filter friends (arc_value c.in_ok-line.line))) i.links.items) c.friends_found-friends.ensures
     ∙ ap (λ line. map (at_link c.args.number (with_filter c.args.filter (map (found_in i.moment i.stations) c.args.filter) line)) i.links.items) c.in_ok-line.ensures.ok)

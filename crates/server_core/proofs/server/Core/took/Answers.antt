@@ -14,7 +14,7 @@ invariant_of-self c = kept_at _ c.args.link (with_taken c.args.offered c.args.n)
 
 pub returns-clause-stands : goal.returns-clause-stands
 returns-clause-stands c = λ h bytes size stands.
-    let core : CoreMeaning = record { conf = c.self.inside.conf; seen = record { moment = c.self.inside.moment; links = c.self.inside.links.items; turned = c.self.inside.turned.items; closing = c.self.inside.closing.items; accepted = c.self.inside.accepted.items; stations = c.self.inside.stations; heard = c.self.inside.heard; reach = c.self.inside.reach; greatest = c.self.inside.greatest; stopped = c.self.inside.stopped; totals = c.self.inside.totals } } in
+    let core : CoreMeaning = record { conf = c.self.inside.conf; seen = record { moment = c.self.inside.moment; links = c.self.inside.links.items; turned = c.self.inside.turned.items; closing = c.self.inside.closing.items; window = c.self.inside.window; stations = c.self.inside.stations; heard = c.self.inside.heard; reach = c.self.inside.reach; greatest = c.self.inside.greatest; stopped = c.self.inside.stopped; totals = c.self.inside.totals } } in
     stands_took core c.take.new.links.items c.args.link c.args.offered c.args.n bytes h size (subst (λ core. Stands core h) (sym c.self.view_is) stands) c.requires.part
     (subst (λ (core : CoreMeaning). c.args.offered ≤ length (pending_at c.args.link core.seen.links)) (sym c.self.view_is) c.requires.pending) c.take.ensures
 

@@ -1,0 +1,10 @@
+//! The packets that came a moment ago, so that their copies are told from new packets.
+#![tactic(auto)]
+
+mod keys;
+#[cfg(test)]
+mod tests;
+mod windows;
+
+pub use keys::Key;
+pub use windows::Window;

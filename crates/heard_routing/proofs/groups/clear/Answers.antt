@@ -1,0 +1,8 @@
+use Rattle.std.proofs.Common.{[], ap, sym, ◌∙◌}
+use Rattle.filter_eval.specs.Passes.{is_text}
+use Rattle.heard_routing.proofs.TableLemmas.{written_nowhere}
+use Rattle.heard_routing.proofs.groups.clear.Goals as goal
+
+pub returns-in_default : goal.returns-in_default
+returns-in_default c =
+    ap (λ table. table.entries) c.get_mut.follows.holds-at-none ∙ sym (written_nowhere (is_text c.args.call.now) c.args.table.now.entries [] (sym c.in_default.ensures.value))

@@ -1,0 +1,272 @@
+//! Calls with the links that have them, found by the call and by the link.
+ghost use Rattle.std.specs.Prelude.{◌≡◌, ◌++◌, ◌∷◌, [], true, false, filter, length, is_some, nat_eq, nat_lt, OnOk, OnErr};
+ghost use Rattle.std.specs.Map.{lookup};
+ghost use Rattle.indexmap.specs.IndexMap.{insert_entry};
+ghost use Rattle.filter_eval.specs.Passes.{is_text};
+ghost use Rattle.heard_routing.specs.Entries.{HasEachOnce, is_another, with_link, with_moment};
+ghost use Rattle.heard_routing.specs.Heard.{IsRisingListOf, has_recent, is_recent_entry, kept_links, links_with, recent_groups, without_links};
+ghost use Rattle.heard_routing.specs.Listed.{ListsAll, ListsMore, has_call, is_listed, without_each, without_one};
+
+use crate::links::Links;
+use crate::listed::{Listed, keep_listed, list};
+use aprs_base::{Call, Memory, copy_call};
+use indexmap::IndexMap;
+use std::alloc::Global;
+use std::hash::RandomState;
+use std::marker::Model;
+
+/// For each call the links that have it.
+pub type Table = IndexMap<Call, Links, RandomState>;
+
+/// Whether the link has the call.
+pub fn has(table: &Table, link: u32, call: &Call) -> bool
+    ensures { result ≡ has_call table.now.entries link call.now }
+{
+    match table.get(call) {
+        Some(links) => links.has(link),
+        None => false,
+    }
+}
+
+fn keep_recent(table: &mut Table, now: u64, age: u64)
+    ensures { table.new.entries ≡ recent_groups age now table.old.entries }
+{
+    table.retain(
+        |_call: &Call, links: &mut Links| -> bool
+            ensures { (links.new ≡ filter (is_recent_entry age now) links.old) × (result ≡ nat_lt 0 (length links.new)) }
+        { links.keep_recent(now, age) },
+    );
+}
+
+/// Lists the call with the link, where the link isn't among those that have the call.
+fn list_new(
+    links: &Links,
+    listed: &mut Listed,
+    alloc: Global,
+    hasher: &RandomState,
+    link: u32,
+    call: &Call,
+) -> Result<(), Memory>
+    ensures more { ListsMore listed.old.entries listed.new.entries }
+    ensures here { OnOk result (is_some (lookup (nat_eq link) links.now) ≡ false → is_listed listed.new.entries link call.now ≡ true) }
+{
+    if links.has(link) {
+        return Ok(());
+    }
+    list(listed, alloc, hasher, link, call)
+}
+
+/// Sets the moment of the link among those of a call that is there.
+fn renew(
+    links: &mut Links,
+    listed: &mut Listed,
+    alloc: Global,
+    hasher: &RandomState,
+    link: u32,
+    call: &Call,
+    moment: u64,
+) -> Result<(), Memory>
+    ensures ok { OnOk result (links.new ≡ with_link link moment links.old) }
+    ensures err { OnErr result (links.new ≡ links.old) }
+    ensures more { ListsMore listed.old.entries listed.new.entries }
+    ensures here { OnOk result (is_some (lookup (nat_eq link) links.old) ≡ false → is_listed listed.new.entries link call.now ≡ true) }
+{
+    list_new(links, listed, alloc, hasher, link, call)?;
+    links.set(link, moment)
+}
+
+/// Adds a call that is new, with one link.
+fn start(
+    table: &mut Table,
+    listed: &mut Listed,
+    alloc: Global,
+    hasher: &RandomState,
+    link: u32,
+    call: &Call,
+    moment: u64,
+) -> Result<(), Memory>
+    ensures ok { OnOk result (table.new.entries ≡ insert_entry is_text table.old.entries call.now ((link, moment) ∷ [])) }
+    ensures err { OnErr result (table.new.entries ≡ table.old.entries) }
+    ensures more { ListsMore listed.old.entries listed.new.entries }
+    ensures here { OnOk result (is_listed listed.new.entries link call.now ≡ true) }
+{
+    list(listed, alloc, hasher, link, call)?;
+    let links = Links::one(alloc, link, moment)?;
+    table.insert(copy_call(call), links)?;
+    Ok(())
+}
+
+/// Sets the moment of the link and the call. A call that is new goes last.
+fn set(
+    table: &mut Table,
+    listed: &mut Listed,
+    alloc: Global,
+    hasher: &RandomState,
+    link: u32,
+    call: &Call,
+    moment: u64,
+) -> Result<(), Memory>
+    ensures ok { OnOk result (table.new.entries ≡ with_moment link call.now moment table.old.entries) }
+    ensures err { OnErr result (table.new.entries ≡ table.old.entries) }
+    ensures lists { ListsAll listed.old.entries table.old.entries → ListsAll listed.new.entries table.new.entries }
+{
+    match table.get_mut(call) {
+        Some(links) => renew(links, listed, alloc, hasher, link, call, moment),
+        None => start(table, listed, alloc, hasher, link, call, moment),
+    }
+}
+
+/// Appends to `out` the links that have the call at most `age` before `now`; both in seconds.
+fn append_recent(
+    table: &Table,
+    alloc: Global,
+    call: &Call,
+    now: u64,
+    age: u64,
+    out: &mut Vec<u32>,
+) -> Result<(), Memory>
+    ensures ok { OnOk result (out.new.items ≡ out.old.items ++ links_with age call.now now table.now.entries) }
+    ensures err { OnErr result (out.new.items ≡ out.old.items) }
+{
+    match table.get(call) {
+        Some(links) => links.append_recent(alloc, now, age, out),
+        None => Ok(()),
+    }
+}
+
+/// Removes all links of the call.
+fn clear(table: &mut Table, call: &Call)
+    ensures { table.new.entries ≡ without_links call.now table.old.entries }
+{
+    if let Some(links) = table.get_mut(call) {
+        links.clear();
+    }
+}
+
+/// Removes the link of the call.
+fn remove_one(table: &mut Table, link: u32, call: &Call)
+    ensures { table.new.entries ≡ without_one link call.now table.old.entries }
+{
+    if let Some(links) = table.get_mut(call) {
+        links.remove(link);
+    }
+}
+
+/// Removes the link of each of the calls.
+fn remove_each(table: &mut Table, link: u32, calls: &[Call])
+    ensures { table.new.entries ≡ without_each link calls.now table.old.entries }
+{
+    for call in calls {
+        remove_one(table, link, call);
+    }
+}
+
+/// Removes the link of all calls, which are listed.
+fn forget(table: &mut Table, listed: &mut Listed, link: u32)
+    ensures kept { HasEachOnce table.old.entries → ListsAll listed.old.entries table.old.entries → table.new.entries ≡ kept_links (is_another link) table.old.entries }
+    ensures lists { HasEachOnce table.old.entries → ListsAll listed.old.entries table.old.entries → ListsAll listed.new.entries table.new.entries }
+{
+    if let Some(calls) = listed.swap_remove(&link) {
+        remove_each(table, link, calls.as_slice());
+    }
+}
+
+/// Keeps what is at most `age` old at `now`; both in seconds.
+fn expire(table: &mut Table, listed: &mut Listed, now: u64, age: u64)
+    ensures kept { table.new.entries ≡ recent_groups age now table.old.entries }
+    ensures lists { HasEachOnce table.old.entries → ListsAll listed.old.entries table.old.entries → ListsAll listed.new.entries table.new.entries }
+{
+    keep_recent(table, now, age);
+    keep_listed(listed, table);
+}
+
+/// Calls with the links that have them, found by the call and by the link.
+#[derive(Drop)]
+pub struct Groups {
+    by_call: Table,
+    by_link: Listed,
+}
+
+impl Model for Groups {
+    ghost use Rattle.std.specs.Prelude.{List};
+    ghost use Rattle.heard_routing.specs.Entries.{Group, HasEachOnce};
+    ghost use Rattle.heard_routing.specs.Listed.{ListsAll};
+
+    ghost Value = { List Group };
+
+    ghost view = { λ g. g.by_call.entries };
+
+    ghost invariant = { λ g. HasEachOnce g.by_call.entries × ListsAll g.by_link.entries g.by_call.entries };
+}
+
+impl Groups {
+    pub fn new(alloc: Global, hasher: &RandomState) -> Groups
+        ensures { result ≡ [] }
+    {
+        Groups {
+            by_call: IndexMap::with_hasher(alloc, *hasher),
+            by_link: IndexMap::with_hasher(alloc, *hasher),
+        }
+    }
+
+    /// Sets the moment of the link and the call. A call that is new goes last.
+    pub fn set(
+        &mut self,
+        alloc: Global,
+        hasher: &RandomState,
+        link: u32,
+        call: &Call,
+        moment: u64,
+    ) -> Result<(), Memory>
+        ensures ok { OnOk result (self.new ≡ with_moment link call.now moment self.old) }
+        ensures err { OnErr result (self.new ≡ self.old) }
+    {
+        set(
+            &mut self.by_call,
+            &mut self.by_link,
+            alloc,
+            hasher,
+            link,
+            call,
+            moment,
+        )
+    }
+
+    /// Appends to `out` the links that have the call at most `age` before `now`, rising; both in seconds.
+    pub fn append_recent(
+        &self,
+        alloc: Global,
+        call: &Call,
+        now: u64,
+        age: u64,
+        out: &mut Vec<u32>,
+    ) -> Result<(), Memory>
+        ensures ok { OnOk result (out.new.items ≡ out.old.items ++ links_with age call.now now self.now) }
+        ensures links { IsRisingListOf (links_with age call.now now self.now) (has_recent age now self.now call.now) }
+        ensures err { OnErr result (out.new.items ≡ out.old.items) }
+    {
+        append_recent(&self.by_call, alloc, call, now, age, out)
+    }
+
+    /// Removes all links of the call.
+    pub fn clear(&mut self, call: &Call)
+        ensures { self.new ≡ without_links call.now self.old }
+    {
+        clear(&mut self.by_call, call);
+    }
+
+    /// Removes the link of all calls.
+    pub fn forget(&mut self, link: u32)
+        ensures { self.new ≡ kept_links (is_another link) self.old }
+    {
+        forget(&mut self.by_call, &mut self.by_link, link);
+    }
+
+    /// Keeps what is at most `age` old at `now`; both in seconds.
+    pub fn expire(&mut self, now: u64, age: u64)
+        ensures kept { self.new ≡ recent_groups age now self.old }
+        ensures once { HasEachOnce self.old }
+    {
+        expire(&mut self.by_call, &mut self.by_link, now, age);
+    }
+}

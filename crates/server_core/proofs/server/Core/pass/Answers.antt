@@ -1,0 +1,19 @@
+use Rattle.std.proofs.Common.{◌≤◌, ◌∙◌, ap, refl, subst, sym}
+use Rattle.server_core.specs.Kept.{IsCurrent}
+use Rattle.server_core.specs.LinkSteps.{Rises, at_moment, numbers}
+use Rattle.server_core.specs.Meaning.{CoreMeaning}
+use Rattle.server_core.proofs.LinkLemmas.{numbers_kept}
+use Rattle.server_core.proofs.WindowLemmas.{current_passed}
+use Rattle.server_core.proofs.server.Core.pass.Goals as goal
+
+pub invariant_of-self : goal.invariant_of-self
+invariant_of-self c =
+    let later : c.self.inside.moment ≤ c.args.now = subst (λ moment. moment ≤ c.args.now) (sym (ap (λ (core : CoreMeaning). core.seen.moment) c.self.view_is)) c.requires in
+    record {
+      rising = subst (λ ns. Rises 0 ns c.self.inside.greatest) (sym (ap numbers c.forget_places.ensures ∙ numbers_kept (at_moment c.args.now) (λ link. refl) c.self.inside.links.items)) c.self.invariant.rising;
+      small = c.self.invariant.small;
+      station = c.self.invariant.station;
+      group = c.self.invariant.group;
+      few = c.self.invariant.few;
+      window = subst (IsCurrent c.args.now) (sym c.expire.ensures) (current_passed c.self.inside.moment c.args.now c.self.inside.window later c.self.invariant.window);
+    }
