@@ -1,7 +1,7 @@
 -- A window that is current stays so.
 use Rattle.std.proofs.Common.{◌≡◌, ℕ, ◌-◌, ◌≤◌, ◌<◌, Bool, true, false, Option, Some, None, is_some, refl, sym, ap, ◌∙◌, subst, arith}
 use Rattle.dupe_window.specs.Keys.{Key, key_of}
-use Rattle.dupe_window.specs.Windows.{WindowSeen, expired, has_copy, is_inside, kept_at, seen_at, with_key}
+use Rattle.dupe_window.specs.Windows.{WindowSeen, empty_window, expired, has_copy, is_inside, kept_at, seen_at, with_key}
 use Rattle.dupe_window.proofs.WindowLemmas.{IsUpTo-expired, IsUpTo-later, IsUpTo-with_key, inside_expired, inside_with_key, seen_at-kept}
 use Rattle.aprs_base.specs.declared.packets.Parts.{Parts}
 use Rattle.server_core.specs.Kept.{IsCurrent}
@@ -27,3 +27,6 @@ none_there (Some moment) is = absurd (cc)
 -- what is no copy isn't kept at all
 pub not_kept : (now : ℕ) (window : WindowSeen) (parts : Parts) → IsCurrent now window → has_copy now window parts ≡ false → kept_at window (key_of parts) ≡ None
 not_kept now window parts current new = sym (seen_at-kept now (key_of parts) window current.inside) ∙ none_there (seen_at now (key_of parts) window) new
+
+pub current_empty : (window : WindowSeen) → window ≡ empty_window 30 → IsCurrent 0 window
+current_empty window is = subst (IsCurrent 0) (sym is) (record { up_to = refl; inside = refl; seconds = refl })
