@@ -28,14 +28,14 @@ MaxClients 10000
 """
 
 RUNS = {
-    "paced10": "feed clients=10 lines=2000 rate=500",
-    "paced100": "feed clients=100 lines=2000 rate=500",
-    "paced1000": "feed clients=1000 lines=500 rate=100",
-    "mixed200": "feed clients=100 filtered=100 senders=4 lines=2000 rate=500",
-    "fast10": "feed clients=10 lines=2000 rate=0 batch=10 readers=2",
-    "fast100": "feed clients=100 lines=2000 rate=0 batch=10 readers=2",
-    "fast1000": "feed clients=1000 lines=2000 rate=0 batch=10 readers=2",
-    "senders100": "feed clients=100 senders=50 lines=2000 rate=0 batch=10 readers=2",
+    "paced10": "feed clients=10 lines=5000 rate=500",
+    "paced100": "feed clients=100 lines=5000 rate=500",
+    "paced1000": "feed clients=1000 lines=2000 rate=100",
+    "mixed200": "feed clients=100 filtered=100 senders=4 lines=5000 rate=500",
+    "fast10": "feed clients=10 lines=20000 rate=0 batch=10 readers=2",
+    "fast100": "feed clients=100 lines=20000 rate=0 batch=10 readers=2",
+    "fast1000": "feed clients=1000 lines=20000 rate=0 batch=10 readers=2",
+    "senders100": "feed clients=100 senders=50 lines=20000 rate=0 batch=10 readers=2",
     "idle1000": "idle clients=1000 seconds=5",
     "idle9000": "idle clients=9000 seconds=20",
 }

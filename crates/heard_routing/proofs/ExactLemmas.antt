@@ -1,5 +1,5 @@
 -- A table has exactly what links heard at most three hours before, as time goes on.
-use Rattle.std.proofs.Common.{◌≡◌, ℕ, ◌-◌, ◌≤◌, Bool, true, false, cond, not, ◌&&◌, ◌==◌, nat_le, List, [], ◌∷◌, ◌++◌, Option, Some, None, Result, Ok, Err, OnOk, refl, sym, ap, ◌∙◌, subst, arith}
+use Rattle.std.proofs.Common.{◌≡◌, ℕ, ◌-◌, ◌≤◌, Bool, true, false, cond, not, ◌&&◌, ◌==◌, List, [], ◌∷◌, ◌++◌, Option, Some, None, Result, Ok, Err, OnOk, refl, sym, ap, ◌∙◌, subst, arith}
 use Rattle.std.specs.declared.random_state.RandomState.{RandomState}
 use Rattle.std.proofs.lemmas.Bool.{leb-false}
 use Rattle.aprs_base.specs.PacketSeen.{PacketSeen}
@@ -7,7 +7,7 @@ use Rattle.filter_eval.specs.Passes.{is_text}
 use Rattle.station_table.specs.Last.{later_or}
 use Rattle.heard_routing.specs.Entries.{HasEachOnce, moment_at}
 use Rattle.heard_routing.specs.Heard.{HeardSeen, heard_age, heard_at, is_recent, nothing, noted, recent, without_link}
-use Rattle.heard_routing.specs.LastHeard.{AgreesAt, HasExactly, IsFromElsewhere, IsHeard, but_not, heard_by, is_from, last_heard, still}
+use Rattle.heard_routing.specs.LastHeard.{AgreesAt, HasExactly, IsFromElsewhere, IsHeard, but_not, heard_by, last_heard, still}
 use Rattle.heard_routing.proofs.HeardLemmas.{and_first, and_second, kept_of, last_more, none_of, not_told, noted_later, noted_others, still_again, told_by}
 use Rattle.heard_routing.proofs.LookLemmas.{heard_recent}
 

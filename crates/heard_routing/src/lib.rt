@@ -5,6 +5,7 @@ mod groups;
 mod heard;
 mod links;
 mod listed;
+mod table;
 #[cfg(test)]
 mod tests;
 

@@ -5,7 +5,7 @@ ghost use Rattle.indexmap.specs.IndexSet.{insert_key};
 ghost use Rattle.filter_eval.specs.Passes.{is_text};
 ghost use Rattle.heard_routing.specs.Listed.{ListsMore, calls_of, has_call, is_listed, still_listed, with_listing};
 
-use crate::groups::{Table, has};
+use crate::table::{Table, has};
 use aprs_base::{Call, Memory, copy_call};
 use indexmap::{IndexMap, IndexSet};
 use std::alloc::Global;

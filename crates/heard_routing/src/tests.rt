@@ -119,18 +119,24 @@ fn appends_in_rising_order(rt: HostRuntime) -> Result<(), Fail> {
 }
 
 #[test]
-fn renews(rt: HostRuntime) -> Result<(), Fail> {
+fn hears_anew(rt: HostRuntime) -> Result<(), Fail> {
     let hasher = RandomState::new(&rt)?;
-    let twice: [(u32, &[u8], u64); 2] = [(1, b"K1ABC", 1000), (1, b"K1ABC", 2000)];
-    let station = call(&rt, b"K1ABC");
-    let heard = hearing(&rt, rt.alloc(), &hasher, &twice)?;
+    let notes: [(u32, &[u8], u64); 2] = [(1, b"K1ABC", 1000), (1, b"K1ABC", 2000)];
+    let heard = hearing(&rt, rt.alloc(), &hasher, &notes)?;
     let cases: [(u64, &[u32]); 2] = [(12_800, &[1]), (12_801, &[])];
     for (now, want) in cases {
-        let links = receivers(&heard, rt.alloc(), &station, now)?;
+        let links = receivers(&heard, rt.alloc(), &call(&rt, b"K1ABC"), now)?;
         assert!(rt; links.as_slice() == want);
     }
-    let mut heard = promising(&rt, rt.alloc(), &hasher, &twice)?;
-    let links = courtesy(&mut heard, rt.alloc(), &station, 3800)?;
+    Ok(())
+}
+
+#[test]
+fn promises_anew(rt: HostRuntime) -> Result<(), Fail> {
+    let hasher = RandomState::new(&rt)?;
+    let promises: [(u32, &[u8], u64); 2] = [(1, b"K1ABC", 1000), (1, b"K1ABC", 2000)];
+    let mut heard = promising(&rt, rt.alloc(), &hasher, &promises)?;
+    let links = courtesy(&mut heard, rt.alloc(), &call(&rt, b"K1ABC"), 3800)?;
     assert!(rt; links.as_slice() == [1].as_slice());
     Ok(())
 }

@@ -1,7 +1,7 @@
 use Rattle.std.proofs.Common.{[], ap, sym, ◌∙◌}
 use Rattle.filter_eval.specs.Passes.{is_text}
 use Rattle.heard_routing.proofs.TableLemmas.{written_nowhere}
-use Rattle.heard_routing.proofs.groups.clear.Goals as goal
+use Rattle.heard_routing.proofs.table.clear.Goals as goal
 
 pub returns-in_default : goal.returns-in_default
 returns-in_default c =

@@ -1,7 +1,7 @@
 use Rattle.std.proofs.Common.{rules, filter, length, nat_lt}
 use Rattle.heard_routing.specs.Heard.{is_recent_entry}
 use Rattle.heard_routing.proofs.TableLemmas.{retained}
-use Rattle.heard_routing.proofs.groups.keep_recent.Goals as goal
+use Rattle.heard_routing.proofs.table.keep_recent.Goals as goal
 
 pub returns : goal.returns
 returns c =

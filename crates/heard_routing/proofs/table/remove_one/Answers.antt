@@ -2,7 +2,7 @@ use Rattle.std.proofs.Common.{filter, ap, sym, ◌∙◌}
 use Rattle.filter_eval.specs.Passes.{is_text}
 use Rattle.heard_routing.specs.Entries.{is_another, links_of}
 use Rattle.heard_routing.proofs.TableLemmas.{written_nowhere}
-use Rattle.heard_routing.proofs.groups.remove_one.Goals as goal
+use Rattle.heard_routing.proofs.table.remove_one.Goals as goal
 
 pub returns-in_default : goal.returns-in_default
 returns-in_default c =

@@ -1,0 +1,79 @@
+//! For each call the links that have it.
+ghost use Rattle.std.specs.Prelude.{◌≡◌, ◌++◌, filter, length, nat_lt, OnOk, OnErr};
+ghost use Rattle.heard_routing.specs.Heard.{is_recent_entry, links_with, recent_groups, without_links};
+ghost use Rattle.heard_routing.specs.Listed.{has_call, without_each, without_one};
+
+use crate::links::Links;
+use aprs_base::{Call, Memory};
+use indexmap::IndexMap;
+use std::alloc::Global;
+use std::hash::RandomState;
+
+/// For each call the links that have it.
+pub type Table = IndexMap<Call, Links, RandomState>;
+
+/// Whether the link has the call.
+pub fn has(table: &Table, link: u32, call: &Call) -> bool
+    ensures { result ≡ has_call table.now.entries link call.now }
+{
+    match table.get(call) {
+        Some(links) => links.has(link),
+        None => false,
+    }
+}
+
+/// Keeps what is at most `age` old at `now`; both in seconds. A call that no link has is dropped.
+pub fn keep_recent(table: &mut Table, now: u64, age: u64)
+    ensures { table.new.entries ≡ recent_groups age now table.old.entries }
+{
+    table.retain(
+        |_call: &Call, links: &mut Links| -> bool
+            ensures { (links.new ≡ filter (is_recent_entry age now) links.old) × (result ≡ nat_lt 0 (length links.new)) }
+        { links.keep_recent(now, age) },
+    );
+}
+
+/// Appends to `out` the links that have the call at most `age` before `now`; both in seconds.
+pub fn append_recent(
+    table: &Table,
+    alloc: Global,
+    call: &Call,
+    now: u64,
+    age: u64,
+    out: &mut Vec<u32>,
+) -> Result<(), Memory>
+    ensures ok { OnOk result (out.new.items ≡ out.old.items ++ links_with age call.now now table.now.entries) }
+    ensures err { OnErr result (out.new.items ≡ out.old.items) }
+{
+    match table.get(call) {
+        Some(links) => links.append_recent(alloc, now, age, out),
+        None => Ok(()),
+    }
+}
+
+/// Removes all links of the call.
+pub fn clear(table: &mut Table, call: &Call)
+    ensures { table.new.entries ≡ without_links call.now table.old.entries }
+{
+    if let Some(links) = table.get_mut(call) {
+        links.clear();
+    }
+}
+
+/// Removes the link of the call.
+fn remove_one(table: &mut Table, link: u32, call: &Call)
+    ensures { table.new.entries ≡ without_one link call.now table.old.entries }
+{
+    if let Some(links) = table.get_mut(call) {
+        links.remove(link);
+    }
+}
+
+/// Removes the link of each of the calls.
+pub fn remove_each(table: &mut Table, link: u32, calls: &[Call])
+    ensures { table.new.entries ≡ without_each link calls.now table.old.entries }
+{
+    for call in calls {
+        remove_one(table, link, call);
+    }
+}
