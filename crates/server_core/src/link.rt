@@ -1,6 +1,7 @@
 //! What the core keeps of a link.
 ghost use Rattle.std.specs.Prelude.{◌≡◌, ◌||◌, IsTrue, IfSome, is_some, ℕ, ◌≤◌, ◌<◌, List, ◌++◌, Some, None, OnOk, IfOk, length, min, take, option_map, true, false};
 ghost use Rattle.std.specs.Arc.{arc_value};
+ghost use Rattle.std.specs.List.Sorted.{IsStrictlyIncreasing};
 ghost use Rattle.aprs_base.specs.Held.{held_after};
 ghost use Rattle.server_core.specs.LinkSteps.{at_moment, client_kept, has_room, is_asked_at, is_login, is_shown_at, speaker_kept, timeout_for, is_in_time, is_late_link, is_none_of, is_lost, is_nameless_link, is_ready, list_of, new_link_seen, number_of, passes_packet, takes_packet, takes_shown, wants_packet, when_gone, with_bytes, with_copy, with_date, with_filter, with_packet, with_room, with_seen, with_session, with_shown, with_taken, with_text};
 ghost use Rattle.aprs_base.specs.Bytes.{is_station};
@@ -254,6 +255,8 @@ impl Link {
 
     /// Whether the message rule asks for a packet, where these links heard its receiver and are owed it.
     fn is_asked(&self, packet: &Packet, hearers: &[u32], owed: &[u32]) -> bool
+        requires hearers { IsStrictlyIncreasing hearers.now }
+        requires owed { IsStrictlyIncreasing owed.now }
         ensures { result ≡ is_asked_at packet.now hearers.now owed.now self.now }
     {
         self.is_receiver(packet) || is_among(self.number, hearers) || is_among(self.number, owed)
@@ -268,6 +271,8 @@ impl Link {
         hearers: &[u32],
         owed: &[u32],
     ) -> bool
+        requires hearers { IsStrictlyIncreasing hearers.now }
+        requires owed { IsStrictlyIncreasing owed.now }
         ensures { result ≡ opening_wants self.now.opening (is_some self.now.session) source.now.submitted (passes_packet packet.now source.now self.now || is_asked_at packet.now hearers.now owed.now self.now) }
     {
         match self.kind {
@@ -289,6 +294,8 @@ impl Link {
         hearers: &[u32],
         owed: &[u32],
     ) -> bool
+        requires hearers { IsStrictlyIncreasing hearers.now }
+        requires owed { IsStrictlyIncreasing owed.now }
         ensures { result ≡ wants_packet packet.now source.now hearers.now owed.now self.now }
     {
         !is_from(self.number, &packet.from) && self.opening_wants(packet, source, hearers, owed)
@@ -302,6 +309,8 @@ impl Link {
         hearers: &[u32],
         owed: &[u32],
     ) -> Result<bool, Memory>
+        requires hearers { IsStrictlyIncreasing hearers.now }
+        requires owed { IsStrictlyIncreasing owed.now }
         ensures number { self.new.link ≡ self.old.link }
         ensures ok { OnOk result (self.new ≡ with_copy packet.now source.now hearers.now owed.now self.old) }
         ensures took { IfOk result (λ took. took ≡ takes_packet packet.now source.now hearers.now owed.now self.old) }
@@ -362,6 +371,8 @@ impl Link {
         hearers: &[u32],
         owed: &[u32],
     ) -> Result<bool, Memory>
+        requires hearers { IsStrictlyIncreasing hearers.now }
+        requires owed { IsStrictlyIncreasing owed.now }
         ensures number { self.new.link ≡ self.old.link }
         ensures ok { OnOk result (self.new ≡ with_packet packet.now source.now hearers.now owed.now self.old) }
         ensures took { IfOk result (λ took. took ≡ takes_packet packet.now source.now hearers.now owed.now self.old) }

@@ -1,6 +1,7 @@
 //! The links of the core, in the order of their numbers.
 ghost use Rattle.std.specs.Prelude.{◌≡◌, ℕ, ◌≤◌, ◌<◌, ◌^◌, ◌++◌, [], IsTrue, List, None, Some, OnOk, IfOk, min, take, IfSome, length, map, position, filter, nat_le};
 ghost use Rattle.std.specs.List.{prefix_len};
+ghost use Rattle.std.specs.List.Sorted.{IsStrictlyIncreasing};
 ghost use Rattle.std.specs.Arc.{arc_value};
 ghost use Rattle.server_core.specs.LinkSteps.{Rises, at_link, at_moment, client_at, clients_in, filters_at, has_number, list_of, login_kept, logins_at, other_login, others_at, number_of, has_that, held_at, is_another, is_in_time, is_late_link, is_none_of, is_overfull, is_ready, is_there, numbers, pending_at, speaker_at, submitted_from, takes_packet, takes_shown, when_gone, with_bytes, with_date, with_filter, with_packet, with_room, with_session, with_shown, with_taken, with_text};
 ghost use Rattle.line_verdict.specs.Voices.{HasStation, voice_of};
@@ -81,6 +82,8 @@ pub(crate) fn share(
     hearers: &[u32],
     owed: &[u32],
 ) -> Result<usize, Memory>
+    requires hearers { IsStrictlyIncreasing hearers.now }
+    requires owed { IsStrictlyIncreasing owed.now }
     ensures numbers { numbers links.new.items ≡ numbers links.old.items }
     ensures ok { OnOk result (links.new.items ≡ map (with_packet packet.now source.now hearers.now owed.now) links.old.items) }
     ensures took { IfOk result (λ count. count ≡ length (filter (takes_packet packet.now source.now hearers.now owed.now) links.old.items)) }

@@ -1,5 +1,6 @@
 //! Messages: whom they are for, which links heard their receivers, and which are owed their senders' positions.
 ghost use Rattle.std.specs.Prelude.{◌≡◌, ◌&&◌, ◌++◌, ◌^◌, OnOk, IfOk, List, ℕ, filter};
+ghost use Rattle.std.specs.List.Sorted.{IsStrictlyIncreasing};
 ghost use Rattle.aprs_base.specs.declared.texts.Word9.{Word9};
 ghost use Rattle.filter_eval.specs.Passes.{is_some_and, is_text};
 ghost use Rattle.aprs_history.specs.Messages.{is_message, is_position};
@@ -43,9 +44,10 @@ pub(crate) fn is_message_to(packet: &Packet, call: &Call) -> bool
 }
 
 pub(crate) fn is_among(number: u32, numbers: &[u32]) -> bool
+    requires rising { IsStrictlyIncreasing numbers.now }
     ensures { result ≡ is_among number numbers.now }
 {
-    numbers.iter().any(|other| number == *other)
+    numbers.binary_search(&number).is_ok()
 }
 
 /// The word, where it is a call.
@@ -76,7 +78,8 @@ pub(crate) fn hearers_of(
     now: u64,
     to: &Option<Call>,
 ) -> Result<Vec<u32>, Memory>
-    ensures { IfOk result (λ links. links.items ≡ hearers_of now heard.now to.now) }
+    ensures hearers { IfOk result (λ links. links.items ≡ hearers_of now heard.now to.now) }
+    ensures rises { IfOk result (λ links. IsStrictlyIncreasing links.items) }
 {
     let mut links = Vec::new(alloc);
     if let Some(to) = to {
@@ -93,6 +96,7 @@ pub(crate) fn owed_to(
     sender: &Call,
 ) -> Result<Vec<u32>, Memory>
     ensures owed { IfOk result (λ links. links.items ≡ courtesies heard.old sender.now now) }
+    ensures rises { IfOk result (λ links. IsStrictlyIncreasing links.items) }
     ensures spent { OnOk result (heard.new ≡ without_promises sender.now heard.old) }
 {
     let mut links = Vec::new(alloc);

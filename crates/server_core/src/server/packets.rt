@@ -1,6 +1,7 @@
 //! What an accepted packet comes to.
 ghost use Rattle.std.specs.Prelude.{◌≡◌, IfOk, OnOk, false, map};
 ghost use Rattle.std.specs.Arc.{arc_value};
+ghost use Rattle.std.specs.List.Sorted.{IsStrictlyIncreasing};
 ghost use Rattle.dupe_window.specs.Windows.{has_copy};
 ghost use Rattle.aprs_history.specs.Scenes.{packet_of};
 ghost use Rattle.aprs_history.specs.declared.verdicts.Verdict.{Verdict};
@@ -49,6 +50,7 @@ impl Core {
     /// The links that are owed a position, whose promises are spent; none for other packets.
     fn spend(&mut self, alloc: Global, packet: &Packet) -> Result<Vec<u32>, Memory>
         ensures owed { IfOk result (λ links. links.items ≡ owed_in self.old.seen packet.now) }
+        ensures rises { IfOk result (λ links. IsStrictlyIncreasing links.items) }
         ensures spent { OnOk result (self.new ≡ record self.old { seen = record self.old.seen { heard = spent packet.now self.old.seen.heard } }) }
     {
         if is_position(packet) {
@@ -123,8 +125,7 @@ impl Core {
         self.totals.accepted = raised(self.totals.accepted, 1);
         self.totals.queued = raised(self.totals.queued, takers);
         self.stations.note(alloc, &packet)?;
-        self.window
-            .insert(Key::of(&packet.parts), packet.moment)?;
+        self.window.insert(Key::of(&packet.parts), packet.moment)?;
         Ok(())
     }
 
