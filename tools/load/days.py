@@ -1,0 +1,92 @@
+#!/usr/bin/env python3
+"""Sends packets of 50 stations to a server, and prints what it costs and keeps by the way.
+
+    days.py PROGRAM PACKETS [SPEED]     PROGRAM -c FILE is the server
+
+Without SPEED they are sent as fast as they go. With it the server's clock runs so many times as fast (by libfaketime), and the
+packets are spread over three of its days. Each line of what is printed: packets sent, processor seconds, kilobytes of memory, packets
+that the other client has got. That client says nothing, so it ends as a silent one after two of the days.
+"""
+
+import os
+import socket
+import subprocess
+import sys
+import tempfile
+import time
+
+LIBRARY = "/usr/lib/x86_64-linux-gnu/faketime/libfaketime.so.1"
+PORT, STATIONS, DAYS = 15010, 50, 3
+
+CONFIGURATION = f"""ServerId T2TEST
+PassCode 8385
+MyAdmin "Jane Doe, K1ABC"
+MyEmail k1abc@example.org
+Listen "Full feed" fullfeed tcp 127.0.0.1 {PORT}
+"""
+
+
+def start(program, folder, speed):
+    with open(f"{folder}/aprsc.conf", "w", encoding="ascii") as file:
+        file.write(CONFIGURATION)
+    surroundings = dict(os.environ)
+    if speed:
+        surroundings |= {"LD_PRELOAD": LIBRARY, "FAKETIME": f"+0 x{speed}", "FAKETIME_DONT_FAKE_MONOTONIC": "1"}
+    command = [os.path.abspath(program), "-c", "aprsc.conf"]
+    server = subprocess.Popen(command, cwd=folder, env=surroundings, stderr=subprocess.DEVNULL)
+    time.sleep(0.5)
+    return server
+
+
+def log_in(call, code):
+    client = socket.create_connection(("127.0.0.1", PORT))
+    client.sendall(f"user {call} pass {code} vers days 1\r\n".encode())
+    return client
+
+
+def cost(server):
+    """Processor seconds and kilobytes of a process."""
+    with open(f"/proc/{server.pid}/stat", encoding="ascii") as file:
+        fields = file.read().rsplit(")", 1)[1].split()
+    with open(f"/proc/{server.pid}/status", encoding="ascii") as file:
+        memory = next(line.split()[1] for line in file if line.startswith("VmRSS"))
+    return (int(fields[11]) + int(fields[12])) / os.sysconf("SC_CLK_TCK"), memory
+
+
+def packets(first):
+    """One packet of each station: positions and statuses in turn."""
+    bodies = (b"!49%02d.50N/07201.75W-%d" % (n, first) if n % 2 == 0 else b">k %d" % (first + n) for n in range(STATIONS))
+    return b"".join(b"ST%d>APRS,WIDE1-1:%s\r\n" % (n, body) for n, body in enumerate(bodies))
+
+
+def lines_in(client):
+    """How many line ends have come since."""
+    count = 0
+    while True:
+        try:
+            piece = client.recv(1 << 20, socket.MSG_DONTWAIT)
+        except BlockingIOError:
+            return count
+        if not piece:
+            return count
+        count += piece.count(b"\n")
+
+
+def main():
+    program, count, speed = sys.argv[1], int(sys.argv[2]), int(sys.argv[3]) if len(sys.argv) > 3 else 0
+    with tempfile.TemporaryDirectory() as folder:
+        server = start(program, folder, speed)
+        try:
+            sender, reader, got = log_in("N0CALL", 13023), log_in("K1ABC", 14993), 0
+            began, seconds = time.monotonic(), DAYS * 86_400 / speed if speed else 0
+            for sent in range(0, count, STATIONS):
+                sender.sendall(packets(sent))
+                got += lines_in(reader)
+                time.sleep(max(0.0, began + seconds * sent / count - time.monotonic()))
+                if sent in (10_000, count - STATIONS) or sent % (count // 20) == 0:
+                    print(sent, *cost(server), got, flush=True)
+        finally:
+            server.terminate()
+
+
+main()
