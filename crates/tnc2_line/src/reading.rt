@@ -4,8 +4,8 @@ ghost use Rattle.std.specs.List.{list_any, slice_split};
 ghost use Rattle.std.specs.Option.{ok_or, option_map};
 ghost use Rattle.aprs_base.specs.Bytes.{IsLine};
 ghost use Rattle.memchr.specs.Find.{is_byte};
-ghost use Rattle.tnc2_line.specs.Packet.{IsPacket, IsParts, call_of, checked_body, checked_path, construct_at, cut_at, head_of, is_comma, is_construct_via, may_follow, names_construct, next_via, parts_of, path_of, via_of, vias_of};
-ghost use Rattle.tnc2_line.specs.Pieces.{Gives, pieces_of};
+ghost use Rattle.tnc2_line.specs.Packet.{IsPacket, IsParts, call_of, checked_body, checked_path, construct_at, cut_at, is_comma, is_construct_via, may_follow, names_construct, next_via, parts_of, via_of, vias_of};
+ghost use Rattle.tnc2_line.specs.Pieces.{Begins, Fills, Gives, path_at, pieces_of};
 
 use aprs_base::{Call, Line, Parts, Via, first_place, is_construct_text};
 use arrayvec::ArrayVec;
@@ -95,10 +95,10 @@ fn read_next_via(earlier: &[Via], text: &[u8]) -> Option<Via>
     }
 }
 
-fn read_vias(first: Option<&[u8]>) -> Result<ArrayVec<Via, 32>, LineFault>
-    ensures { Gives (λ vias. vias.items) result (vias_of [] (pieces_of (option_map (λ rest. rest.now) first.entry))) }
+/// Appends the elements of a path to those that are there.
+fn read_vias(vias: &mut ArrayVec<Via, 32>, first: Option<&[u8]>) -> Result<(), LineFault>
+    ensures { Fills result vias.new.items (vias_of vias.old.items (pieces_of (option_map (λ rest. rest.now) first.entry))) }
 {
-    let mut vias: ArrayVec<Via, 32> = ArrayVec::new();
     let mut path = first;
     while let Some(text) = path {
         let (piece, rest) = first_piece(text);
@@ -108,7 +108,7 @@ fn read_vias(first: Option<&[u8]>) -> Result<ArrayVec<Via, 32>, LineFault>
         }
         path = rest;
     }
-    Ok(vias)
+    Ok(())
 }
 
 fn read_call(text: &[u8], fault: LineFault) -> Result<Call, LineFault>
@@ -117,30 +117,29 @@ fn read_call(text: &[u8], fault: LineFault) -> Result<Call, LineFault>
     Call::read(text).ok_or(fault)
 }
 
-/// The destination and the path.
-fn read_path(text: &[u8]) -> Result<(Call, ArrayVec<Via, 32>), LineFault>
-    ensures { Gives (λ path. (path.0, path.1.items)) result (path_of (slice_split is_comma text.now)) }
-{
-    let (dest, rest) = first_piece(text);
-    let dest = read_call(dest, LineFault::BadDest)?;
-    let vias = read_vias(rest)?;
-    Ok((dest, vias))
-}
-
 fn count_constructs(vias: &[Via]) -> usize
     ensures { result ≡ count_by names_construct vias.now }
 {
     vias.iter().filter(|via| is_construct_call(via)).count()
 }
 
-fn check_path(vias: ArrayVec<Via, 32>) -> Result<ArrayVec<Via, 32>, LineFault>
-    ensures { Gives (λ path. path.items) result (checked_path vias.items) }
+fn check_path(vias: &[Via]) -> Result<(), LineFault>
+    ensures { Fills result vias.now (checked_path vias.now) }
 {
-    if count_constructs(vias.as_slice()) > 1 {
+    if count_constructs(vias) > 1 {
         Err(LineFault::TwoConstructs)
     } else {
-        Ok(vias)
+        Ok(())
     }
+}
+
+/// Puts a path that is none yet where it will stay.
+fn read_path(vias: &mut ArrayVec<Via, 32>, first: Option<&[u8]>) -> Result<(), LineFault>
+    requires { vias.old.items ≡ [] }
+    ensures { Fills result vias.new.items (path_at (pieces_of (option_map (λ rest. rest.now) first.entry))) }
+{
+    read_vias(vias, first)?;
+    check_path(vias.as_slice())
 }
 
 fn cut_or(byte: u8, text: &[u8], fault: LineFault) -> Result<(&[u8], &[u8]), LineFault>
@@ -152,45 +151,50 @@ fn cut_or(byte: u8, text: &[u8], fault: LineFault) -> Result<(&[u8], &[u8]), Lin
     }
 }
 
-/// Source, destination and path.
+/// The source, the destination, and the text of the path.
 #[tactic(auto, unfolding(crate::specs::Packet::head_of))]
-fn read_head(head: &[u8]) -> Result<(Call, Call, ArrayVec<Via, 32>), LineFault>
-    ensures { Gives (λ parts. (parts.0, parts.1, parts.2.items)) result (head_of head.now) }
+fn read_calls(head: &[u8]) -> Result<(Call, Call, Option<&[u8]>), LineFault>
+    ensures { Begins (option_map (λ rest. rest.now)) result head.now }
 {
     let (source, path) = cut_or(b'>', head, LineFault::NoArrow)?;
     let source = read_call(source, LineFault::BadSource)?;
-    let (dest, vias) = read_path(path)?;
-    let vias = check_path(vias)?;
-    Ok((source, dest, vias))
+    let (dest, path) = first_piece(path);
+    let dest = read_call(dest, LineFault::BadDest)?;
+    Ok((source, dest, path))
 }
 
-fn read_body(text: &[u8]) -> Result<ArrayVec<u8, 510>, LineFault>
-    requires { length text.now ≤ 510 }
-    ensures { Gives (λ body. body.items) result (checked_body text.now) }
+/// Puts a body that is none yet where it will stay.
+fn read_body(body: &mut ArrayVec<u8, 510>, text: &[u8]) -> Result<(), LineFault>
+    requires empty { body.old.items ≡ [] }
+    requires short { length text.now ≤ 510 }
+    ensures { Fills result body.new.items (checked_body text.now) }
 {
     if text.is_empty() {
         return Err(LineFault::NoBody);
     }
-    match ArrayVec::try_from(text) {
-        Ok(body) => Ok(body),
+    match body.try_extend_from_slice(text) {
+        Ok(()) => Ok(()),
         Err(_) => unreachable!(),
     }
 }
 
+/// Parts with these calls, which are filled where they stay.
 #[tactic(auto, unfolding(crate::specs::Packet::parts_of))]
 fn read_parts(line: &Line) -> Result<Parts, LineFault>
     ensures exact { result ≡ parts_of line.now }
     ensures grammar { IsLine line.now }
 {
     let (head, body) = cut_or(b':', line.bytes(), LineFault::NoColon)?;
-    let (source, dest, vias) = read_head(head)?;
-    let body = read_body(body)?;
-    Ok(Parts {
+    let (source, dest, path) = read_calls(head)?;
+    let mut parts = Parts {
         source,
         dest,
-        vias,
-        body,
-    })
+        vias: ArrayVec::new(),
+        body: ArrayVec::new(),
+    };
+    read_path(&mut parts.vias, path)?;
+    read_body(&mut parts.body, body)?;
+    Ok(parts)
 }
 
 /// The parts of a packet line, or its first fault.
