@@ -1,7 +1,7 @@
 //! Packets, their parts, and what their bodies say.
 ghost use Rattle.std.specs.Prelude.{◌≡◌, ℕ, ◌≤ℤ◌, pos, negsuc, List};
 
-use crate::texts::{Addr, Call, Line, Word9};
+use crate::texts::{Addr, Call, Line, Word9, copy_call};
 use arrayvec::ArrayVec;
 use std::marker::Model;
 use std::sync::Arc;
@@ -133,7 +133,10 @@ impl Model for UplinkSpec {
 pub fn copy_via(via: &Via) -> Via
     ensures { result ≡ via.now }
 {
-    via.clone().unwrap()
+    Via {
+        call: copy_call(&via.call),
+        star: via.star,
+    }
 }
 
 /// A copy of an uplink's name, which takes no memory.

@@ -50,11 +50,10 @@ impl Model for Call {
 }
 
 impl Default for Call {
-    ghost is_default = { λ c. c ≡ 65 ∷ [] };
+    ghost is_default = { λ c. c ≡ 65 ∷ 65 ∷ 65 ∷ 65 ∷ 65 ∷ 65 ∷ 65 ∷ 65 ∷ 65 ∷ [] };
 
     fn default() -> Call {
-        let mut text = ArrayVec::new();
-        text.push(b'A');
+        let text = ArrayVec::from_array_in((), *b"AAAAAAAAA");
         Call { text }
     }
 }
@@ -158,7 +157,10 @@ pub fn is_construct_text(text: &[u8]) -> bool
 pub fn copy_call(call: &Call) -> Call
     ensures { result ≡ call.now }
 {
-    call.clone().unwrap()
+    match ArrayVec::try_from(call.text.as_slice()) {
+        Ok(text) => Call { text },
+        Err(_) => unreachable!(),
+    }
 }
 
 /// A text of 0 to 9 bytes, as a name or the receiver of a message.

@@ -58,12 +58,14 @@ fn path_len(vias: &[Via]) -> usize
     len
 }
 
+/// How many bytes the parts have with this path.
 #[tactic(auto, unfolding(tnc2_line::specs::Packet::text_of))]
-fn text_len(parts: &Parts) -> usize
-    ensures { result ≡ length (text_of parts.now) }
+fn text_len(parts: &Parts, path: &[Via]) -> usize
+    requires { length path.now ≤ 32 }
+    ensures { result ≡ length (text_of (with_path parts.now path.now)) }
 {
     let calls = parts.source.bytes().len() + parts.dest.bytes().len();
-    calls + path_len(parts.vias.as_slice()) + parts.body.len() + 2
+    calls + path_len(path) + parts.body.len() + 2
 }
 
 fn copy_vias(path: &[Via]) -> ArrayVec<Via, 32>
@@ -80,7 +82,10 @@ fn copy_vias(path: &[Via]) -> ArrayVec<Via, 32>
 fn copy_text(body: &ArrayVec<u8, 510>) -> ArrayVec<u8, 510>
     ensures { result ≡ body.now }
 {
-    body.clone().unwrap()
+    match ArrayVec::try_from(body.as_slice()) {
+        Ok(text) => text,
+        Err(_) => unreachable!(),
+    }
 }
 
 /// The parts with this path.
@@ -103,11 +108,10 @@ fn finish(parts: &Parts, path: &[Via]) -> Result<Parts, QDrop>
     if path.len() > 32 {
         return Err(QDrop::Long);
     }
-    let whole = with_path(parts, path);
-    if text_len(&whole) > 510 {
+    if text_len(parts, path) > 510 {
         Err(QDrop::Long)
     } else {
-        Ok(whole)
+        Ok(with_path(parts, path))
     }
 }
 
