@@ -50,10 +50,11 @@ impl Model for Call {
 }
 
 impl Default for Call {
-    ghost is_default = { λ c. c ≡ 65 ∷ 65 ∷ 65 ∷ 65 ∷ 65 ∷ 65 ∷ 65 ∷ 65 ∷ 65 ∷ [] };
+    ghost is_default = { λ c. c ≡ 65 ∷ [] };
 
     fn default() -> Call {
-        let text = ArrayVec::from_array_in((), *b"AAAAAAAAA");
+        let mut text = ArrayVec::new();
+        text.push(b'A');
         Call { text }
     }
 }
