@@ -1,5 +1,5 @@
 //! The parts of a path.
-ghost use Rattle.std.specs.Prelude.{◌≡◌, ℕ, ◌+◌, ◌-◌, ◌<◌, ◌≤◌, ◌∷◌, ◌++◌, List, length, take, drop, map, true, false, MatchOption};
+ghost use Rattle.std.specs.Prelude.{◌≡◌, ℕ, ◌+◌, ◌-◌, ◌<◌, ◌≤◌, [], ◌∷◌, ◌++◌, List, length, take, drop, map, true, false, MatchOption};
 ghost use Rattle.std.specs.List.{after_first, list_any, position_or_len};
 ghost use Rattle.aprs_base.specs.Bytes.{IsCall};
 ghost use Rattle.tnc2_line.specs.Packet.{names_construct};
@@ -137,45 +137,48 @@ fn element(text: &[u8], star: bool) -> Via
     }
 }
 
-/// A copy of these elements, with room for four more.
-pub fn copy_path(vias: &[Via]) -> Path
-    requires { length vias.now ≤ 32 }
-    ensures { result.items ≡ vias.now }
+/// Copies these elements to a path that has none.
+pub fn put_path(path: &mut Path, vias: &[Via])
+    requires empty { path.old.items ≡ [] }
+    requires short { length vias.now ≤ 32 }
+    ensures { path.new.items ≡ vias.now }
 {
-    let mut path: Path = ArrayVec::new();
     for via in vias {
         path.push(copy_via(via));
     }
-    path
 }
 
-/// These elements, the construct, and the name.
-pub fn with_ending(front: &[Via], construct: &[u8], name: &Call) -> Path
-    requires short { length front.now ≤ 32 }
+/// Puts the construct and the name behind the path.
+fn push_ending(path: &mut Path, construct: &[u8], name: &Call)
+    requires short { length path.old.items ≤ 32 }
     requires construct { IsCall construct.now }
-    ensures { result.items ≡ front.now ++ ending construct.now name.now }
+    ensures { path.new.items ≡ path.old.items ++ ending construct.now name.now }
 {
-    let mut path = copy_path(front);
     path.push(element(construct, false));
     path.push(Via {
         call: copy_call(name),
         star: false,
     });
-    path
 }
 
-/// The path of what a user sends here: how it came, the construct, and the server.
-pub fn submitted(way: &[u8], construct: &[u8], server: &Call) -> Path
+/// Copies these elements, and puts the construct and the name behind them.
+pub fn put_ended(path: &mut Path, front: &[Via], construct: &[u8], name: &Call)
+    requires empty { path.old.items ≡ [] }
+    requires short { length front.now ≤ 32 }
+    requires construct { IsCall construct.now }
+    ensures { path.new.items ≡ front.now ++ ending construct.now name.now }
+{
+    put_path(path, front);
+    push_ending(path, construct, name);
+}
+
+/// Puts the path of what a user sends here: how it came, the construct, and the server.
+pub fn put_submitted(path: &mut Path, way: &[u8], construct: &[u8], server: &Call)
+    requires empty { path.old.items ≡ [] }
     requires way { IsCall way.now }
     requires construct { IsCall construct.now }
-    ensures { result.items ≡ starred way.now ∷ ending construct.now server.now }
+    ensures { path.new.items ≡ starred way.now ∷ ending construct.now server.now }
 {
-    let mut path: Path = ArrayVec::new();
     path.push(element(way, true));
-    path.push(element(construct, false));
-    path.push(Via {
-        call: copy_call(server),
-        star: false,
-    });
-    path
+    push_ending(path, construct, server);
 }

@@ -1,11 +1,11 @@
 //! The rule as a whole.
-ghost use Rattle.std.specs.Prelude.{◌≡◌, ℕ, ◌+◌, ◌<◌, ◌≤◌, List, length, Ok, Err, IfOk, OnOk, IsTrue, false, if◌then◌else◌};
+ghost use Rattle.std.specs.Prelude.{◌≡◌, ℕ, ◌+◌, ◌<◌, ◌≤◌, [], List, length, Ok, Err, IfOk, OnOk, IsTrue, false, if◌then◌else◌};
 ghost use Rattle.std.specs.List.{flat_map};
 ghost use Rattle.aprs_base.specs.Bytes.{is_station};
 ghost use Rattle.tnc2_line.specs.Packet.{IsParts, text_of, with_comma};
 ghost use Rattle.q_construct.specs.Rule.{among, has_station, is_long, keeps_names, name_of, names_after, process_of, traced, with_name, with_path};
 
-use crate::building::build;
+use crate::building::{Built, build};
 use crate::drops::{QDrop, check_built, check_given};
 use crate::origins::{Origin, origin_name};
 use crate::paths::{Path, after, construct_bytes, given_path, has_call};
@@ -68,22 +68,25 @@ fn text_len(parts: &Parts, path: &[Via]) -> usize
     calls + path_len(path) + parts.body.len() + 2
 }
 
-fn copy_vias(path: &[Via]) -> ArrayVec<Via, 32>
-    requires { length path.now ≤ 32 }
-    ensures { result.items ≡ path.now }
+/// Copies these elements to a path that has none.
+fn put_vias(vias: &mut ArrayVec<Via, 32>, path: &[Via])
+    requires empty { vias.old.items ≡ [] }
+    requires short { length path.now ≤ 32 }
+    ensures { vias.new.items ≡ path.now }
 {
-    let mut vias: ArrayVec<Via, 32> = ArrayVec::new();
     for via in path {
         vias.push(copy_via(via));
     }
-    vias
 }
 
-fn copy_text(body: &ArrayVec<u8, 510>) -> ArrayVec<u8, 510>
-    ensures { result ≡ body.now }
+/// Copies the text to a body that has none.
+fn put_body(body: &mut ArrayVec<u8, 510>, text: &[u8])
+    requires empty { body.old.items ≡ [] }
+    requires short { length text.now ≤ 510 }
+    ensures { body.new.items ≡ text.now }
 {
-    match ArrayVec::try_from(body.as_slice()) {
-        Ok(text) => text,
+    match body.try_extend_from_slice(text) {
+        Ok(()) => {}
         Err(_) => unreachable!(),
     }
 }
@@ -93,12 +96,15 @@ fn with_path(parts: &Parts, path: &[Via]) -> Parts
     requires { length path.now ≤ 32 }
     ensures { result ≡ with_path parts.now path.now }
 {
-    Parts {
+    let mut whole = Parts {
         source: copy_call(&parts.source),
         dest: copy_call(&parts.dest),
-        vias: copy_vias(path),
-        body: copy_text(&parts.body),
-    }
+        vias: ArrayVec::new(),
+        body: ArrayVec::new(),
+    };
+    put_vias(&mut whole.vias, path);
+    put_body(&mut whole.body, parts.body.as_slice());
+    whole
 }
 
 /// The parts with this path, where they aren't too long.
@@ -128,7 +134,8 @@ fn process_from(
 {
     let given = given_path(parts.vias.as_slice());
     check_given(parts, origin, server, given)?;
-    let mut built = build(&parts.source, origin, name, server, given);
+    let mut built = Built::new();
+    build(&mut built, &parts.source, origin, name, server, given);
     check_built(origin, server, others, &built)?;
     trace(&mut built.path, name, server);
     finish(parts, built.path.as_slice())
