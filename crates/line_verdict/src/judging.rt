@@ -167,19 +167,6 @@ pub fn judge_login(
     }
 }
 
-/// The packet that a line is, as it goes on from this server.
-fn route(server: &Call, origin: &Origin, others: &[Call], line: &Line) -> Result<Parts, Refusal>
-    requires server { IsTrue (is_station server.now) }
-    requires origin { IsTrue (has_station origin.now) }
-    ensures exact { result ≡ read_and_routed server.now origin.now others.now (parts_of line.now) }
-    ensures sound { IfOk result (λ parts. IsParts parts × (length (text_of parts) ≤ 510)) }
-{
-    match read(line) {
-        Ok(parts) => process(&parts, origin, server, others).map_err(Refusal::Path),
-        Err(fault) => Err(Refusal::Packet(fault)),
-    }
-}
-
 /// How many blanks a text ends with.
 fn last_blanks(text: &[u8]) -> usize
     ensures { result ≡ suffix_len is_blank text.now }
@@ -192,6 +179,40 @@ fn is_copy(moment: u64, window: &Window, parts: &Parts) -> bool
     ensures { result ≡ has_copy moment window.now parts.now }
 {
     window.seen(&Key::of(parts), moment).is_some()
+}
+
+/// The verdict on a packet that goes on so: it is accepted, unless it is a copy.
+fn judge_whole(moment: u64, window: &Window, parts: Parts) -> Verdict
+    requires sound { IsParts parts }
+    requires short { length (text_of parts) ≤ 510 }
+    ensures { result ≡ packet_verdict (has_copy moment window.now) (Ok parts) }
+{
+    let line = line_of(&parts);
+    if is_copy(moment, window, &parts) {
+        Verdict::Refused(Refusal::Duplicate(parts, line))
+    } else {
+        Verdict::Accepted(parts, line)
+    }
+}
+
+/// The verdict on a packet that came with these parts.
+fn judge_parts(
+    server: &Call,
+    origin: &Origin,
+    others: &[Call],
+    moment: u64,
+    window: &Window,
+    parts: &Parts,
+) -> Verdict
+    requires parts { IsParts parts.now }
+    requires server { IsTrue (is_station server.now) }
+    requires origin { IsTrue (has_station origin.now) }
+    ensures { result ≡ packet_verdict (has_copy moment window.now) (read_and_routed server.now origin.now others.now (Ok parts.now)) }
+{
+    match process(parts, origin, server, others) {
+        Err(why) => Verdict::Refused(Refusal::Path(why)),
+        Ok(whole) => judge_whole(moment, window, whole),
+    }
 }
 
 /// The verdict on a packet from there. `others` are the logins of the other verified links, and the window has the packets that
@@ -208,16 +229,9 @@ pub fn judge_packet(
     requires origin { IsTrue (has_station origin.now) }
     ensures { result ≡ packet_verdict (has_copy moment window.now) (read_and_routed server.now origin.now others.now (parts_of line.now)) }
 {
-    match route(server, origin, others, line) {
-        Err(refusal) => Verdict::Refused(refusal),
-        Ok(parts) => {
-            let line = line_of(&parts);
-            if is_copy(moment, window, &parts) {
-                Verdict::Refused(Refusal::Duplicate(parts, line))
-            } else {
-                Verdict::Accepted(parts, line)
-            }
-        }
+    match read(line) {
+        Err(fault) => Verdict::Refused(Refusal::Packet(fault)),
+        Ok(parts) => judge_parts(server, origin, others, moment, window, &parts),
     }
 }
 
