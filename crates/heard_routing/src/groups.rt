@@ -1,80 +1,19 @@
 //! Calls with the links that have them, found by the call and by the link.
-ghost use Rattle.std.specs.Prelude.{◌≡◌, ◌++◌, ◌∷◌, [], true, false, filter, length, is_some, nat_eq, nat_lt, OnOk, OnErr};
-ghost use Rattle.std.specs.Map.{lookup};
-ghost use Rattle.indexmap.specs.IndexMap.{insert_entry};
-ghost use Rattle.filter_eval.specs.Passes.{is_text};
-ghost use Rattle.heard_routing.specs.Entries.{HasEachOnce, is_another, with_link, with_moment};
-ghost use Rattle.heard_routing.specs.Heard.{IsRisingListOf, has_recent, is_recent_entry, kept_links, links_with, recent_groups, without_links};
-ghost use Rattle.heard_routing.specs.Listed.{ListsAll, ListsMore, has_call, is_listed, without_each, without_one};
+ghost use Rattle.std.specs.Prelude.{◌≡◌, ◌++◌, [], OnOk, OnErr};
+ghost use Rattle.heard_routing.specs.Entries.{HasEachOnce, is_another, with_moment};
+ghost use Rattle.heard_routing.specs.Heard.{IsRisingListOf, has_recent, kept_links, links_with, recent_groups, without_links};
+ghost use Rattle.heard_routing.specs.Listed.{ListsAll, ListsExactly};
 
-use crate::links::Links;
-use crate::listed::{Listed, keep_listed, list};
-use crate::table::{Table, append_recent, clear, keep_recent, remove_each};
-use aprs_base::{Call, Memory, copy_call};
+use crate::listed::{Listed, keep_listed, list, unlist, unlist_each};
+use crate::table;
+use crate::table::{Table, append_recent, has, keep_recent, links_of, remove_each};
+use aprs_base::{Call, Memory};
 use indexmap::IndexMap;
 use std::alloc::Global;
 use std::hash::RandomState;
 use std::marker::Model;
 
-/// Lists the call with the link, where the link isn't among those that have the call.
-fn list_new(
-    links: &Links,
-    listed: &mut Listed,
-    alloc: Global,
-    hasher: &RandomState,
-    link: u32,
-    call: &Call,
-) -> Result<(), Memory>
-    ensures more { ListsMore listed.old.entries listed.new.entries }
-    ensures here { OnOk result (is_some (lookup (nat_eq link) links.now) ≡ false → is_listed listed.new.entries link call.now ≡ true) }
-{
-    if links.has(link) {
-        return Ok(());
-    }
-    list(listed, alloc, hasher, link, call)
-}
-
-/// Sets the moment of the link among those of a call that is there.
-fn renew(
-    links: &mut Links,
-    listed: &mut Listed,
-    alloc: Global,
-    hasher: &RandomState,
-    link: u32,
-    call: &Call,
-    moment: u64,
-) -> Result<(), Memory>
-    ensures ok { OnOk result (links.new ≡ with_link link moment links.old) }
-    ensures err { OnErr result (links.new ≡ links.old) }
-    ensures more { ListsMore listed.old.entries listed.new.entries }
-    ensures here { OnOk result (is_some (lookup (nat_eq link) links.old) ≡ false → is_listed listed.new.entries link call.now ≡ true) }
-{
-    list_new(links, listed, alloc, hasher, link, call)?;
-    links.set(link, moment)
-}
-
-/// Adds a call that is new, with one link.
-fn start(
-    table: &mut Table,
-    listed: &mut Listed,
-    alloc: Global,
-    hasher: &RandomState,
-    link: u32,
-    call: &Call,
-    moment: u64,
-) -> Result<(), Memory>
-    ensures ok { OnOk result (table.new.entries ≡ insert_entry is_text table.old.entries call.now ((link, moment) ∷ [])) }
-    ensures err { OnErr result (table.new.entries ≡ table.old.entries) }
-    ensures more { ListsMore listed.old.entries listed.new.entries }
-    ensures here { OnOk result (is_listed listed.new.entries link call.now ≡ true) }
-{
-    list(listed, alloc, hasher, link, call)?;
-    let links = Links::one(alloc, link, moment)?;
-    table.insert(copy_call(call), links)?;
-    Ok(())
-}
-
-/// Sets the moment of the link and the call. A call that is new goes last.
+/// Sets the moment of the link and the call, which is listed with it. A call that is new goes last.
 fn set(
     table: &mut Table,
     listed: &mut Listed,
@@ -86,18 +25,34 @@ fn set(
 ) -> Result<(), Memory>
     ensures ok { OnOk result (table.new.entries ≡ with_moment link call.now moment table.old.entries) }
     ensures err { OnErr result (table.new.entries ≡ table.old.entries) }
-    ensures lists { ListsAll listed.old.entries table.old.entries → ListsAll listed.new.entries table.new.entries }
+    ensures lists { ListsExactly listed.old.entries table.old.entries → ListsExactly listed.new.entries table.new.entries }
 {
-    match table.get_mut(call) {
-        Some(links) => renew(links, listed, alloc, hasher, link, call, moment),
-        None => start(table, listed, alloc, hasher, link, call, moment),
+    if has(table, link, call) {
+        return table::set(table, alloc, link, call, moment);
     }
+    list(listed, alloc, hasher, link, call)?;
+    match table::set(table, alloc, link, call, moment) {
+        Ok(()) => Ok(()),
+        Err(error) => {
+            unlist(listed, link, call);
+            Err(error)
+        }
+    }
+}
+
+/// Removes all links of the call.
+fn clear(table: &mut Table, listed: &mut Listed, call: &Call)
+    ensures cleared { table.new.entries ≡ without_links call.now table.old.entries }
+    ensures lists { ListsExactly listed.old.entries table.old.entries → ListsExactly listed.new.entries table.new.entries }
+{
+    unlist_each(listed, links_of(table, call), call);
+    table::clear(table, call);
 }
 
 /// Removes the link of all calls, which are listed.
 fn forget(table: &mut Table, listed: &mut Listed, link: u32)
     ensures kept { HasEachOnce table.old.entries → ListsAll listed.old.entries table.old.entries → table.new.entries ≡ kept_links (is_another link) table.old.entries }
-    ensures lists { HasEachOnce table.old.entries → ListsAll listed.old.entries table.old.entries → ListsAll listed.new.entries table.new.entries }
+    ensures lists { HasEachOnce table.old.entries → ListsExactly listed.old.entries table.old.entries → ListsExactly listed.new.entries table.new.entries }
 {
     if let Some(calls) = listed.swap_remove(&link) {
         remove_each(table, link, calls.as_slice());
@@ -107,7 +62,7 @@ fn forget(table: &mut Table, listed: &mut Listed, link: u32)
 /// Keeps what is at most `age` old at `now`; both in seconds.
 fn expire(table: &mut Table, listed: &mut Listed, now: u64, age: u64)
     ensures kept { table.new.entries ≡ recent_groups age now table.old.entries }
-    ensures lists { HasEachOnce table.old.entries → ListsAll listed.old.entries table.old.entries → ListsAll listed.new.entries table.new.entries }
+    ensures lists { HasEachOnce table.old.entries → ListsAll listed.old.entries table.old.entries → ListsExactly listed.new.entries table.new.entries }
 {
     keep_recent(table, now, age);
     keep_listed(listed, table);
@@ -123,13 +78,13 @@ pub struct Groups {
 impl Model for Groups {
     ghost use Rattle.std.specs.Prelude.{List};
     ghost use Rattle.heard_routing.specs.Entries.{Group, HasEachOnce};
-    ghost use Rattle.heard_routing.specs.Listed.{ListsAll};
+    ghost use Rattle.heard_routing.specs.Listed.{ListsExactly};
 
     ghost Value = { List Group };
 
     ghost view = { λ g. g.by_call.entries };
 
-    ghost invariant = { λ g. HasEachOnce g.by_call.entries × ListsAll g.by_link.entries g.by_call.entries };
+    ghost invariant = { λ g. HasEachOnce g.by_call.entries × ListsExactly g.by_link.entries g.by_call.entries };
 }
 
 impl Groups {
@@ -185,7 +140,7 @@ impl Groups {
     pub fn clear(&mut self, call: &Call)
         ensures { self.new ≡ without_links call.now self.old }
     {
-        clear(&mut self.by_call, call);
+        clear(&mut self.by_call, &mut self.by_link, call);
     }
 
     /// Removes the link of all calls.

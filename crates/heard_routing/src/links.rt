@@ -10,7 +10,7 @@ use std::alloc::Global;
 use std::marker::Model;
 
 /// A link and a moment, in seconds.
-type Entry = (u32, u64);
+pub type Entry = (u32, u64);
 
 /// How many of the links are lower, which is where the link belongs.
 fn place_of(entries: &[Entry], link: u32) -> usize
@@ -112,6 +112,13 @@ impl Links {
         ensures { result ≡ is_some (lookup (nat_eq link) self.now) }
     {
         has(self.entries.as_slice(), link)
+    }
+
+    /// The links with their moments.
+    pub fn as_slice(&self) -> &[Entry]
+        ensures { result.now ≡ self.now }
+    {
+        self.entries.as_slice()
     }
 
     /// Sets the moment of the link, which may be new.

@@ -1,10 +1,11 @@
-//! For each link the calls that it may have.
-ghost use Rattle.std.specs.Prelude.{◌≡◌, true, filter, length, is_some, nat_eq, nat_lt, unwrap_or, ◌∷◌, [], IfOk, OnOk, OnErr};
-ghost use Rattle.std.specs.Map.{lookup};
+//! For each link the calls that it has.
+ghost use Rattle.std.specs.Prelude.{◌≡◌, ℕ, List, ◌&&◌, not, filter, length, nat_lt, ◌∷◌, [], IfOk, OnOk, OnErr};
+ghost use Rattle.std.specs.List.{list_any};
 ghost use Rattle.indexmap.specs.IndexSet.{insert_key};
 ghost use Rattle.filter_eval.specs.Passes.{is_text};
-ghost use Rattle.heard_routing.specs.Listed.{ListsMore, calls_of, has_call, is_listed, still_listed, with_listing};
+ghost use Rattle.heard_routing.specs.Listed.{Unlists, UnlistsEach, has_call, still_listed, with_listing};
 
+use crate::links::Entry;
 use crate::table::{Table, has};
 use aprs_base::{Call, Memory, copy_call};
 use indexmap::{IndexMap, IndexSet};
@@ -26,7 +27,7 @@ impl Model for Calls {
     ghost view = { λ c. c.calls.keys };
 }
 
-/// For each link the calls that it may have.
+/// For each link the calls that it has.
 pub type Listed = IndexMap<u32, Calls, RandomState>;
 
 fn keep_had(calls: &mut IndexSet<Call, RandomState>, table: &Table, link: u32)
@@ -50,6 +51,12 @@ impl Calls {
     {
         self.calls.insert(copy_call(call))?;
         Ok(())
+    }
+
+    fn remove(&mut self, call: &Call)
+        ensures { (text : List ℕ) → list_any (is_text text) self.new ≡ (not (is_text call.now text) && list_any (is_text text) self.old) }
+    {
+        self.calls.swap_remove(call);
     }
 
     /// Keeps the calls that the link has. Says whether one is left.
@@ -88,6 +95,24 @@ pub fn list(
         }
     }
     Ok(())
+}
+
+/// Takes the call from those of the link.
+pub fn unlist(listed: &mut Listed, link: u32, call: &Call)
+    ensures { Unlists link call.now listed.old.entries listed.new.entries }
+{
+    if let Some(calls) = listed.get_mut(&link) {
+        calls.remove(call);
+    }
+}
+
+/// Takes the call from those of each of the links.
+pub fn unlist_each(listed: &mut Listed, links: &[Entry], call: &Call)
+    ensures { UnlistsEach links.now call.now listed.old.entries listed.new.entries }
+{
+    for entry in links {
+        unlist(listed, entry.0, call);
+    }
 }
 
 /// Keeps the calls that links have.

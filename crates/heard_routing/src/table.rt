@@ -1,10 +1,13 @@
 //! For each call the links that have it.
-ghost use Rattle.std.specs.Prelude.{◌≡◌, ◌++◌, filter, length, nat_lt, OnOk, OnErr};
+ghost use Rattle.std.specs.Prelude.{◌≡◌, ◌++◌, ◌∷◌, [], filter, length, nat_lt, OnOk, OnErr};
+ghost use Rattle.indexmap.specs.IndexMap.{insert_entry};
+ghost use Rattle.filter_eval.specs.Passes.{is_text};
+ghost use Rattle.heard_routing.specs.Entries.{links_of, with_moment};
 ghost use Rattle.heard_routing.specs.Heard.{is_recent_entry, links_with, recent_groups, without_links};
 ghost use Rattle.heard_routing.specs.Listed.{has_call, without_each, without_one};
 
-use crate::links::Links;
-use aprs_base::{Call, Memory};
+use crate::links::{Entry, Links};
+use aprs_base::{Call, Memory, copy_call};
 use indexmap::IndexMap;
 use std::alloc::Global;
 use std::hash::RandomState;
@@ -19,6 +22,49 @@ pub fn has(table: &Table, link: u32, call: &Call) -> bool
     match table.get(call) {
         Some(links) => links.has(link),
         None => false,
+    }
+}
+
+/// The links that have the call, with their moments.
+pub fn links_of<'a>(table: &'a Table, call: &Call) -> &'a [Entry]
+    ensures { result.now ≡ links_of call.now table.now.entries }
+{
+    match table.get(call) {
+        Some(links) => links.as_slice(),
+        None => &[],
+    }
+}
+
+/// Adds a call that is new, with one link.
+fn start(
+    table: &mut Table,
+    alloc: Global,
+    link: u32,
+    call: &Call,
+    moment: u64,
+) -> Result<(), Memory>
+    ensures ok { OnOk result (table.new.entries ≡ insert_entry is_text table.old.entries call.now ((link, moment) ∷ [])) }
+    ensures err { OnErr result (table.new.entries ≡ table.old.entries) }
+{
+    let links = Links::one(alloc, link, moment)?;
+    table.insert(copy_call(call), links)?;
+    Ok(())
+}
+
+/// Sets the moment of the link and the call. A call that is new goes last.
+pub fn set(
+    table: &mut Table,
+    alloc: Global,
+    link: u32,
+    call: &Call,
+    moment: u64,
+) -> Result<(), Memory>
+    ensures ok { OnOk result (table.new.entries ≡ with_moment link call.now moment table.old.entries) }
+    ensures err { OnErr result (table.new.entries ≡ table.old.entries) }
+{
+    match table.get_mut(call) {
+        Some(links) => links.set(link, moment),
+        None => start(table, alloc, link, call, moment),
     }
 }
 
