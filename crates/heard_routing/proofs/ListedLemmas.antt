@@ -118,30 +118,6 @@ unlisted link call listed after old new there is without other text =
         ∙ ap (λ l. not (is_text call text) && is_listed listed l text) (sym (eqb-true other link is))
     by false is = refl
 
-pub unlisted_nowhere : (link : ℕ) (call : List ℕ) (listed : List Listing) → lookup (nat_eq link) listed ≡ None → Unlists link call listed listed
-unlisted_nowhere link call listed none other text = by (nat_eq other link) refl
-  where
-    by : (b : Bool) → nat_eq other link ≡ b → is_listed listed other text ≡ (not (b && is_text call text) && is_listed listed other text)
-    by true is =
-        let gone : is_listed listed other text ≡ false = ap (λ l. is_listed listed l text) (eqb-true other link is) ∙ ap (λ o. list_any (is_text text) (unwrap_or o [])) none in
-        gone ∙ sym (ap (λ b. not (is_text call text) && b) gone ∙ and_false (not (is_text call text)))
-    by false is = refl
-
--- what is left to take from the lists, one link on
-pub unlisted_more : (entry : Entry) (links : List Entry) (call : List ℕ) (before after : List Listing) → Unlists entry.0 call before after → (other : ℕ) (text : List ℕ)
-    → (not (is_some (lookup (nat_eq other) links) && is_text call text) && is_listed after other text)
-    ≡ (not (is_some (lookup (nat_eq other) (entry ∷ links)) && is_text call text) && is_listed before other text)
-unlisted_more entry links call before after taken other text =
-    ap (λ b. not (is_some (lookup (nat_eq other) links) && is_text call text) && b) (taken other text)
-    ∙ by (nat_eq other entry.0) (lookup (nat_eq other) links) (is_text call text) (is_listed before other text)
-  where
-    by : (a : Bool) (o : Option ℕ) (t b : Bool) → (not (is_some o && t) && (not (a && t) && b)) ≡ (not (is_some (cond a (Some entry.1) o) && t) && b)
-    by true None true b = refl
-    by true None false b = refl
-    by true (Some n) true b = refl
-    by true (Some n) false b = refl
-    by false o t b = refl
-
 pub listed_cleared : (call : List ℕ) (listed after : List Listing) (groups new : List Group) → UnlistsEach (links_of call groups) call listed after → new ≡ without_links call groups
     → ListsExactly listed groups → ListsExactly after new
 listed_cleared call listed after groups new taken is exact =

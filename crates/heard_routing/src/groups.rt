@@ -1,6 +1,7 @@
 //! Calls with the links that have them, found by the call and by the link.
-ghost use Rattle.std.specs.Prelude.{◌≡◌, ◌++◌, [], OnOk, OnErr};
-ghost use Rattle.heard_routing.specs.Entries.{HasEachOnce, is_another, with_moment};
+ghost use Rattle.std.specs.Prelude.{◌≡◌, ◌++◌, OnOk, OnErr};
+ghost use Rattle.indexmap.specs.IndexMap.{hasher_of};
+ghost use Rattle.heard_routing.specs.Entries.{HasEachOnce, is_another, no_groups, with_moment};
 ghost use Rattle.heard_routing.specs.Heard.{IsRisingListOf, has_recent, kept_links, links_with, recent_groups, without_links};
 ghost use Rattle.heard_routing.specs.Listed.{ListsAll, ListsExactly};
 
@@ -18,7 +19,6 @@ fn set(
     table: &mut Table,
     listed: &mut Listed,
     alloc: Global,
-    hasher: &RandomState,
     link: u32,
     call: &Call,
     moment: u64,
@@ -26,11 +26,12 @@ fn set(
     ensures ok { OnOk result (table.new.entries ≡ with_moment link call.now moment table.old.entries) }
     ensures err { OnErr result (table.new.entries ≡ table.old.entries) }
     ensures lists { ListsExactly listed.old.entries table.old.entries → ListsExactly listed.new.entries table.new.entries }
+    ensures hashers { (hasher_of table.new ≡ hasher_of table.old) × (hasher_of listed.new ≡ hasher_of listed.old) }
 {
     if has(table, link, call) {
         return table::set(table, alloc, link, call, moment);
     }
-    list(listed, alloc, hasher, link, call)?;
+    list(listed, alloc, link, call)?;
     match table::set(table, alloc, link, call, moment) {
         Ok(()) => Ok(()),
         Err(error) => {
@@ -44,6 +45,7 @@ fn set(
 fn clear(table: &mut Table, listed: &mut Listed, call: &Call)
     ensures cleared { table.new.entries ≡ without_links call.now table.old.entries }
     ensures lists { ListsExactly listed.old.entries table.old.entries → ListsExactly listed.new.entries table.new.entries }
+    ensures hashers { (hasher_of table.new ≡ hasher_of table.old) × (hasher_of listed.new ≡ hasher_of listed.old) }
 {
     unlist_each(listed, links_of(table, call), call);
     table::clear(table, call);
@@ -53,6 +55,7 @@ fn clear(table: &mut Table, listed: &mut Listed, call: &Call)
 fn forget(table: &mut Table, listed: &mut Listed, link: u32)
     ensures kept { HasEachOnce table.old.entries → ListsAll listed.old.entries table.old.entries → table.new.entries ≡ kept_links (is_another link) table.old.entries }
     ensures lists { HasEachOnce table.old.entries → ListsExactly listed.old.entries table.old.entries → ListsExactly listed.new.entries table.new.entries }
+    ensures hashers { (hasher_of table.new ≡ hasher_of table.old) × (hasher_of listed.new ≡ hasher_of listed.old) }
 {
     if let Some(calls) = listed.swap_remove(&link) {
         remove_each(table, link, calls.as_slice());
@@ -63,6 +66,7 @@ fn forget(table: &mut Table, listed: &mut Listed, link: u32)
 fn expire(table: &mut Table, listed: &mut Listed, now: u64, age: u64)
     ensures kept { table.new.entries ≡ recent_groups age now table.old.entries }
     ensures lists { HasEachOnce table.old.entries → ListsAll listed.old.entries table.old.entries → ListsExactly listed.new.entries table.new.entries }
+    ensures hashers { (hasher_of table.new ≡ hasher_of table.old) × (hasher_of listed.new ≡ hasher_of listed.old) }
 {
     keep_recent(table, now, age);
     keep_listed(listed, table);
@@ -76,20 +80,22 @@ pub struct Groups {
 }
 
 impl Model for Groups {
-    ghost use Rattle.std.specs.Prelude.{List};
-    ghost use Rattle.heard_routing.specs.Entries.{Group, HasEachOnce};
+    ghost use Rattle.std.specs.Prelude.{◌≡◌};
+    ghost use Rattle.indexmap.specs.IndexMap.{hasher_of};
+    ghost use Rattle.heard_routing.specs.Entries.{GroupsSeen, HasEachOnce};
     ghost use Rattle.heard_routing.specs.Listed.{ListsExactly};
 
-    ghost Value = { List Group };
+    ghost Value = { GroupsSeen };
 
-    ghost view = { λ g. g.by_call.entries };
+    ghost view = { λ g. record { groups = g.by_call.entries; hasher = hasher_of g.by_call } };
 
-    ghost invariant = { λ g. HasEachOnce g.by_call.entries × ListsExactly g.by_link.entries g.by_call.entries };
+    ghost invariant = { λ g. HasEachOnce g.by_call.entries × ListsExactly g.by_link.entries g.by_call.entries × (hasher_of g.by_link ≡ hasher_of g.by_call) };
 }
 
 impl Groups {
+    /// No call is there. Each map has a copy of the hasher.
     pub fn new(alloc: Global, hasher: &RandomState) -> Groups
-        ensures { result ≡ [] }
+        ensures { result ≡ no_groups hasher.now }
     {
         Groups {
             by_call: IndexMap::with_hasher(alloc, *hasher),
@@ -98,22 +104,14 @@ impl Groups {
     }
 
     /// Sets the moment of the link and the call. A call that is new goes last.
-    pub fn set(
-        &mut self,
-        alloc: Global,
-        hasher: &RandomState,
-        link: u32,
-        call: &Call,
-        moment: u64,
-    ) -> Result<(), Memory>
-        ensures ok { OnOk result (self.new ≡ with_moment link call.now moment self.old) }
+    pub fn set(&mut self, alloc: Global, link: u32, call: &Call, moment: u64) -> Result<(), Memory>
+        ensures ok { OnOk result (self.new ≡ record self.old { groups = with_moment link call.now moment self.old.groups }) }
         ensures err { OnErr result (self.new ≡ self.old) }
     {
         set(
             &mut self.by_call,
             &mut self.by_link,
             alloc,
-            hasher,
             link,
             call,
             moment,
@@ -129,8 +127,8 @@ impl Groups {
         age: u64,
         out: &mut Vec<u32>,
     ) -> Result<(), Memory>
-        ensures ok { OnOk result (out.new.items ≡ out.old.items ++ links_with age call.now now self.now) }
-        ensures links { IsRisingListOf (links_with age call.now now self.now) (has_recent age now self.now call.now) }
+        ensures ok { OnOk result (out.new.items ≡ out.old.items ++ links_with age call.now now self.now.groups) }
+        ensures links { IsRisingListOf (links_with age call.now now self.now.groups) (has_recent age now self.now.groups call.now) }
         ensures err { OnErr result (out.new.items ≡ out.old.items) }
     {
         append_recent(&self.by_call, alloc, call, now, age, out)
@@ -138,22 +136,22 @@ impl Groups {
 
     /// Removes all links of the call.
     pub fn clear(&mut self, call: &Call)
-        ensures { self.new ≡ without_links call.now self.old }
+        ensures { self.new ≡ record self.old { groups = without_links call.now self.old.groups } }
     {
         clear(&mut self.by_call, &mut self.by_link, call);
     }
 
     /// Removes the link of all calls.
     pub fn forget(&mut self, link: u32)
-        ensures { self.new ≡ kept_links (is_another link) self.old }
+        ensures { self.new ≡ record self.old { groups = kept_links (is_another link) self.old.groups } }
     {
         forget(&mut self.by_call, &mut self.by_link, link);
     }
 
     /// Keeps what is at most `age` old at `now`; both in seconds.
     pub fn expire(&mut self, now: u64, age: u64)
-        ensures kept { self.new ≡ recent_groups age now self.old }
-        ensures once { HasEachOnce self.old }
+        ensures kept { self.new ≡ record self.old { groups = recent_groups age now self.old.groups } }
+        ensures once { HasEachOnce self.old.groups }
     {
         expire(&mut self.by_call, &mut self.by_link, now, age);
     }

@@ -1,6 +1,7 @@
 //! For each link the calls that it has.
 ghost use Rattle.std.specs.Prelude.{◌≡◌, ℕ, List, ◌&&◌, not, filter, length, nat_lt, ◌∷◌, [], IfOk, OnOk, OnErr};
 ghost use Rattle.std.specs.List.{list_any};
+ghost use Rattle.indexmap.specs.IndexMap.{hasher_of};
 ghost use Rattle.indexmap.specs.IndexSet.{insert_key};
 ghost use Rattle.filter_eval.specs.Passes.{is_text};
 ghost use Rattle.heard_routing.specs.Listed.{Unlists, UnlistsEach, has_call, still_listed, with_listing};
@@ -76,21 +77,16 @@ impl Calls {
     }
 }
 
-/// Lists the call among those of the link.
-pub fn list(
-    listed: &mut Listed,
-    alloc: Global,
-    hasher: &RandomState,
-    link: u32,
-    call: &Call,
-) -> Result<(), Memory>
+/// Lists the call among those of the link. A new list has the hasher of all.
+pub fn list(listed: &mut Listed, alloc: Global, link: u32, call: &Call) -> Result<(), Memory>
     ensures ok { OnOk result (listed.new.entries ≡ with_listing link call.now listed.old.entries) }
     ensures err { OnErr result (listed.new.entries ≡ listed.old.entries) }
+    ensures hasher { hasher_of listed.new ≡ hasher_of listed.old }
 {
     match listed.get_mut(&link) {
         Some(calls) => calls.insert(call)?,
         None => {
-            let calls = Calls::one(alloc, hasher, call)?;
+            let calls = Calls::one(alloc, listed.hasher(), call)?;
             listed.insert(link, calls)?;
         }
     }
@@ -99,7 +95,8 @@ pub fn list(
 
 /// Takes the call from those of the link.
 pub fn unlist(listed: &mut Listed, link: u32, call: &Call)
-    ensures { Unlists link call.now listed.old.entries listed.new.entries }
+    ensures unlisted { Unlists link call.now listed.old.entries listed.new.entries }
+    ensures hasher { hasher_of listed.new ≡ hasher_of listed.old }
 {
     if let Some(calls) = listed.get_mut(&link) {
         calls.remove(call);
@@ -108,7 +105,8 @@ pub fn unlist(listed: &mut Listed, link: u32, call: &Call)
 
 /// Takes the call from those of each of the links.
 pub fn unlist_each(listed: &mut Listed, links: &[Entry], call: &Call)
-    ensures { UnlistsEach links.now call.now listed.old.entries listed.new.entries }
+    ensures unlisted { UnlistsEach links.now call.now listed.old.entries listed.new.entries }
+    ensures hasher { hasher_of listed.new ≡ hasher_of listed.old }
 {
     for entry in links {
         unlist(listed, entry.0, call);
@@ -117,7 +115,8 @@ pub fn unlist_each(listed: &mut Listed, links: &[Entry], call: &Call)
 
 /// Keeps the calls that links have.
 pub fn keep_listed(listed: &mut Listed, table: &Table)
-    ensures { listed.new.entries ≡ still_listed table.now.entries listed.old.entries }
+    ensures kept { listed.new.entries ≡ still_listed table.now.entries listed.old.entries }
+    ensures hasher { hasher_of listed.new ≡ hasher_of listed.old }
 {
     listed.retain(
         |link: &u32, calls: &mut Calls| -> bool

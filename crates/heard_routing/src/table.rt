@@ -1,6 +1,6 @@
 //! For each call the links that have it.
 ghost use Rattle.std.specs.Prelude.{◌≡◌, ◌++◌, ◌∷◌, [], filter, length, nat_lt, OnOk, OnErr};
-ghost use Rattle.indexmap.specs.IndexMap.{insert_entry};
+ghost use Rattle.indexmap.specs.IndexMap.{hasher_of, insert_entry};
 ghost use Rattle.filter_eval.specs.Passes.{is_text};
 ghost use Rattle.heard_routing.specs.Entries.{links_of, with_moment};
 ghost use Rattle.heard_routing.specs.Heard.{is_recent_entry, links_with, recent_groups, without_links};
@@ -45,6 +45,7 @@ fn start(
 ) -> Result<(), Memory>
     ensures ok { OnOk result (table.new.entries ≡ insert_entry is_text table.old.entries call.now ((link, moment) ∷ [])) }
     ensures err { OnErr result (table.new.entries ≡ table.old.entries) }
+    ensures hasher { hasher_of table.new ≡ hasher_of table.old }
 {
     let links = Links::one(alloc, link, moment)?;
     table.insert(copy_call(call), links)?;
@@ -61,6 +62,7 @@ pub fn set(
 ) -> Result<(), Memory>
     ensures ok { OnOk result (table.new.entries ≡ with_moment link call.now moment table.old.entries) }
     ensures err { OnErr result (table.new.entries ≡ table.old.entries) }
+    ensures hasher { hasher_of table.new ≡ hasher_of table.old }
 {
     match table.get_mut(call) {
         Some(links) => links.set(link, moment),
@@ -70,7 +72,8 @@ pub fn set(
 
 /// Keeps what is at most `age` old at `now`; both in seconds. A call that no link has is dropped.
 pub fn keep_recent(table: &mut Table, now: u64, age: u64)
-    ensures { table.new.entries ≡ recent_groups age now table.old.entries }
+    ensures kept { table.new.entries ≡ recent_groups age now table.old.entries }
+    ensures hasher { hasher_of table.new ≡ hasher_of table.old }
 {
     table.retain(
         |_call: &Call, links: &mut Links| -> bool
@@ -99,7 +102,8 @@ pub fn append_recent(
 
 /// Removes all links of the call.
 pub fn clear(table: &mut Table, call: &Call)
-    ensures { table.new.entries ≡ without_links call.now table.old.entries }
+    ensures cleared { table.new.entries ≡ without_links call.now table.old.entries }
+    ensures hasher { hasher_of table.new ≡ hasher_of table.old }
 {
     if let Some(links) = table.get_mut(call) {
         links.clear();
@@ -108,7 +112,8 @@ pub fn clear(table: &mut Table, call: &Call)
 
 /// Removes the link of the call.
 fn remove_one(table: &mut Table, link: u32, call: &Call)
-    ensures { table.new.entries ≡ without_one link call.now table.old.entries }
+    ensures removed { table.new.entries ≡ without_one link call.now table.old.entries }
+    ensures hasher { hasher_of table.new ≡ hasher_of table.old }
 {
     if let Some(links) = table.get_mut(call) {
         links.remove(link);
@@ -117,7 +122,8 @@ fn remove_one(table: &mut Table, link: u32, call: &Call)
 
 /// Removes the link of each of the calls.
 pub fn remove_each(table: &mut Table, link: u32, calls: &[Call])
-    ensures { table.new.entries ≡ without_each link calls.now table.old.entries }
+    ensures removed { table.new.entries ≡ without_each link calls.now table.old.entries }
+    ensures hasher { hasher_of table.new ≡ hasher_of table.old }
 {
     for call in calls {
         remove_one(table, link, call);

@@ -8,4 +8,4 @@ returns-clause-lists c =
     let call = c.args.call.now in
     let after = c.unlist_each.new.listed.entries in
     listed_cleared call c.args.listed.now.entries after c.args.table.now.entries c.clear.new.table.entries
-    (subst (λ links. UnlistsEach links call c.args.listed.now.entries after) c.links_of.ensures c.unlist_each.ensures) c.clear.ensures
+    (subst (λ links. UnlistsEach links call c.args.listed.now.entries after) c.links_of.ensures c.unlist_each.ensures.unlisted) c.clear.ensures.cleared

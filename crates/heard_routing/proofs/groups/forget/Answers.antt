@@ -8,7 +8,7 @@ use Rattle.heard_routing.proofs.groups.forget.Goals as goal
 pub returns-in-Some-clause-kept : goal.returns-in-Some-clause-kept
 returns-in-Some-clause-kept c = λ once all.
     let groups = c.args.table.now.entries in
-    c.remove_each.ensures ∙ ap (λ calls. without_each c.args.link calls groups) c.as_slice.ensures
+    c.remove_each.ensures.removed ∙ ap (λ calls. without_each c.args.link calls groups) c.as_slice.ensures
     ∙ all_without c.args.link c.in-Some.calls groups once (λ call has. ap (λ o. list_any (is_text call) (unwrap_or o [])) c.in-Some.ensures.value ∙ all c.args.link call has)
 
 pub returns-in-Some-clause-lists : goal.returns-in-Some-clause-lists

@@ -14,4 +14,4 @@ returns-in-Ok-clause-lists c =
 pub returns-in-Err-clause-lists : goal.returns-in-Err-clause-lists
 returns-in-Err-clause-lists c =
     listed_back c.args.listed.now.entries c.list.new.listed.entries c.unlist.new.listed.entries c.args.table.now.entries c.set-2.new.table.entries c.args.link c.args.call.now
-    (sym c.has.ensures ∙ c.if-has.false) c.in_ok-list.ensures.ok c.unlist.ensures c.in-Err.ensures.err
+    (sym c.has.ensures ∙ c.if-has.false) c.in_ok-list.ensures.ok c.unlist.ensures.unlisted c.in-Err.ensures.err
