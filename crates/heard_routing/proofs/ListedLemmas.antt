@@ -1,9 +1,9 @@
 -- The calls that a link has are listed, and no others.
 use Rattle.std.proofs.Common.{◌≡◌, ℕ, Bool, true, false, cond, not, ◌&&◌, ◌||◌, ◌==◌, filter, length, List, [], ◌∷◌, ◌++◌, Option, Some, None, Result, Ok, Err, OnOk, OnErr, is_some, refl, sym, ap, ◌∙◌, subst, nat_eq, nat_lt, unwrap_or, if◌then◌else◌, arith, true≢false}
 use Rattle.std.specs.Cmp.Lexicographic.{same_text}
-use Rattle.std.specs.List.{AllByRecursion, IsDistinct, list_any}
+use Rattle.std.specs.List.{AllByRecursion, IsDistinct, list_all, list_any}
 use Rattle.std.specs.Map.{keys_of, lookup, set_value}
-use Rattle.std.proofs.lemmas.Bool.{eqb-true, lt-ltb}
+use Rattle.std.proofs.lemmas.Bool.{and_parts, eqb-true, lt-ltb}
 use Rattle.std.proofs.lemmas.Cmp.{nat_eq_equiv, nat_list_eq_equiv}
 use Rattle.std.proofs.lemmas.List.Folds.{list_any-append}
 use Rattle.std.proofs.lemmas.Map.{keys-set_value}
@@ -13,7 +13,7 @@ use Rattle.indexmap.specs.IndexSet.{insert_key}
 use Rattle.filter_eval.specs.Passes.{is_text}
 use Rattle.station_table.proofs.EntryLemmas.{lookup_set}
 use Rattle.heard_routing.specs.Entries.{Entry, Group, HasEachOnce, is_another, links_of, moment_at, with_moment}
-use Rattle.heard_routing.specs.Heard.{kept_links, recent_groups, without_links}
+use Rattle.heard_routing.specs.Heard.{has_links, is_recent_entry, is_recent_group, kept_links, recent_groups, without_links}
 use Rattle.heard_routing.specs.LastHeard.{still}
 use Rattle.heard_routing.specs.Listed.{Listing, ListsAll, ListsExactly, Unlists, UnlistsEach, calls_of, has_call, is_listed, still_listed, with_listing, without_each, without_one}
 use Rattle.heard_routing.proofs.LinkLemmas.{lookup_without, nothing_removed}
@@ -205,6 +205,21 @@ still_only groups (one ∷ more) link call among = by (nat_lt 0 (length had)) (s
         here true is among = only_had groups link call one.1 (subst (λ l. list_any (is_text call) (filter (has_call groups l) one.1) ≡ true) (sym (eqb-true link one.0 is)) among)
         here false is among = rest among
     by false rest among = rest among
+
+-- where nothing is too old, nothing goes
+pub nothing_goes : (age now : ℕ) (groups : List Group) → list_all (is_recent_group age now) groups ≡ true → recent_groups age now groups ≡ groups
+nothing_goes age now [] all = refl
+nothing_goes age now (group ∷ groups) all =
+    let parts : (is_recent_group age now group ≡ true) × (list_all (is_recent_group age now) groups ≡ true) = and_parts _ _ all in
+    let here : (has_links group ≡ true) × (list_all (is_recent_entry age now) group.1 ≡ true) = and_parts _ _ parts.0 in
+    let same : filter (is_recent_entry age now) group.1 ≡ group.1 = each group.1 here.1 in
+    rw same (rw here.0 (ap (λ l. group ∷ l) (nothing_goes age now groups parts.1)))
+  where
+    each : (links : List Entry) → list_all (is_recent_entry age now) links ≡ true → filter (is_recent_entry age now) links ≡ links
+    each [] h = refl
+    each (link ∷ links) h =
+        let parts : (is_recent_entry age now link ≡ true) × (list_all (is_recent_entry age now) links ≡ true) = and_parts _ _ h in
+        rw parts.0 (ap (λ l. link ∷ l) (each links parts.1))
 
 same_bool : (a b : Bool) → (a ≡ true → b ≡ true) → (b ≡ true → a ≡ true) → a ≡ b
 same_bool true b to from = sym (to refl)

@@ -1,9 +1,10 @@
 //! For each call the links that have it.
 ghost use Rattle.std.specs.Prelude.{◌≡◌, ◌++◌, ◌∷◌, [], filter, length, nat_lt, OnOk, OnErr};
+ghost use Rattle.std.specs.List.{list_all};
 ghost use Rattle.indexmap.specs.IndexMap.{hasher_of, insert_entry};
 ghost use Rattle.filter_eval.specs.Passes.{is_text};
 ghost use Rattle.heard_routing.specs.Entries.{links_of, with_moment};
-ghost use Rattle.heard_routing.specs.Heard.{is_recent_entry, links_with, recent_groups, without_links};
+ghost use Rattle.heard_routing.specs.Heard.{is_recent_entry, is_recent_group, links_with, recent_groups, without_links};
 ghost use Rattle.heard_routing.specs.Listed.{has_call, without_each, without_one};
 
 use crate::links::{Entry, Links};
@@ -68,6 +69,13 @@ pub fn set(
         Some(links) => links.set(link, moment),
         None => start(table, alloc, link, call, moment),
     }
+}
+
+/// Whether each call has a link, and none from longer than `age` before `now`; both in seconds.
+pub fn is_recent(table: &Table, now: u64, age: u64) -> bool
+    ensures { result ≡ list_all (is_recent_group age now) table.now.entries }
+{
+    table.values().all(|links| links.are_recent(now, age))
 }
 
 /// Keeps what is at most `age` old at `now`; both in seconds. A call that no link has is dropped.
