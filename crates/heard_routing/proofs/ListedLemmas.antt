@@ -1,9 +1,9 @@
--- The calls that a link has are listed.
+-- The calls that a link has are listed, and no others.
 use Rattle.std.proofs.Common.{◌≡◌, ℕ, Bool, true, false, cond, not, ◌&&◌, ◌||◌, ◌==◌, filter, length, List, [], ◌∷◌, ◌++◌, Option, Some, None, Result, Ok, Err, OnOk, OnErr, is_some, refl, sym, ap, ◌∙◌, subst, nat_eq, nat_lt, unwrap_or, if◌then◌else◌, arith, true≢false}
 use Rattle.std.specs.Cmp.Lexicographic.{same_text}
-use Rattle.std.specs.List.{AllByRecursion, IsDistinct, list_any}
+use Rattle.std.specs.List.{AllByRecursion, IsDistinct, list_all, list_any}
 use Rattle.std.specs.Map.{keys_of, lookup, set_value}
-use Rattle.std.proofs.lemmas.Bool.{eqb-true, lt-ltb}
+use Rattle.std.proofs.lemmas.Bool.{and_parts, eqb-true, lt-ltb}
 use Rattle.std.proofs.lemmas.Cmp.{nat_eq_equiv, nat_list_eq_equiv}
 use Rattle.std.proofs.lemmas.List.Folds.{list_any-append}
 use Rattle.std.proofs.lemmas.Map.{keys-set_value}
@@ -13,99 +13,124 @@ use Rattle.indexmap.specs.IndexSet.{insert_key}
 use Rattle.filter_eval.specs.Passes.{is_text}
 use Rattle.station_table.proofs.EntryLemmas.{lookup_set}
 use Rattle.heard_routing.specs.Entries.{Entry, Group, HasEachOnce, is_another, links_of, moment_at, with_moment}
-use Rattle.heard_routing.specs.Heard.{kept_links, recent_groups, without_links}
+use Rattle.heard_routing.specs.Heard.{has_links, is_recent_entry, is_recent_group, kept_links, recent_groups, without_links}
 use Rattle.heard_routing.specs.LastHeard.{still}
-use Rattle.heard_routing.specs.Listed.{Listing, ListsAll, ListsMore, calls_of, has_call, is_listed, still_listed, with_listing, without_each, without_one}
+use Rattle.heard_routing.specs.Listed.{Listing, ListsAll, ListsExactly, Unlists, UnlistsEach, calls_of, has_call, is_listed, still_listed, with_listing, without_each, without_one}
 use Rattle.heard_routing.proofs.LinkLemmas.{lookup_without, nothing_removed}
-use Rattle.heard_routing.proofs.LookLemmas.{links_written, moment_emptied, moment_recent, moment_set, moment_without}
+use Rattle.heard_routing.proofs.LookLemmas.{and_false, links_written, moment_emptied, moment_recent, moment_set, moment_without}
+use Rattle.heard_routing.proofs.TableLemmas.{written_there}
 
 -- ---- one more call
 
 text_itself : (text : List ℕ) → is_text text text ≡ true
 text_itself text = nat_list_eq_equiv.refl text
 
-kept_among : (text call : List ℕ) (calls : List (List ℕ)) → list_any (is_text text) calls ≡ true → list_any (is_text text) (insert_key is_text calls call) ≡ true
-kept_among text call calls among = by (list_any (is_text call) calls)
+any_inserted : (text call : List ℕ) (calls : List (List ℕ)) → list_any (is_text text) (insert_key is_text calls call) ≡ (is_text text call || list_any (is_text text) calls)
+any_inserted text call calls = by (list_any (is_text call) calls) refl
   where
-    by : (b : Bool) → list_any (is_text text) (if b then calls else calls ++ call ∷ []) ≡ true
-    by true = among
-    by false = list_any-append (is_text text) calls (call ∷ []) ∙ ap (λ b. b || list_any (is_text text) (call ∷ [])) among
+    there : (b : Bool) → is_text text call ≡ b → list_any (is_text call) calls ≡ true → list_any (is_text text) calls ≡ (b || list_any (is_text text) calls)
+    there true same is = ap (λ t. list_any (is_text t) calls) (same_text text call (sym same)) ∙ is
+    there false same is = refl
 
-or_first : (a : Bool) → (a || true) ≡ true
-or_first true = refl
-or_first false = refl
+    turned : (a b : Bool) → (a || (b || false)) ≡ (b || a)
+    turned true true = refl
+    turned true false = refl
+    turned false true = refl
+    turned false false = refl
 
-now_among : (call : List ℕ) (calls : List (List ℕ)) → list_any (is_text call) (insert_key is_text calls call) ≡ true
-now_among call calls = by (list_any (is_text call) calls) refl
-  where
-    by : (b : Bool) → list_any (is_text call) calls ≡ b → list_any (is_text call) (if b then calls else calls ++ call ∷ []) ≡ true
-    by true is = is
-    by false is = list_any-append (is_text call) calls (call ∷ []) ∙ ap (λ b. list_any (is_text call) calls || (b || false)) (text_itself call) ∙ or_first (list_any (is_text call) calls)
+    by : (b : Bool) → list_any (is_text call) calls ≡ b → list_any (is_text text) (if b then calls else calls ++ call ∷ []) ≡ (is_text text call || list_any (is_text text) calls)
+    by true is = there (is_text text call) refl is
+    by false is = list_any-append (is_text text) calls (call ∷ []) ∙ turned (list_any (is_text text) calls) (is_text text call)
 
-pub lists_more : (link : ℕ) (call : List ℕ) (listed : List Listing) → ListsMore listed (with_listing link call listed)
-lists_more link call listed other text among =
+lists_one_more : (link other : ℕ) (call text : List ℕ) (listed : List Listing) → is_listed (with_listing link call listed) other text ≡ ((other == link && is_text text call) || is_listed listed other text)
+lists_one_more link other call text listed =
     ap (λ o. list_any (is_text text) (unwrap_or o [])) (lookup_set nat_eq_equiv link other (insert_key is_text (calls_of link listed) call) listed) ∙ by (nat_eq other link) refl
   where
-    by : (b : Bool) → nat_eq other link ≡ b → list_any (is_text text) (unwrap_or (cond b (Some (insert_key is_text (calls_of link listed) call)) (lookup (nat_eq other) listed)) []) ≡ true
+    by : (b : Bool) → nat_eq other link ≡ b
+        → list_any (is_text text) (unwrap_or (cond b (Some (insert_key is_text (calls_of link listed) call)) (lookup (nat_eq other) listed)) []) ≡ ((b && is_text text call) || is_listed listed other text)
+    by true is = any_inserted text call (calls_of link listed) ∙ ap (λ l. is_text text call || is_listed listed l text) (sym (eqb-true other link is))
+    by false is = refl
+
+has_one_more : (groups : List Group) (link other : ℕ) (call text : List ℕ) (moment : ℕ)
+    → has_call (with_moment link call moment groups) other text ≡ ((other == link && is_text text call) || has_call groups other text)
+has_one_more groups link other call text moment = ap (λ o. is_some o) (moment_set groups link other call text moment) ∙ by (other == link && is_text text call)
+  where
+    by : (b : Bool) → is_some (cond b (Some moment) (moment_at groups other text)) ≡ (b || has_call groups other text)
+    by true = refl
+    by false = refl
+
+-- a link that has the call already
+pub listed_there : {A E : Type 0} (result : Result A E) (listed : List Listing) (groups new : List Group) (link : ℕ) (call : List ℕ) (moment : ℕ) → has_call groups link call ≡ true
+    → OnOk result (new ≡ with_moment link call moment groups) → OnErr result (new ≡ groups) → ListsExactly listed groups → ListsExactly listed new
+listed_there (Ok x) listed groups new link call moment here ok err exact =
+    subst (ListsExactly listed) (sym ok)
+    (λ other text. exact other text ∙ sym (has_one_more groups link other call text moment ∙ by other text (other == link) (is_text text call) refl refl))
+  where
+    by : (other : ℕ) (text : List ℕ) (a b : Bool) → (other == link) ≡ a → is_text text call ≡ b → ((a && b) || has_call groups other text) ≡ has_call groups other text
+    by other text true true is same = sym (ap (λ l. has_call groups l text) (eqb-true other link is) ∙ ap (has_call groups link) (same_text text call (sym same)) ∙ here)
+    by other text true false is same = refl
+    by other text false b is same = refl
+listed_there (Err e) listed groups new link call moment here ok err exact = subst (ListsExactly listed) (sym err) exact
+
+-- a link that is new there
+pub listed_new : (listed after : List Listing) (groups new : List Group) (link : ℕ) (call : List ℕ) (moment : ℕ) → after ≡ with_listing link call listed → new ≡ with_moment link call moment groups
+    → ListsExactly listed groups → ListsExactly after new
+listed_new listed after groups new link call moment lists is exact =
+    subst (λ l. ListsExactly l new) (sym lists)
+    (subst (ListsExactly (with_listing link call listed)) (sym is)
+    (λ other text.
+    lists_one_more link other call text listed ∙ ap (λ b. (other == link && is_text text call) || b) (exact other text) ∙ sym (has_one_more groups link other call text moment)))
+
+-- what was listed in vain is taken back
+pub listed_back : (listed more after : List Listing) (groups new : List Group) (link : ℕ) (call : List ℕ) → has_call groups link call ≡ false → more ≡ with_listing link call listed
+    → Unlists link call more after → new ≡ groups → ListsExactly listed groups → ListsExactly after new
+listed_back listed more after groups new link call gone lists taken is exact =
+    subst (ListsExactly after) (sym is)
+    (λ other text.
+    taken other text
+    ∙ ap (λ l. not (other == link && is_text call text) && is_listed l other text) lists
+    ∙ ap (λ b. not (other == link && is_text call text) && b) (lists_one_more link other call text listed ∙ ap (λ b. (other == link && is_text text call) || b) (exact other text))
+    ∙ by other text (other == link) (is_text text call) (is_text call text) refl refl (nat_list_eq_equiv.symm call text))
+  where
+    by : (other : ℕ) (text : List ℕ) (a b d : Bool) → (other == link) ≡ a → is_text text call ≡ b → d ≡ b → (not (a && d) && ((a && b) || has_call groups other text)) ≡ has_call groups other text
+    by other text true true true is same turned = sym (ap (λ l. has_call groups l text) (eqb-true other link is) ∙ ap (has_call groups link) (same_text text call (sym same)) ∙ gone)
+    by other text true true false is same turned = absurd (true≢false (sym turned))
+    by other text true false true is same turned = absurd (true≢false turned)
+    by other text true false false is same turned = refl
+    by other text false b d is same turned = refl
+
+-- ---- what goes from the lists
+
+never : (a : Bool) → (not (a && true) && a) ≡ false
+never true = refl
+never false = refl
+
+pub unlisted : (link : ℕ) (call : List ℕ) (listed after : List Listing) (old new : List (List ℕ)) → lookup (nat_eq link) listed ≡ Some old → after ≡ set_value (nat_eq link) listed new
+    → ((text : List ℕ) → list_any (is_text text) new ≡ (not (is_text call text) && list_any (is_text text) old)) → Unlists link call listed after
+unlisted link call listed after old new there is without other text =
+    ap (λ l. is_listed l other text) (is ∙ written_there nat_eq link listed old new there)
+    ∙ ap (λ o. list_any (is_text text) (unwrap_or o [])) (lookup_set nat_eq_equiv link other new listed)
+    ∙ by (nat_eq other link) refl
+  where
+    by : (b : Bool) → nat_eq other link ≡ b → list_any (is_text text) (unwrap_or (cond b (Some new) (lookup (nat_eq other) listed)) []) ≡ (not (b && is_text call text) && is_listed listed other text)
     by true is =
-        let same : other ≡ link = eqb-true other link is in
-        kept_among text call (calls_of link listed) (subst (λ l. is_listed listed l text ≡ true) same among)
-    by false is = among
+        without text ∙ ap (λ o. not (is_text call text) && list_any (is_text text) (unwrap_or o [])) (sym there)
+        ∙ ap (λ l. not (is_text call text) && is_listed listed l text) (sym (eqb-true other link is))
+    by false is = refl
 
-pub lists_it : (link : ℕ) (call : List ℕ) (listed : List Listing) → is_listed (with_listing link call listed) link call ≡ true
-lists_it link call listed =
-    ap (λ o. list_any (is_text call) (unwrap_or o [])) (lookup_set nat_eq_equiv link link (insert_key is_text (calls_of link listed) call) listed)
-    ∙ ap (λ b. list_any (is_text call) (unwrap_or (cond b (Some (insert_key is_text (calls_of link listed) call)) (lookup (nat_eq link) listed)) [])) (nat_eq_equiv.refl link)
-    ∙ now_among call (calls_of link listed)
-
-pub more_after : {A E : Type 0} (result : Result A E) (link : ℕ) (call : List ℕ) (before after : List Listing) → OnOk result (after ≡ with_listing link call before) → OnErr result (after ≡ before)
-    → ListsMore before after
-more_after (Ok x) link call before after ok err = subst (ListsMore before) (sym ok) (lists_more link call before)
-more_after (Err e) link call before after ok err = subst (ListsMore before) (sym err) (λ other text among. among)
-
-pub here_after : {A E : Type 0} (result : Result A E) (P : Type 0) (link : ℕ) (call : List ℕ) (before after : List Listing) → OnOk result (after ≡ with_listing link call before)
-    → OnOk result (P → is_listed after link call ≡ true)
-here_after (Ok x) P link call before after ok = λ h. ap (λ listed. is_listed listed link call) ok ∙ lists_it link call before
-here_after (Err e) P link call before after ok = tt
-
-pub told_anyway : {A E : Type 0} (result : Result A E) (P Q : Type 0) → OnOk result Q → OnOk result (P → Q)
-told_anyway (Ok x) P Q h = λ p. h
-told_anyway (Err e) P Q h = tt
-
--- ---- what goes on to list all
-
-pub all_listed_more : (old new : List Listing) (groups : List Group) → ListsMore old new → ListsAll old groups → ListsAll new groups
-all_listed_more old new groups more all link call has = more link call (all link call has)
-
-pub all_listed_set : (listed : List Listing) (groups : List Group) (link : ℕ) (call : List ℕ) (moment : ℕ) → is_listed listed link call ≡ true → ListsAll listed groups
-    → ListsAll listed (with_moment link call moment groups)
-all_listed_set listed groups link call moment here all other text has = by (other == link) (is_text text call) refl refl (sym (ap (λ o. is_some o) (moment_set groups link other call text moment)) ∙ has)
+pub listed_cleared : (call : List ℕ) (listed after : List Listing) (groups new : List Group) → UnlistsEach (links_of call groups) call listed after → new ≡ without_links call groups
+    → ListsExactly listed groups → ListsExactly after new
+listed_cleared call listed after groups new taken is exact =
+    subst (ListsExactly after) (sym is)
+    (λ other text.
+    taken other text
+    ∙ ap (λ b. not (has_call groups other call && is_text call text) && b) (exact other text)
+    ∙ by other text (is_text call text) refl
+    ∙ sym (ap (λ o. is_some o) (moment_emptied groups call text other)))
   where
-    by : (a b : Bool) → (other == link) ≡ a → is_text text call ≡ b → is_some (cond (other == link && is_text text call) (Some moment) (moment_at groups other text)) ≡ true → is_listed listed other text ≡ true
-    by true true is same has =
-        subst (λ l. is_listed listed l text ≡ true) (sym (eqb-true other link is)) (subst (λ t. is_listed listed link t ≡ true) (sym (same_text text call (sym same))) here)
-    by true false is same has = all other text (sym (ap (λ b. is_some (cond b (Some moment) (moment_at groups other text))) (ap (λ a. a && is_text text call) is ∙ same)) ∙ has)
-    by false b is same has = all other text (sym (ap (λ b. is_some (cond b (Some moment) (moment_at groups other text))) (ap (λ a. a && is_text text call) is)) ∙ has)
-
--- after a moment was set or not: what is listed, with the call where the link is new there
-pub all_listed_after : {A E : Type 0} (result : Result A E) (before after : List Listing) (old new : List Group) (link : ℕ) (call : List ℕ) (moment : ℕ)
-    → OnOk result (new ≡ with_moment link call moment old) → OnErr result (new ≡ old) → ListsMore before after → OnOk result (has_call old link call ≡ false → is_listed after link call ≡ true)
-    → ListsAll before old → ListsAll after new
-all_listed_after (Ok x) before after old new link call moment ok err more here all =
-    subst (ListsAll after) (sym ok) (all_listed_set after old link call moment (by (has_call old link call) refl) (all_listed_more before after old more all))
-  where
-    by : (b : Bool) → has_call old link call ≡ b → is_listed after link call ≡ true
-    by true is = more link call (all link call is)
-    by false is = here is
-all_listed_after (Err e) before after old new link call moment ok err more here all = subst (ListsAll after) (sym err) (all_listed_more before after old more all)
-
-if_some : (test : Bool) (o : Option ℕ) → is_some (cond test o None) ≡ true → is_some o ≡ true
-if_some true o has = has
-if_some false o has = absurd (true≢false (sym has))
-
-pub all_listed_emptied : (listed : List Listing) (groups : List Group) (call : List ℕ) → ListsAll listed groups → ListsAll listed (without_links call groups)
-all_listed_emptied listed groups call all other text has =
-    all other text (if_some (not (is_text call text)) (moment_at groups other text) (sym (ap (λ o. is_some o) (moment_emptied groups call text other)) ∙ has))
+    by : (other : ℕ) (text : List ℕ) (b : Bool) → is_text call text ≡ b → (not (has_call groups other call && b) && has_call groups other text) ≡ is_some (cond (not b) (moment_at groups other text) None)
+    by other text true is = ap (λ t. not (has_call groups other call && true) && has_call groups other t) (sym (same_text call text (sym is))) ∙ never (has_call groups other call)
+    by other text false is = ap (λ b. not b && has_call groups other text) (and_false (has_call groups other call))
 
 if_still : (age now : ℕ) (o : Option ℕ) → is_some (still age now o) ≡ true → is_some o ≡ true
 if_still age now None has = has
@@ -115,7 +140,7 @@ pub had_recent : (age now : ℕ) (groups : List Group) (link : ℕ) (call : List
 had_recent age now groups link call once has =
     if_still age now (moment_at groups link call) (sym (ap (λ o. is_some o) (moment_recent age now groups link call once)) ∙ has)
 
--- ---- what goes from the lists
+-- ---- what an expiry leaves in the lists
 
 not_empty : (test : List ℕ → Bool) (calls : List (List ℕ)) → list_any test calls ≡ true → nat_lt 0 (length calls) ≡ true
 not_empty test [] among = absurd (true≢false (sym among))
@@ -126,7 +151,7 @@ still_among : (groups : List Group) (link : ℕ) (call : List ℕ) (calls : List
 still_among groups link call calls has among =
     any-filter_same (is_text call) (has_call groups link) true (λ text same. ap (has_call groups link) (sym (same_text call text (sym same))) ∙ has) calls ∙ among
 
-pub still_lists : (groups : List Group) (listed : List Listing) → ListsAll listed groups → ListsAll (still_listed groups listed) groups
+still_lists : (groups : List Group) (listed : List Listing) → ListsAll listed groups → ListsAll (still_listed groups listed) groups
 still_lists groups listed all link call has = stays listed (all link call has)
   where
     stays : (some : List Listing) → is_listed some link call ≡ true → is_listed (still_listed groups some) link call ≡ true
@@ -147,6 +172,63 @@ still_lists groups listed all link call has = stays listed (all link call has)
             drops : (b : Bool) → is_listed (cond b ((one.0, had) ∷ still_listed groups more) (still_listed groups more)) link call ≡ true
             drops true = rw is (rest among)
             drops false = rest among
+
+only_had : (groups : List Group) (link : ℕ) (call : List ℕ) (calls : List (List ℕ)) → list_any (is_text call) (filter (has_call groups link) calls) ≡ true → has_call groups link call ≡ true
+only_had groups link call [] among = absurd (true≢false (sym among))
+only_had groups link call (one ∷ more) among = by (has_call groups link one) refl (only_had groups link call more) among
+  where
+    left : List (List ℕ)
+    left = filter (has_call groups link) more
+
+    by : (b : Bool) → has_call groups link one ≡ b → (list_any (is_text call) left ≡ true → has_call groups link call ≡ true) → list_any (is_text call) (cond b (one ∷ left) left) ≡ true → has_call groups link call ≡ true
+    by true has rest among = here (is_text call one) refl among
+      where
+        here : (b : Bool) → is_text call one ≡ b → (b || list_any (is_text call) left) ≡ true → has_call groups link call ≡ true
+        here true same among = ap (has_call groups link) (same_text call one (sym same)) ∙ has
+        here false same among = rest among
+    by false has rest among = rest among
+
+still_only : (groups : List Group) (listed : List Listing) (link : ℕ) (call : List ℕ) → is_listed (still_listed groups listed) link call ≡ true → has_call groups link call ≡ true
+still_only groups [] link call among = absurd (true≢false (sym among))
+still_only groups (one ∷ more) link call among = by (nat_lt 0 (length had)) (still_only groups more link call) among
+  where
+    had : List (List ℕ)
+    had = filter (has_call groups one.0) one.1
+
+    left : List Listing
+    left = still_listed groups more
+
+    by : (b : Bool) → (is_listed left link call ≡ true → has_call groups link call ≡ true) → is_listed (cond b ((one.0, had) ∷ left) left) link call ≡ true → has_call groups link call ≡ true
+    by true rest among = here (nat_eq link one.0) refl among
+      where
+        here : (b : Bool) → nat_eq link one.0 ≡ b → list_any (is_text call) (unwrap_or (cond b (Some had) (lookup (nat_eq link) left)) []) ≡ true → has_call groups link call ≡ true
+        here true is among = only_had groups link call one.1 (subst (λ l. list_any (is_text call) (filter (has_call groups l) one.1) ≡ true) (sym (eqb-true link one.0 is)) among)
+        here false is among = rest among
+    by false rest among = rest among
+
+-- where nothing is too old, nothing goes
+pub nothing_goes : (age now : ℕ) (groups : List Group) → list_all (is_recent_group age now) groups ≡ true → recent_groups age now groups ≡ groups
+nothing_goes age now [] all = refl
+nothing_goes age now (group ∷ groups) all =
+    let parts : (is_recent_group age now group ≡ true) × (list_all (is_recent_group age now) groups ≡ true) = and_parts _ _ all in
+    let here : (has_links group ≡ true) × (list_all (is_recent_entry age now) group.1 ≡ true) = and_parts _ _ parts.0 in
+    let same : filter (is_recent_entry age now) group.1 ≡ group.1 = each group.1 here.1 in
+    rw same (rw here.0 (ap (λ l. group ∷ l) (nothing_goes age now groups parts.1)))
+  where
+    each : (links : List Entry) → list_all (is_recent_entry age now) links ≡ true → filter (is_recent_entry age now) links ≡ links
+    each [] h = refl
+    each (link ∷ links) h =
+        let parts : (is_recent_entry age now link ≡ true) × (list_all (is_recent_entry age now) links ≡ true) = and_parts _ _ h in
+        rw parts.0 (ap (λ l. link ∷ l) (each links parts.1))
+
+same_bool : (a b : Bool) → (a ≡ true → b ≡ true) → (b ≡ true → a ≡ true) → a ≡ b
+same_bool true b to from = sym (to refl)
+same_bool false true to from = from refl
+same_bool false false to from = refl
+
+pub listed_still : (groups : List Group) (listed : List Listing) → ListsAll listed groups → ListsExactly (still_listed groups listed) groups
+listed_still groups listed all link call =
+    same_bool (is_listed (still_listed groups listed) link call) (has_call groups link call) (still_only groups listed link call) (still_lists groups listed all link call)
 
 -- ---- a link that goes
 
@@ -238,12 +320,12 @@ all_without link calls groups once among = by calls groups once.calls among
             let there : (is_text call one || list_any (is_text call) more) ≡ true = among call had in
             sym (ap (λ b. b || list_any (is_text call) more) (nat_list_eq_equiv.symm call one ∙ is)) ∙ there
 
-pub all_listed_forgotten : (gone : ℕ) (before after : List Listing) (groups : List Group) → ((link : ℕ) → lookup (nat_eq link) after ≡ cond (nat_eq gone link) None (lookup (nat_eq link) before))
-    → ListsAll before groups → ListsAll after (kept_links (is_another gone) groups)
-all_listed_forgotten gone before after groups taken all link call has = by (nat_eq gone link) refl (sym (ap (λ o. is_some o) (moment_without groups gone link call)) ∙ has)
+pub listed_forgotten : (gone : ℕ) (before after : List Listing) (groups : List Group) → ((link : ℕ) → lookup (nat_eq link) after ≡ cond (nat_eq gone link) None (lookup (nat_eq link) before))
+    → ListsExactly before groups → ListsExactly after (kept_links (is_another gone) groups)
+listed_forgotten gone before after groups taken exact link call =
+    ap (λ o. list_any (is_text call) (unwrap_or o [])) (taken link) ∙ by (nat_eq gone link) (exact link call) ∙ sym (ap (λ o. is_some o) (moment_without groups gone link call))
   where
-    by : (b : Bool) → nat_eq gone link ≡ b → is_some (cond (not (nat_eq gone link)) (moment_at groups link call) None) ≡ true → is_listed after link call ≡ true
-    by true is has = absurd (true≢false (sym has ∙ ap (λ b. is_some (cond (not b) (moment_at groups link call) None)) is))
-    by false is has =
-        ap (λ o. list_any (is_text call) (unwrap_or o [])) (taken link ∙ ap (λ b. cond b None (lookup (nat_eq link) before)) is)
-        ∙ all link call (sym (ap (λ b. is_some (cond (not b) (moment_at groups link call) None)) is) ∙ has)
+    by : (b : Bool) → is_listed before link call ≡ has_call groups link call
+        → list_any (is_text call) (unwrap_or (cond b None (lookup (nat_eq link) before)) []) ≡ is_some (cond (not b) (moment_at groups link call) None)
+    by true is = refl
+    by false is = is

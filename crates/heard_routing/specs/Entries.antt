@@ -3,6 +3,7 @@ use Rattle.std.specs.Prelude.{ℕ, ◌<◌, ◌++◌, Bool, not, nat_eq, nat_lt,
 use Rattle.std.specs.Bool.{⊤}
 use Rattle.std.specs.List.{AllByRecursion, IsDistinct}
 use Rattle.std.specs.Map.{keys_of, lookup}
+use Rattle.std.specs.declared.random_state.RandomState.{RandomState}
 use Rattle.indexmap.specs.IndexMap.{insert_entry}
 use Rattle.filter_eval.specs.Passes.{is_text}
 
@@ -13,6 +14,14 @@ Entry = ℕ × ℕ
 -- a call, and the links that have it
 abbrev pub Group : Type 0
 Group = List ℕ × List Entry
+
+-- calls with the links that have them, and the key of the hasher
+pub record GroupsSeen : Type 0 where
+  pub groups : List Group
+  pub hasher : RandomState
+
+abbrev pub no_groups : RandomState → GroupsSeen
+no_groups hasher = record { groups = []; hasher = hasher }
 
 -- each link is lower than those after it
 abbrev pub Rises : List Entry → Type 0

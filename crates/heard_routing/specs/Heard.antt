@@ -1,6 +1,6 @@
 -- Which stations links heard, and whose next positions links were promised.
-use Rattle.std.specs.Prelude.{ℕ, ◌≡◌, ◌-◌, ◌==◌, Bool, nat_le, nat_lt, length, List, [], map, filter, Option}
-use Rattle.std.specs.List.{list_any}
+use Rattle.std.specs.Prelude.{ℕ, ◌≡◌, ◌-◌, ◌==◌, ◌&&◌, Bool, nat_le, nat_lt, length, List, [], map, filter, Option}
+use Rattle.std.specs.List.{list_all, list_any}
 use Rattle.std.specs.List.Sorted.{IsStrictlyIncreasing}
 use Rattle.std.specs.Map.{keys_of, set_value}
 use Rattle.std.specs.declared.random_state.RandomState.{RandomState}
@@ -88,6 +88,10 @@ kept_links test groups = map (λ group. (group.0, filter test group.1)) groups
 
 abbrev pub has_links : Group → Bool
 has_links group = nat_lt 0 (length group.1)
+
+-- a link has the call, and none has it from longer ago
+abbrev pub is_recent_group : ℕ → ℕ → Group → Bool
+is_recent_group age now group = has_links group && list_all (is_recent_entry age now) group.1
 
 -- what is at most so old; a call that no link has is dropped
 abbrev pub recent_groups : ℕ → ℕ → List Group → List Group

@@ -1,11 +1,11 @@
--- For each link the calls that it may have, so that what a link has is found without a walk through all calls.
-use Rattle.std.specs.Prelude.{ℕ, ◌≡◌, Bool, true, nat_eq, nat_lt, is_some, length, List, [], ◌∷◌, map, filter, unwrap_or}
+-- For each link the calls that it has, so that what a link has is found without a walk through all calls.
+use Rattle.std.specs.Prelude.{ℕ, ◌≡◌, ◌==◌, ◌&&◌, Bool, true, not, nat_eq, nat_lt, is_some, length, List, [], ◌∷◌, map, filter, unwrap_or}
 use Rattle.std.specs.List.{list_any}
 use Rattle.std.specs.Map.{lookup, set_value}
 use Rattle.indexmap.specs.IndexMap.{insert_entry}
 use Rattle.indexmap.specs.IndexSet.{insert_key}
 use Rattle.filter_eval.specs.Passes.{is_text}
-use Rattle.heard_routing.specs.Entries.{Group, is_another, links_of, moment_at}
+use Rattle.heard_routing.specs.Entries.{Entry, Group, is_another, links_of, moment_at}
 
 -- a link, and calls
 abbrev pub Listing : Type 0
@@ -24,13 +24,21 @@ has_call groups link call = is_some (moment_at groups link call)
 abbrev pub ListsAll : List Listing → List Group → Type 0
 ListsAll listed groups = (link : ℕ) (call : List ℕ) → has_call groups link call ≡ true → is_listed listed link call ≡ true
 
--- nothing that is listed is lost
-abbrev pub ListsMore : List Listing → List Listing → Type 0
-ListsMore old new = (link : ℕ) (call : List ℕ) → is_listed old link call ≡ true → is_listed new link call ≡ true
+-- each call that a link has is listed, and no other
+abbrev pub ListsExactly : List Listing → List Group → Type 0
+ListsExactly listed groups = (link : ℕ) (call : List ℕ) → is_listed listed link call ≡ has_call groups link call
 
 -- the call is listed with the link
 abbrev pub with_listing : ℕ → List ℕ → List Listing → List Listing
 with_listing link call listed = insert_entry nat_eq listed link (insert_key is_text (calls_of link listed) call)
+
+-- the call is no more listed with the link, and all else is as it was
+abbrev pub Unlists : ℕ → List ℕ → List Listing → List Listing → Type 0
+Unlists link call old new = (other : ℕ) (text : List ℕ) → is_listed new other text ≡ (not (other == link && is_text call text) && is_listed old other text)
+
+-- the same of each of the links
+abbrev pub UnlistsEach : List Entry → List ℕ → List Listing → List Listing → Type 0
+UnlistsEach links call old new = (other : ℕ) (text : List ℕ) → is_listed new other text ≡ (not (is_some (lookup (nat_eq other) links) && is_text call text) && is_listed old other text)
 
 abbrev pub has_calls : Listing → Bool
 has_calls listing = nat_lt 0 (length listing.1)

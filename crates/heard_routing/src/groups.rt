@@ -1,114 +1,76 @@
 //! Calls with the links that have them, found by the call and by the link.
-ghost use Rattle.std.specs.Prelude.{◌≡◌, ◌++◌, ◌∷◌, [], true, false, filter, length, is_some, nat_eq, nat_lt, OnOk, OnErr};
-ghost use Rattle.std.specs.Map.{lookup};
-ghost use Rattle.indexmap.specs.IndexMap.{insert_entry};
-ghost use Rattle.filter_eval.specs.Passes.{is_text};
-ghost use Rattle.heard_routing.specs.Entries.{HasEachOnce, is_another, with_link, with_moment};
-ghost use Rattle.heard_routing.specs.Heard.{IsRisingListOf, has_recent, is_recent_entry, kept_links, links_with, recent_groups, without_links};
-ghost use Rattle.heard_routing.specs.Listed.{ListsAll, ListsMore, has_call, is_listed, without_each, without_one};
+ghost use Rattle.std.specs.Prelude.{◌≡◌, ◌++◌, OnOk, OnErr};
+ghost use Rattle.indexmap.specs.IndexMap.{hasher_of};
+ghost use Rattle.heard_routing.specs.Entries.{HasEachOnce, is_another, no_groups, with_moment};
+ghost use Rattle.heard_routing.specs.Heard.{IsRisingListOf, has_recent, kept_links, links_with, recent_groups, without_links};
+ghost use Rattle.heard_routing.specs.Listed.{ListsAll, ListsExactly};
 
-use crate::links::Links;
-use crate::listed::{Listed, keep_listed, list};
-use crate::table::{Table, append_recent, clear, keep_recent, remove_each};
-use aprs_base::{Call, Memory, copy_call};
+use crate::listed::{Listed, keep_listed, list, unlist, unlist_each};
+use crate::table;
+use crate::table::{Table, append_recent, has, is_recent, keep_recent, links_of, remove_each};
+use aprs_base::{Call, Memory};
 use indexmap::IndexMap;
 use std::alloc::Global;
 use std::hash::RandomState;
 use std::marker::Model;
 
-/// Lists the call with the link, where the link isn't among those that have the call.
-fn list_new(
-    links: &Links,
-    listed: &mut Listed,
-    alloc: Global,
-    hasher: &RandomState,
-    link: u32,
-    call: &Call,
-) -> Result<(), Memory>
-    ensures more { ListsMore listed.old.entries listed.new.entries }
-    ensures here { OnOk result (is_some (lookup (nat_eq link) links.now) ≡ false → is_listed listed.new.entries link call.now ≡ true) }
-{
-    if links.has(link) {
-        return Ok(());
-    }
-    list(listed, alloc, hasher, link, call)
-}
-
-/// Sets the moment of the link among those of a call that is there.
-fn renew(
-    links: &mut Links,
-    listed: &mut Listed,
-    alloc: Global,
-    hasher: &RandomState,
-    link: u32,
-    call: &Call,
-    moment: u64,
-) -> Result<(), Memory>
-    ensures ok { OnOk result (links.new ≡ with_link link moment links.old) }
-    ensures err { OnErr result (links.new ≡ links.old) }
-    ensures more { ListsMore listed.old.entries listed.new.entries }
-    ensures here { OnOk result (is_some (lookup (nat_eq link) links.old) ≡ false → is_listed listed.new.entries link call.now ≡ true) }
-{
-    list_new(links, listed, alloc, hasher, link, call)?;
-    links.set(link, moment)
-}
-
-/// Adds a call that is new, with one link.
-fn start(
-    table: &mut Table,
-    listed: &mut Listed,
-    alloc: Global,
-    hasher: &RandomState,
-    link: u32,
-    call: &Call,
-    moment: u64,
-) -> Result<(), Memory>
-    ensures ok { OnOk result (table.new.entries ≡ insert_entry is_text table.old.entries call.now ((link, moment) ∷ [])) }
-    ensures err { OnErr result (table.new.entries ≡ table.old.entries) }
-    ensures more { ListsMore listed.old.entries listed.new.entries }
-    ensures here { OnOk result (is_listed listed.new.entries link call.now ≡ true) }
-{
-    list(listed, alloc, hasher, link, call)?;
-    let links = Links::one(alloc, link, moment)?;
-    table.insert(copy_call(call), links)?;
-    Ok(())
-}
-
-/// Sets the moment of the link and the call. A call that is new goes last.
+/// Sets the moment of the link and the call, which is listed with it. A call that is new goes last.
 fn set(
     table: &mut Table,
     listed: &mut Listed,
     alloc: Global,
-    hasher: &RandomState,
     link: u32,
     call: &Call,
     moment: u64,
 ) -> Result<(), Memory>
     ensures ok { OnOk result (table.new.entries ≡ with_moment link call.now moment table.old.entries) }
     ensures err { OnErr result (table.new.entries ≡ table.old.entries) }
-    ensures lists { ListsAll listed.old.entries table.old.entries → ListsAll listed.new.entries table.new.entries }
+    ensures lists { ListsExactly listed.old.entries table.old.entries → ListsExactly listed.new.entries table.new.entries }
+    ensures hashers { (hasher_of table.new ≡ hasher_of table.old) × (hasher_of listed.new ≡ hasher_of listed.old) }
 {
-    match table.get_mut(call) {
-        Some(links) => renew(links, listed, alloc, hasher, link, call, moment),
-        None => start(table, listed, alloc, hasher, link, call, moment),
+    if has(table, link, call) {
+        return table::set(table, alloc, link, call, moment);
     }
+    list(listed, alloc, link, call)?;
+    match table::set(table, alloc, link, call, moment) {
+        Ok(()) => Ok(()),
+        Err(error) => {
+            unlist(listed, link, call);
+            Err(error)
+        }
+    }
+}
+
+/// Removes all links of the call.
+fn clear(table: &mut Table, listed: &mut Listed, call: &Call)
+    ensures cleared { table.new.entries ≡ without_links call.now table.old.entries }
+    ensures lists { ListsExactly listed.old.entries table.old.entries → ListsExactly listed.new.entries table.new.entries }
+    ensures hashers { (hasher_of table.new ≡ hasher_of table.old) × (hasher_of listed.new ≡ hasher_of listed.old) }
+{
+    unlist_each(listed, links_of(table, call), call);
+    table::clear(table, call);
 }
 
 /// Removes the link of all calls, which are listed.
 fn forget(table: &mut Table, listed: &mut Listed, link: u32)
     ensures kept { HasEachOnce table.old.entries → ListsAll listed.old.entries table.old.entries → table.new.entries ≡ kept_links (is_another link) table.old.entries }
-    ensures lists { HasEachOnce table.old.entries → ListsAll listed.old.entries table.old.entries → ListsAll listed.new.entries table.new.entries }
+    ensures lists { HasEachOnce table.old.entries → ListsExactly listed.old.entries table.old.entries → ListsExactly listed.new.entries table.new.entries }
+    ensures hashers { (hasher_of table.new ≡ hasher_of table.old) × (hasher_of listed.new ≡ hasher_of listed.old) }
 {
     if let Some(calls) = listed.swap_remove(&link) {
         remove_each(table, link, calls.as_slice());
     }
 }
 
-/// Keeps what is at most `age` old at `now`; both in seconds.
+/// Keeps what is at most `age` old at `now`; both in seconds. Where nothing goes, the lists need no walk.
 fn expire(table: &mut Table, listed: &mut Listed, now: u64, age: u64)
     ensures kept { table.new.entries ≡ recent_groups age now table.old.entries }
-    ensures lists { HasEachOnce table.old.entries → ListsAll listed.old.entries table.old.entries → ListsAll listed.new.entries table.new.entries }
+    ensures lists { HasEachOnce table.old.entries → ListsExactly listed.old.entries table.old.entries → ListsExactly listed.new.entries table.new.entries }
+    ensures hashers { (hasher_of table.new ≡ hasher_of table.old) × (hasher_of listed.new ≡ hasher_of listed.old) }
 {
+    if is_recent(table, now, age) {
+        return;
+    }
     keep_recent(table, now, age);
     keep_listed(listed, table);
 }
@@ -121,20 +83,22 @@ pub struct Groups {
 }
 
 impl Model for Groups {
-    ghost use Rattle.std.specs.Prelude.{List};
-    ghost use Rattle.heard_routing.specs.Entries.{Group, HasEachOnce};
-    ghost use Rattle.heard_routing.specs.Listed.{ListsAll};
+    ghost use Rattle.std.specs.Prelude.{◌≡◌};
+    ghost use Rattle.indexmap.specs.IndexMap.{hasher_of};
+    ghost use Rattle.heard_routing.specs.Entries.{GroupsSeen, HasEachOnce};
+    ghost use Rattle.heard_routing.specs.Listed.{ListsExactly};
 
-    ghost Value = { List Group };
+    ghost Value = { GroupsSeen };
 
-    ghost view = { λ g. g.by_call.entries };
+    ghost view = { λ g. record { groups = g.by_call.entries; hasher = hasher_of g.by_call } };
 
-    ghost invariant = { λ g. HasEachOnce g.by_call.entries × ListsAll g.by_link.entries g.by_call.entries };
+    ghost invariant = { λ g. HasEachOnce g.by_call.entries × ListsExactly g.by_link.entries g.by_call.entries × (hasher_of g.by_link ≡ hasher_of g.by_call) };
 }
 
 impl Groups {
+    /// No call is there. Each map has a copy of the hasher.
     pub fn new(alloc: Global, hasher: &RandomState) -> Groups
-        ensures { result ≡ [] }
+        ensures { result ≡ no_groups hasher.now }
     {
         Groups {
             by_call: IndexMap::with_hasher(alloc, *hasher),
@@ -143,22 +107,14 @@ impl Groups {
     }
 
     /// Sets the moment of the link and the call. A call that is new goes last.
-    pub fn set(
-        &mut self,
-        alloc: Global,
-        hasher: &RandomState,
-        link: u32,
-        call: &Call,
-        moment: u64,
-    ) -> Result<(), Memory>
-        ensures ok { OnOk result (self.new ≡ with_moment link call.now moment self.old) }
+    pub fn set(&mut self, alloc: Global, link: u32, call: &Call, moment: u64) -> Result<(), Memory>
+        ensures ok { OnOk result (self.new ≡ record self.old { groups = with_moment link call.now moment self.old.groups }) }
         ensures err { OnErr result (self.new ≡ self.old) }
     {
         set(
             &mut self.by_call,
             &mut self.by_link,
             alloc,
-            hasher,
             link,
             call,
             moment,
@@ -174,8 +130,8 @@ impl Groups {
         age: u64,
         out: &mut Vec<u32>,
     ) -> Result<(), Memory>
-        ensures ok { OnOk result (out.new.items ≡ out.old.items ++ links_with age call.now now self.now) }
-        ensures links { IsRisingListOf (links_with age call.now now self.now) (has_recent age now self.now call.now) }
+        ensures ok { OnOk result (out.new.items ≡ out.old.items ++ links_with age call.now now self.now.groups) }
+        ensures links { IsRisingListOf (links_with age call.now now self.now.groups) (has_recent age now self.now.groups call.now) }
         ensures err { OnErr result (out.new.items ≡ out.old.items) }
     {
         append_recent(&self.by_call, alloc, call, now, age, out)
@@ -183,22 +139,22 @@ impl Groups {
 
     /// Removes all links of the call.
     pub fn clear(&mut self, call: &Call)
-        ensures { self.new ≡ without_links call.now self.old }
+        ensures { self.new ≡ record self.old { groups = without_links call.now self.old.groups } }
     {
-        clear(&mut self.by_call, call);
+        clear(&mut self.by_call, &mut self.by_link, call);
     }
 
     /// Removes the link of all calls.
     pub fn forget(&mut self, link: u32)
-        ensures { self.new ≡ kept_links (is_another link) self.old }
+        ensures { self.new ≡ record self.old { groups = kept_links (is_another link) self.old.groups } }
     {
         forget(&mut self.by_call, &mut self.by_link, link);
     }
 
     /// Keeps what is at most `age` old at `now`; both in seconds.
     pub fn expire(&mut self, now: u64, age: u64)
-        ensures kept { self.new ≡ recent_groups age now self.old }
-        ensures once { HasEachOnce self.old }
+        ensures kept { self.new ≡ record self.old { groups = recent_groups age now self.old.groups } }
+        ensures once { HasEachOnce self.old.groups }
     {
         expire(&mut self.by_call, &mut self.by_link, now, age);
     }

@@ -21,19 +21,21 @@ const PROMISE_AGE: u64 = 1_800;
 pub struct Heard {
     heard: Groups,
     promises: Groups,
-    hasher: RandomState,
 }
 
 impl Model for Heard {
+    ghost use Rattle.std.specs.Prelude.{◌≡◌};
     ghost use Rattle.heard_routing.specs.Heard.{HeardSeen};
 
     ghost Value = { HeardSeen };
 
-    ghost view = { λ h. record { heard = h.heard; promises = h.promises; hasher = h.hasher } };
+    ghost view = { λ h. record { heard = h.heard.groups; promises = h.promises.groups; hasher = h.heard.hasher } };
+
+    ghost invariant = { λ h. h.promises.hasher ≡ h.heard.hasher };
 }
 
 impl Heard {
-    /// Nothing was heard or promised. The table has a clone of the hasher.
+    /// Nothing was heard or promised. Each map has a copy of the hasher.
     pub fn new(alloc: Global, hasher: &RandomState) -> Result<Heard, Memory>
         ensures empty { IfOk result (λ table. table ≡ nothing hasher.now) }
         ensures last { (lives : ℕ → Bool) → IfOk result (λ table. Agrees lives table []) }
@@ -42,7 +44,6 @@ impl Heard {
         Ok(Heard {
             heard: Groups::new(alloc, hasher),
             promises: Groups::new(alloc, hasher),
-            hasher: *hasher,
         })
     }
 
@@ -55,7 +56,7 @@ impl Heard {
         ensures exactly { (lives : ℕ → Bool) (packets : List PacketSeen) (packet : PacketSeen) → IsHeard packet link call.now now → lives link ≡ true → HasExactly now lives self.old packets → OnOk result (HasExactly now lives self.new (packets ++ packet ∷ [])) }
         ensures err { OnErr result (self.new ≡ self.old) }
     {
-        self.heard.set(alloc, &self.hasher, link, call, now)
+        self.heard.set(alloc, link, call, now)
     }
 
     /// Promises the link the sender's next position, at `now`, in seconds, in place of an earlier promise.
@@ -69,7 +70,7 @@ impl Heard {
         ensures ok { OnOk result (self.new ≡ promised link sender.now now self.old) }
         ensures err { OnErr result (self.new ≡ self.old) }
     {
-        self.promises.set(alloc, &self.hasher, link, sender, now)
+        self.promises.set(alloc, link, sender, now)
     }
 
     /// Appends to `out` the links that heard the call at most three hours before `now`, rising; `now` is in seconds.

@@ -1,5 +1,6 @@
 //! The links that have a call, in rising order, with a moment of each.
-ghost use Rattle.std.specs.Prelude.{◌≡◌, ◌≤◌, ◌<◌, ◌++◌, ◌∷◌, [], is_some, length, filter, nat_eq, nat_lt, slice_get, IfOk, OnOk, OnErr};
+ghost use Rattle.std.specs.Prelude.{◌≡◌, ◌&&◌, ◌≤◌, ◌<◌, ◌++◌, ◌∷◌, [], is_some, length, filter, nat_eq, nat_lt, slice_get, IfOk, OnOk, OnErr};
+ghost use Rattle.std.specs.List.{list_all};
 ghost use Rattle.std.specs.Map.{keys_of, lookup};
 ghost use Rattle.filter_eval.specs.Passes.{is_some_and};
 ghost use Rattle.heard_routing.specs.Entries.{Rises, is_another, is_below, is_of, with_link};
@@ -10,7 +11,7 @@ use std::alloc::Global;
 use std::marker::Model;
 
 /// A link and a moment, in seconds.
-type Entry = (u32, u64);
+pub type Entry = (u32, u64);
 
 /// How many of the links are lower, which is where the link belongs.
 fn place_of(entries: &[Entry], link: u32) -> usize
@@ -68,6 +69,12 @@ fn recent_links(alloc: Global, entries: &[Entry], now: u64, age: u64) -> Result<
     Ok(links)
 }
 
+fn are_recent(entries: &[Entry], now: u64, age: u64) -> bool
+    ensures { result ≡ list_all (is_recent_entry age now) entries.now }
+{
+    entries.iter().all(|entry| is_recent(entry.1, now, age))
+}
+
 fn keep_recent(entries: &mut Vec<Entry>, now: u64, age: u64)
     ensures { entries.new.items ≡ filter (is_recent_entry age now) entries.old.items }
 {
@@ -114,12 +121,26 @@ impl Links {
         has(self.entries.as_slice(), link)
     }
 
+    /// The links with their moments.
+    pub fn as_slice(&self) -> &[Entry]
+        ensures { result.now ≡ self.now }
+    {
+        self.entries.as_slice()
+    }
+
     /// Sets the moment of the link, which may be new.
     pub fn set(&mut self, link: u32, moment: u64) -> Result<(), Memory>
         ensures ok { OnOk result (self.new ≡ with_link link moment self.old) }
         ensures err { OnErr result (self.new ≡ self.old) }
     {
         set(&mut self.entries, link, moment)
+    }
+
+    /// Whether there is a link, and each is at most `age` old at `now`; both in seconds.
+    pub fn are_recent(&self, now: u64, age: u64) -> bool
+        ensures { result ≡ (nat_lt 0 (length self.now) && list_all (is_recent_entry age now) self.now) }
+    {
+        !self.entries.is_empty() && are_recent(self.entries.as_slice(), now, age)
     }
 
     /// Removes the link.

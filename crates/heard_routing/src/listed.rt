@@ -1,10 +1,12 @@
-//! For each link the calls that it may have.
-ghost use Rattle.std.specs.Prelude.{◌≡◌, true, filter, length, is_some, nat_eq, nat_lt, unwrap_or, ◌∷◌, [], IfOk, OnOk, OnErr};
-ghost use Rattle.std.specs.Map.{lookup};
+//! For each link the calls that it has.
+ghost use Rattle.std.specs.Prelude.{◌≡◌, ℕ, List, ◌&&◌, not, filter, length, nat_lt, ◌∷◌, [], IfOk, OnOk, OnErr};
+ghost use Rattle.std.specs.List.{list_any};
+ghost use Rattle.indexmap.specs.IndexMap.{hasher_of};
 ghost use Rattle.indexmap.specs.IndexSet.{insert_key};
 ghost use Rattle.filter_eval.specs.Passes.{is_text};
-ghost use Rattle.heard_routing.specs.Listed.{ListsMore, calls_of, has_call, is_listed, still_listed, with_listing};
+ghost use Rattle.heard_routing.specs.Listed.{Unlists, UnlistsEach, has_call, still_listed, with_listing};
 
+use crate::links::Entry;
 use crate::table::{Table, has};
 use aprs_base::{Call, Memory, copy_call};
 use indexmap::{IndexMap, IndexSet};
@@ -26,7 +28,7 @@ impl Model for Calls {
     ghost view = { λ c. c.calls.keys };
 }
 
-/// For each link the calls that it may have.
+/// For each link the calls that it has.
 pub type Listed = IndexMap<u32, Calls, RandomState>;
 
 fn keep_had(calls: &mut IndexSet<Call, RandomState>, table: &Table, link: u32)
@@ -52,6 +54,12 @@ impl Calls {
         Ok(())
     }
 
+    fn remove(&mut self, call: &Call)
+        ensures { (text : List ℕ) → list_any (is_text text) self.new ≡ (not (is_text call.now text) && list_any (is_text text) self.old) }
+    {
+        self.calls.swap_remove(call);
+    }
+
     /// Keeps the calls that the link has. Says whether one is left.
     fn keep_had(&mut self, table: &Table, link: u32) -> bool
         ensures kept { self.new ≡ filter (has_call table.now.entries link) self.old }
@@ -69,30 +77,46 @@ impl Calls {
     }
 }
 
-/// Lists the call among those of the link.
-pub fn list(
-    listed: &mut Listed,
-    alloc: Global,
-    hasher: &RandomState,
-    link: u32,
-    call: &Call,
-) -> Result<(), Memory>
+/// Lists the call among those of the link. A new list has the hasher of all.
+pub fn list(listed: &mut Listed, alloc: Global, link: u32, call: &Call) -> Result<(), Memory>
     ensures ok { OnOk result (listed.new.entries ≡ with_listing link call.now listed.old.entries) }
     ensures err { OnErr result (listed.new.entries ≡ listed.old.entries) }
+    ensures hasher { hasher_of listed.new ≡ hasher_of listed.old }
 {
     match listed.get_mut(&link) {
         Some(calls) => calls.insert(call)?,
         None => {
-            let calls = Calls::one(alloc, hasher, call)?;
+            let calls = Calls::one(alloc, listed.hasher(), call)?;
             listed.insert(link, calls)?;
         }
     }
     Ok(())
 }
 
+/// Takes the call from those of the link.
+pub fn unlist(listed: &mut Listed, link: u32, call: &Call)
+    ensures unlisted { Unlists link call.now listed.old.entries listed.new.entries }
+    ensures hasher { hasher_of listed.new ≡ hasher_of listed.old }
+{
+    if let Some(calls) = listed.get_mut(&link) {
+        calls.remove(call);
+    }
+}
+
+/// Takes the call from those of each of the links.
+pub fn unlist_each(listed: &mut Listed, links: &[Entry], call: &Call)
+    ensures unlisted { UnlistsEach links.now call.now listed.old.entries listed.new.entries }
+    ensures hasher { hasher_of listed.new ≡ hasher_of listed.old }
+{
+    for entry in links {
+        unlist(listed, entry.0, call);
+    }
+}
+
 /// Keeps the calls that links have.
 pub fn keep_listed(listed: &mut Listed, table: &Table)
-    ensures { listed.new.entries ≡ still_listed table.now.entries listed.old.entries }
+    ensures kept { listed.new.entries ≡ still_listed table.now.entries listed.old.entries }
+    ensures hasher { hasher_of listed.new ≡ hasher_of listed.old }
 {
     listed.retain(
         |link: &u32, calls: &mut Calls| -> bool

@@ -4,38 +4,22 @@ use aprs_base::{Call, Memory};
 use std::alloc::Global;
 use std::hash::RandomState;
 use std::process::Abort;
+use std::random::RandomSource;
 use std::test::Fail;
 
 fn call<R: Abort>(rt: &R, text: &[u8]) -> Call {
     Call::read(text).expect(rt, "a call")
 }
 
-/// A table in which the links heard the calls, each at its moment.
-fn hearing<R: Abort>(
-    rt: &R,
-    alloc: Global,
-    hasher: &RandomState,
-    notes: &[(u32, &[u8], u64)],
-) -> Result<Heard, Memory> {
-    let mut heard = Heard::new(alloc, hasher)?;
-    for (link, text, moment) in notes {
-        heard.note(alloc, *link, &call(rt, text), *moment)?;
-    }
-    Ok(heard)
-}
-
-/// A table in which the links were promised the senders' positions, each at its moment.
-fn promising<R: Abort>(
-    rt: &R,
-    alloc: Global,
-    hasher: &RandomState,
-    promises: &[(u32, &[u8], u64)],
-) -> Result<Heard, Memory> {
-    let mut heard = Heard::new(alloc, hasher)?;
-    for (link, text, moment) in promises {
-        heard.promise(alloc, *link, &call(rt, text), *moment)?;
-    }
-    Ok(heard)
+/// What is done with a table, or asked of it at a moment, with the links that it must give.
+#[derive(Clone, Copy)]
+enum Act<'a> {
+    Note(u32, &'a [u8], u64),
+    Promise(u32, &'a [u8], u64),
+    Forget(u32),
+    Expire(u64),
+    Receivers(&'a [u8], u64, &'a [u32]),
+    Courtesy(&'a [u8], u64, &'a [u32]),
 }
 
 fn receivers(heard: &Heard, alloc: Global, to: &Call, now: u64) -> Result<Vec<u32>, Memory> {
@@ -50,132 +34,143 @@ fn courtesy(heard: &mut Heard, alloc: Global, sender: &Call, now: u64) -> Result
     Ok(links)
 }
 
+/// Does it. Says whether the links were those that the table must give.
+fn act_on<R: Abort>(rt: &R, alloc: Global, heard: &mut Heard, act: &Act) -> Result<bool, Memory> {
+    match act {
+        Act::Note(link, text, now) => heard.note(alloc, *link, &call(rt, text), *now)?,
+        Act::Promise(link, text, now) => heard.promise(alloc, *link, &call(rt, text), *now)?,
+        Act::Forget(link) => heard.forget(*link),
+        Act::Expire(now) => heard.expire(*now),
+        Act::Receivers(to, now, want) => {
+            return Ok(receivers(heard, alloc, &call(rt, to), *now)?.as_slice() == *want);
+        }
+        Act::Courtesy(sender, now, want) => {
+            return Ok(courtesy(heard, alloc, &call(rt, sender), *now)?.as_slice() == *want);
+        }
+    }
+    Ok(true)
+}
+
+/// Does the acts with a table that is new.
+fn play<R: Abort + RandomSource>(rt: &R, alloc: Global, acts: &[Act]) -> Result<Heard, Fail> {
+    let hasher = RandomState::new(rt)?;
+    let mut heard = Heard::new(alloc, &hasher)?;
+    for act in acts {
+        let right = act_on(rt, alloc, &mut heard, act)?;
+        assert!(rt; right);
+    }
+    Ok(heard)
+}
+
 #[test]
 fn hears_for_three_hours(rt: HostRuntime) -> Result<(), Fail> {
-    let hasher = RandomState::new(&rt)?;
-    let heard = hearing(&rt, rt.alloc(), &hasher, &[(1, b"N0CALL", 1000)])?;
-    let cases: [(&[u8], u64, &[u32]); 4] = [
-        (b"N0CALL", 1000, &[1]),
-        (b"N0CALL", 11_800, &[1]),
-        (b"N0CALL", 11_801, &[]),
-        (b"N0CALL-1", 1000, &[]),
+    let acts = [
+        Act::Note(1, b"N0CALL", 1000),
+        Act::Receivers(b"N0CALL", 1000, &[1]),
+        Act::Receivers(b"N0CALL", 11_800, &[1]),
+        Act::Receivers(b"N0CALL", 11_801, &[]),
+        Act::Receivers(b"N0CALL-1", 1000, &[]),
     ];
-    for (to, now, want) in cases {
-        let links = receivers(&heard, rt.alloc(), &call(&rt, to), now)?;
-        assert!(rt; links.as_slice() == want);
-    }
+    play(&rt, rt.alloc(), acts.as_slice())?;
     Ok(())
 }
 
 #[test]
 fn promises_for_half_an_hour(rt: HostRuntime) -> Result<(), Fail> {
-    let hasher = RandomState::new(&rt)?;
-    let sender = call(&rt, b"OH7LZB");
     let cases: [(u64, &[u32]); 3] = [(11_800, &[1]), (13_600, &[1]), (13_601, &[])];
     for (now, want) in cases {
-        let mut heard = promising(&rt, rt.alloc(), &hasher, &[(1, b"OH7LZB", 11_800)])?;
-        let links = courtesy(&mut heard, rt.alloc(), &sender, now)?;
-        assert!(rt; links.as_slice() == want);
-        let again = courtesy(&mut heard, rt.alloc(), &sender, 11_800)?;
-        assert!(rt; again.is_empty());
+        let acts = [
+            Act::Promise(1, b"OH7LZB", 11_800),
+            Act::Courtesy(b"OH7LZB", now, want),
+            Act::Courtesy(b"OH7LZB", 11_800, &[]),
+        ];
+        play(&rt, rt.alloc(), acts.as_slice())?;
     }
     Ok(())
 }
 
 #[test]
 fn spends_the_promises_of_one_sender(rt: HostRuntime) -> Result<(), Fail> {
-    let hasher = RandomState::new(&rt)?;
-    let promises: [(u32, &[u8], u64); 4] = [
-        (4, b"OH7LZB", 1000),
-        (3, b"K1XYZ", 2000),
-        (2, b"OH7LZB", 2000),
-        (1, b"OH7LZB", 100),
+    let acts = [
+        Act::Promise(4, b"OH7LZB", 1000),
+        Act::Promise(3, b"K1XYZ", 2000),
+        Act::Promise(2, b"OH7LZB", 2000),
+        Act::Promise(1, b"OH7LZB", 100),
+        Act::Courtesy(b"OH7LZB", 2000, &[2, 4]),
+        Act::Courtesy(b"OH7LZB", 100, &[]),
+        Act::Courtesy(b"K1XYZ", 2000, &[3]),
     ];
-    let mut heard = promising(&rt, rt.alloc(), &hasher, &promises)?;
-    let links = courtesy(&mut heard, rt.alloc(), &call(&rt, b"OH7LZB"), 2000)?;
-    assert!(rt; links.as_slice() == [2, 4].as_slice());
-    let links = courtesy(&mut heard, rt.alloc(), &call(&rt, b"OH7LZB"), 100)?;
-    assert!(rt; links.is_empty());
-    let links = courtesy(&mut heard, rt.alloc(), &call(&rt, b"K1XYZ"), 2000)?;
-    assert!(rt; links.as_slice() == [3].as_slice());
+    play(&rt, rt.alloc(), acts.as_slice())?;
     Ok(())
+}
+
+/// The receivers, after a link that stands there.
+fn appended<R: Abort>(rt: &R, heard: &Heard, alloc: Global) -> Result<Vec<u32>, Memory> {
+    let mut links = Vec::new(alloc);
+    links.push(9)?;
+    heard.receivers(alloc, &call(rt, b"K1ABC"), 1003, &mut links)?;
+    Ok(links)
 }
 
 #[test]
 fn appends_in_rising_order(rt: HostRuntime) -> Result<(), Fail> {
-    let hasher = RandomState::new(&rt)?;
-    let notes: [(u32, &[u8], u64); 4] = [
-        (7, b"K1ABC", 1000),
-        (2, b"K1ABC", 1001),
-        (3, b"K1XYZ", 1002),
-        (5, b"K1ABC", 1003),
+    let acts = [
+        Act::Note(7, b"K1ABC", 1000),
+        Act::Note(2, b"K1ABC", 1001),
+        Act::Note(3, b"K1XYZ", 1002),
+        Act::Note(5, b"K1ABC", 1003),
     ];
-    let heard = hearing(&rt, rt.alloc(), &hasher, &notes)?;
-    let mut links = Vec::new(rt.alloc());
-    links.push(9)?;
-    heard.receivers(rt.alloc(), &call(&rt, b"K1ABC"), 1003, &mut links)?;
+    let heard = play(&rt, rt.alloc(), acts.as_slice())?;
+    let links = appended(&rt, &heard, rt.alloc())?;
     assert!(rt; links.as_slice() == [9, 2, 5, 7].as_slice());
     Ok(())
 }
 
 #[test]
-fn hears_anew(rt: HostRuntime) -> Result<(), Fail> {
-    let hasher = RandomState::new(&rt)?;
-    let notes: [(u32, &[u8], u64); 2] = [(1, b"K1ABC", 1000), (1, b"K1ABC", 2000)];
-    let heard = hearing(&rt, rt.alloc(), &hasher, &notes)?;
-    let cases: [(u64, &[u32]); 2] = [(12_800, &[1]), (12_801, &[])];
-    for (now, want) in cases {
-        let links = receivers(&heard, rt.alloc(), &call(&rt, b"K1ABC"), now)?;
-        assert!(rt; links.as_slice() == want);
-    }
-    Ok(())
-}
-
-#[test]
-fn promises_anew(rt: HostRuntime) -> Result<(), Fail> {
-    let hasher = RandomState::new(&rt)?;
-    let promises: [(u32, &[u8], u64); 2] = [(1, b"K1ABC", 1000), (1, b"K1ABC", 2000)];
-    let mut heard = promising(&rt, rt.alloc(), &hasher, &promises)?;
-    let links = courtesy(&mut heard, rt.alloc(), &call(&rt, b"K1ABC"), 3800)?;
-    assert!(rt; links.as_slice() == [1].as_slice());
+fn hears_and_promises_anew(rt: HostRuntime) -> Result<(), Fail> {
+    let acts = [
+        Act::Note(1, b"K1ABC", 1000),
+        Act::Note(1, b"K1ABC", 2000),
+        Act::Receivers(b"K1ABC", 12_800, &[1]),
+        Act::Receivers(b"K1ABC", 12_801, &[]),
+        Act::Promise(1, b"K1ABC", 1000),
+        Act::Promise(1, b"K1ABC", 2000),
+        Act::Courtesy(b"K1ABC", 3800, &[1]),
+    ];
+    play(&rt, rt.alloc(), acts.as_slice())?;
     Ok(())
 }
 
 #[test]
 fn forgets_one_link(rt: HostRuntime) -> Result<(), Fail> {
-    let hasher = RandomState::new(&rt)?;
-    let notes: [(u32, &[u8], u64); 3] = [
-        (1, b"K1ABC", 1000),
-        (2, b"K1ABC", 1000),
-        (1, b"K1XYZ", 1000),
+    let acts = [
+        Act::Note(1, b"K1ABC", 1000),
+        Act::Note(2, b"K1ABC", 1000),
+        Act::Note(1, b"K1XYZ", 1000),
+        Act::Promise(1, b"OH7LZB", 1000),
+        Act::Promise(2, b"OH7LZB", 1000),
+        Act::Forget(1),
+        Act::Receivers(b"K1ABC", 1000, &[2]),
+        Act::Receivers(b"K1XYZ", 1000, &[]),
+        Act::Courtesy(b"OH7LZB", 1000, &[2]),
     ];
-    let mut heard = hearing(&rt, rt.alloc(), &hasher, &notes)?;
-    heard.promise(rt.alloc(), 1, &call(&rt, b"OH7LZB"), 1000)?;
-    heard.promise(rt.alloc(), 2, &call(&rt, b"OH7LZB"), 1000)?;
-    heard.forget(1);
-    let links = receivers(&heard, rt.alloc(), &call(&rt, b"K1ABC"), 1000)?;
-    assert!(rt; links.as_slice() == [2].as_slice());
-    let links = receivers(&heard, rt.alloc(), &call(&rt, b"K1XYZ"), 1000)?;
-    assert!(rt; links.is_empty());
-    let links = courtesy(&mut heard, rt.alloc(), &call(&rt, b"OH7LZB"), 1000)?;
-    assert!(rt; links.as_slice() == [2].as_slice());
+    play(&rt, rt.alloc(), acts.as_slice())?;
     Ok(())
 }
 
+/// What is left is told by asking for an earlier moment.
 #[test]
 fn expires_what_is_too_old(rt: HostRuntime) -> Result<(), Fail> {
-    let hasher = RandomState::new(&rt)?;
-    let notes: [(u32, &[u8], u64); 2] = [(1, b"K1ABC", 1000), (2, b"K1ABC", 1001)];
-    let mut heard = hearing(&rt, rt.alloc(), &hasher, &notes)?;
-    let sender = call(&rt, b"OH7LZB");
-    heard.promise(rt.alloc(), 1, &sender, 10_000)?;
-    heard.promise(rt.alloc(), 2, &sender, 10_001)?;
-    heard.expire(11_801);
-    // What is left is told by asking for an earlier moment.
-    let links = receivers(&heard, rt.alloc(), &call(&rt, b"K1ABC"), 1001)?;
-    assert!(rt; links.as_slice() == [2].as_slice());
-    let links = courtesy(&mut heard, rt.alloc(), &sender, 10_001)?;
-    assert!(rt; links.as_slice() == [2].as_slice());
+    let acts = [
+        Act::Note(1, b"K1ABC", 1000),
+        Act::Note(2, b"K1ABC", 1001),
+        Act::Promise(1, b"OH7LZB", 10_000),
+        Act::Promise(2, b"OH7LZB", 10_001),
+        Act::Expire(11_801),
+        Act::Receivers(b"K1ABC", 1001, &[2]),
+        Act::Courtesy(b"OH7LZB", 10_001, &[2]),
+    ];
+    play(&rt, rt.alloc(), acts.as_slice())?;
     Ok(())
 }
 
@@ -302,20 +297,27 @@ fn step<R: Abort>(
     Ok(true)
 }
 
-#[test]
-fn agrees_with_plain_rows(rt: HostRuntime) -> Result<(), Fail> {
-    let hasher = RandomState::new(&rt)?;
-    let mut heard = Heard::new(rt.alloc(), &hasher)?;
+/// Takes a thousand steps. Says whether both tables answered the same to each.
+fn agree<R: Abort>(rt: &R, alloc: Global, heard: &mut Heard) -> Result<bool, Memory> {
     let mut plain = Plain {
-        heard: Vec::new(rt.alloc()),
-        promises: Vec::new(rt.alloc()),
+        heard: Vec::new(alloc),
+        promises: Vec::new(alloc),
     };
     let mut state = 1;
     let mut now: u64 = 100_000;
     for _ in 0..1000 {
         now = now.saturating_add(u64::from(draw(&mut state)));
-        let same = step(&rt, rt.alloc(), &mut heard, &mut plain, &mut state, now)?;
-        assert!(rt; same);
+        if !step(rt, alloc, heard, &mut plain, &mut state, now)? {
+            return Ok(false);
+        }
     }
+    Ok(true)
+}
+
+#[test]
+fn agrees_with_plain_rows(rt: HostRuntime) -> Result<(), Fail> {
+    let mut heard = play(&rt, rt.alloc(), &[])?;
+    let same = agree(&rt, rt.alloc(), &mut heard)?;
+    assert!(rt; same);
     Ok(())
 }

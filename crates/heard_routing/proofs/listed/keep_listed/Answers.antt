@@ -3,6 +3,6 @@ use Rattle.heard_routing.specs.Listed.{has_call}
 use Rattle.heard_routing.proofs.TableLemmas.{retained}
 use Rattle.heard_routing.proofs.listed.keep_listed.Goals as goal
 
-pub returns : goal.returns
-returns c =
+pub returns-clause-kept : goal.returns-clause-kept
+returns-clause-kept c =
     retained _ (λ link calls. filter (has_call c.args.table.now.entries link) calls) (λ calls. nat_lt 0 (length calls)) _ (λ k v b w g called. search rules) _ _ c.retain.ensures.filtered

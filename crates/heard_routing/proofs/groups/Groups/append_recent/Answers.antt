@@ -5,5 +5,5 @@ use Rattle.heard_routing.proofs.groups.Groups.append_recent.Goals as goal
 
 pub returns-clause-links : goal.returns-clause-links
 returns-clause-links c =
-    subst (λ groups. IsRisingListOf (links_with c.args.age c.args.call.now c.args.now groups) (has_recent c.args.age c.args.now groups c.args.call.now)) c.self.view_is
+    subst (λ seen. IsRisingListOf (links_with c.args.age c.args.call.now c.args.now seen.groups) (has_recent c.args.age c.args.now seen.groups c.args.call.now)) c.self.view_is
     (links_listed c.args.age c.args.now c.args.call.now c.self.inside.by_call.entries c.self.invariant.0)
