@@ -4,13 +4,9 @@
 mod cutting;
 mod events;
 mod files;
-#[cfg(test)]
-mod journal_tests;
 mod journals;
 mod packets;
 mod sinks;
-#[cfg(test)]
-mod tests;
 mod texts;
 mod totals;
 mod wire;

@@ -4,7 +4,5 @@
 pub mod class;
 mod forms;
 mod table;
-#[cfg(test)]
-mod tests;
 
 pub use table::classify;

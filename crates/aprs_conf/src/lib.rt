@@ -5,13 +5,9 @@ mod arguments;
 mod draft;
 mod errors;
 mod reading;
-#[cfg(test)]
-mod tests;
 mod types;
 mod words;
 mod writing;
-#[cfg(test)]
-mod writing_tests;
 
 pub use errors::{ConfError, ConfFault, ConfWord};
 pub use reading::read;

@@ -5,8 +5,6 @@ mod compressed;
 mod either;
 mod places;
 mod plain;
-#[cfg(test)]
-mod tests;
 
 pub use compressed::read_compressed;
 pub use either::read_either;

@@ -11,7 +11,7 @@ use std::alloc::Global;
 
 /// Why a text is no configuration.
 #[derive(Clone, Copy, PartialEq, Eq, Debug)]
-pub(crate) enum Trouble {
+pub enum Trouble {
     /// The first bad line, and its first fault.
     Line(u32, ConfFault),
     /// No line has this word.

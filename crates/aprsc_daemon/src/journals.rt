@@ -40,7 +40,7 @@ fn tell_lines(slot: &mut Slot, lines: &[JournalLine])
 }
 
 /// Each slot takes the lines in order, as far as its journal doesn't fail.
-pub(crate) fn tell_all(journals: &mut Vec<Slot>, lines: &[JournalLine])
+pub fn tell_all(journals: &mut Vec<Slot>, lines: &[JournalLine])
     ensures { AllZip (TakesLines journal_shown lines.now) journals.old.items journals.new.items }
 {
     for slot in journals.iter_mut() {

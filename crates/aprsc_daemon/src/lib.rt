@@ -3,29 +3,16 @@
 
 mod configuring;
 mod drill;
-#[cfg(test)]
-mod drill_tests;
-#[cfg(test)]
-mod journal_runs;
-#[cfg(test)]
-mod journal_tests;
 mod journals;
-#[cfg(test)]
-mod memory_run;
-#[cfg(test)]
-mod network_tests;
 mod program;
-#[cfg(test)]
-mod program_tests;
 mod real;
 mod saying;
-#[cfg(test)]
-mod saying_tests;
 mod serving;
 mod words;
-#[cfg(test)]
-mod words_tests;
 
-pub use journals::{ErrorJournal, FileJournal};
+pub use configuring::Trouble;
+pub use journals::{ErrorJournal, FileJournal, tell_all};
 pub use program::aprsc;
 pub use real::{RealFiles, RealSink};
+pub use saying::{listen_failed, too_large, trouble, unread, usage, valid, write_all};
+pub use words::{DrillWords, ServerWords, Task, Words, WordsError, read_words};

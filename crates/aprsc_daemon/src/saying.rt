@@ -11,7 +11,7 @@ use drill_plan::Plan;
 use std::alloc::Global;
 
 /// Writes all of `bytes`. It ends, since each turn takes a byte or fails.
-pub(crate) fn write_all<S: Sink>(out: &mut S, bytes: &[u8]) -> Result<(), SinkError>
+pub fn write_all<S: Sink>(out: &mut S, bytes: &[u8]) -> Result<(), SinkError>
     ensures { AfterSaying (S.shown out.old) (S.shown out.new) bytes.now result }
 {
     let mut done = 0;
@@ -26,7 +26,7 @@ pub(crate) fn write_all<S: Sink>(out: &mut S, bytes: &[u8]) -> Result<(), SinkEr
 }
 
 /// The line that says how the program is called.
-pub(crate) fn usage() -> &'static [u8]
+pub fn usage() -> &'static [u8]
     ensures { result.now ≡ usage_text }
 {
     b"usage: aprsc -c FILE [-w N] [-y] | aprsc drill SEED LINES LINKS [-w N] | aprsc net FILE\n"
@@ -76,7 +76,7 @@ fn missing_word(alloc: Global, file: &str, word: ConfWord) -> Result<Vec<u8>, Me
 }
 
 /// The line that says what is wrong with the configuration.
-pub(crate) fn trouble(alloc: Global, file: &str, trouble: Trouble) -> Result<Vec<u8>, Memory>
+pub fn trouble(alloc: Global, file: &str, trouble: Trouble) -> Result<Vec<u8>, Memory>
     ensures { IfOk result (λ t. t.items ≡ trouble_text file.now trouble) }
 {
     match trouble {
@@ -86,28 +86,28 @@ pub(crate) fn trouble(alloc: Global, file: &str, trouble: Trouble) -> Result<Vec
 }
 
 /// The line that says that the configuration is valid.
-pub(crate) fn valid(alloc: Global, file: &str) -> Result<Vec<u8>, Memory>
+pub fn valid(alloc: Global, file: &str) -> Result<Vec<u8>, Memory>
     ensures { IfOk result (λ t. t.items ≡ valid_text file.now) }
 {
     Ok(format!(in alloc; "{file}: configuration is valid\n")?.into_bytes())
 }
 
 /// The line that says that the configuration is too large.
-pub(crate) fn too_large(alloc: Global, file: &str) -> Result<Vec<u8>, Memory>
+pub fn too_large(alloc: Global, file: &str) -> Result<Vec<u8>, Memory>
     ensures { IfOk result (λ t. t.items ≡ too_large_text file.now) }
 {
     Ok(format!(in alloc; "{file}: too large\n")?.into_bytes())
 }
 
 /// The line that says that the configuration can't be read.
-pub(crate) fn unread(alloc: Global, file: &str) -> Result<Vec<u8>, Memory>
+pub fn unread(alloc: Global, file: &str) -> Result<Vec<u8>, Memory>
     ensures { IfOk result (λ t. t.items ≡ unread_text file.now) }
 {
     Ok(format!(in alloc; "{file}: cannot be read\n")?.into_bytes())
 }
 
 /// The line that names a listener which failed.
-pub(crate) fn listen_failed(alloc: Global, number: u16) -> Result<Vec<u8>, Memory>
+pub fn listen_failed(alloc: Global, number: u16) -> Result<Vec<u8>, Memory>
     ensures { IfOk result (λ t. t.items ≡ listen_failed_text number) }
 {
     Ok(format!(in alloc; "listen {number} failed\n")?.into_bytes())

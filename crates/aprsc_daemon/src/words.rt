@@ -14,7 +14,7 @@ use std::marker::Model;
 
 /// What is to be done with a configuration.
 #[derive(Clone, Copy, PartialEq, Eq, Debug)]
-pub(crate) enum Task {
+pub enum Task {
     /// The server runs by it.
     Serve,
     /// It is read and nothing else.
@@ -23,7 +23,7 @@ pub(crate) enum Task {
 
 /// What the words ask of the server.
 #[derive(Debug, Drop)]
-pub(crate) struct ServerWords<'a> {
+pub struct ServerWords<'a> {
     /// The name of the file that holds the configuration.
     pub file: &'a str,
     /// The most workers, from 1 to 64.
@@ -41,7 +41,7 @@ impl<'a> Model for ServerWords<'a> {
 
 /// What the words ask of a drill.
 #[derive(Clone, Copy, PartialEq, Eq, Debug)]
-pub(crate) struct DrillWords {
+pub struct DrillWords {
     pub plan: Plan,
     /// The most workers, from 1 to 64.
     pub workers: u32,
@@ -49,14 +49,14 @@ pub(crate) struct DrillWords {
 
 /// What the words ask for.
 #[derive(Debug, Drop)]
-pub(crate) enum Words<'a> {
+pub enum Words<'a> {
     Server(ServerWords<'a>),
     Drill(DrillWords),
 }
 
 /// Why the words ask for nothing.
 #[derive(Clone, Copy, PartialEq, Eq, Debug)]
-pub(crate) enum WordsError {
+pub enum WordsError {
     /// They are no words of the program.
     Refused,
     Memory,
@@ -288,7 +288,7 @@ fn read_drill(alloc: Global, words: &[String]) -> Result<DrillWords, WordsError>
 }
 
 /// What the words ask for. `Refused` comes exactly where they ask for nothing.
-pub(crate) fn read_words<'a>(alloc: Global, words: &'a [String]) -> Result<Words<'a>, WordsError>
+pub fn read_words<'a>(alloc: Global, words: &'a [String]) -> Result<Words<'a>, WordsError>
     ensures value { IfOk result (AskFor (map string_bytes words.entry.now)) }
     ensures bounded { IfOk result IsBounded }
     ensures refused { IsErrOf result WordsError.Refused

@@ -6,9 +6,6 @@ ghost use Rattle.comment_date.specs.Dates.{date_at};
 
 use httpdate::HttpDate;
 
-#[cfg(test)]
-mod tests;
-
 /// The last second of the year 9999, in seconds since 1970.
 const LAST_SECOND: u64 = 253_402_300_799;
 

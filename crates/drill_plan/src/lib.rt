@@ -4,8 +4,6 @@
 mod lines;
 mod logins;
 mod plan;
-#[cfg(test)]
-mod tests;
 mod writing;
 
 pub use plan::{Plan, events};

@@ -6,8 +6,6 @@ mod passing;
 mod paths;
 mod places;
 mod seen;
-#[cfg(test)]
-mod tests;
 
 pub use passing::passes;
 pub use seen::{Friends, POSITION_AGE, Seen, is_young};

@@ -3,8 +3,6 @@
 
 mod lines;
 mod names;
-#[cfg(test)]
-mod tests;
 mod writing;
 
 pub use lines::{

@@ -4,8 +4,6 @@
 mod judging;
 mod replies;
 mod submitting;
-#[cfg(test)]
-mod tests;
 mod voices;
 
 pub use judging::{is_comment_line, judge_comment, judge_login, judge_packet};

@@ -2,8 +2,6 @@
 #![tactic(auto)]
 
 mod queue;
-#[cfg(test)]
-mod tests;
 mod writing;
 
 pub use queue::{Overfull, Queue};

@@ -3,8 +3,6 @@
 
 mod login_line;
 mod pass;
-#[cfg(test)]
-mod tests;
 mod words;
 
 pub use login_line::{Login, LoginFault, read_login};

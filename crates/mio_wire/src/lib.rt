@@ -10,8 +10,6 @@ mod mail;
 mod names;
 mod pace;
 mod sockets;
-#[cfg(test)]
-mod tests;
 mod turns;
 mod wire;
 

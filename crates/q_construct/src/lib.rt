@@ -6,8 +6,6 @@ mod drops;
 mod origins;
 mod paths;
 mod rule;
-#[cfg(test)]
-mod tests;
 
 pub use drops::QDrop;
 pub use origins::Origin;

@@ -2,8 +2,6 @@
 #![tactic(auto)]
 
 mod sides;
-#[cfg(test)]
-mod tests;
 mod uplinks;
 
 pub use sides::{Side, goes_to};

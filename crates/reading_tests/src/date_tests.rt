@@ -1,5 +1,5 @@
 //! Dates from a table that another program made.
-use crate::date_at;
+use comment_date::date_at;
 
 #[test]
 fn dates_of_known_moments(rt: HostRuntime) {

@@ -1,7 +1,7 @@
 //! Links, dials and datagrams over loopback. Each test has ports of its own, below those that the system gives away.
-use crate::MioWire;
 use aprs_base::{Addr, Chunk, Event, ListenSpec, PortKind, Sent, UplinkSpec, Wire, WireError};
 use arrayvec::ArrayVec;
+use mio_wire::MioWire;
 use std::io::{self, Read, Write};
 use std::net::{Net, Shutdown, TcpListener, TcpStream, UdpSocket};
 use std::test::Fail;

@@ -1,6 +1,6 @@
 //! Drills worked out by hand from the rules.
-use crate::{Plan, events};
 use aprs_base::{Addr, Chunk, Event};
+use drill_plan::{Plan, events};
 use std::process::Abort;
 use std::test::Fail;
 

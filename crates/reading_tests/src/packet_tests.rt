@@ -1,6 +1,6 @@
 //! Lines and what they are, from the descriptions of the format.
-use crate::{LineFault, construct, read, write};
 use aprs_base::Line;
+use tnc2_line::{LineFault, construct, read, write};
 
 #[test]
 fn names_the_first_fault(rt: HostRuntime) {

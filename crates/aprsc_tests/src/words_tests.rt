@@ -1,5 +1,5 @@
 //! The words that the program takes, written out.
-use crate::words::{DrillWords, Task, Words, WordsError, read_words};
+use aprsc_daemon::{DrillWords, Task, Words, WordsError, read_words};
 use drill_plan::Plan;
 use std::alloc::Global;
 use std::test::Fail;

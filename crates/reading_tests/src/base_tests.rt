@@ -1,5 +1,5 @@
 //! Calls, lines and their cutting from the public description of APRS-IS, and the outside in memory by scripts written here.
-use crate::{
+use aprs_base::{
     Addr, Call, Chunk, Cut, Cutter, Event, FileError, Files, Happening, Line, ListenSpec, MemFile,
     MemFiles, MemSink, MemWire, Memory, PortKind, Sent, Sink, SinkError, Take, Text, UplinkSpec,
     Wire, WireError,

@@ -1,8 +1,8 @@
 //! Filters and packets, from the descriptions of the terms.
-use crate::{Friends, POSITION_AGE, Seen, passes};
 use aprs_base::{Line, Packet, Place, Source};
 use aprs_body::classify;
 use arrayvec::ArrayVec;
+use filter_eval::{Friends, POSITION_AGE, Seen, passes};
 use std::alloc::Global;
 use std::process::Abort;
 use std::sync::Arc;

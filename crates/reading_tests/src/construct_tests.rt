@@ -3,8 +3,8 @@ ghost use Rattle.std.specs.Prelude.{◌≡◌, IsTrue};
 ghost use Rattle.aprs_base.specs.Bytes.{is_station};
 ghost use Rattle.q_construct.specs.Rule.{has_station};
 
-use crate::{Origin, QDrop, process};
 use aprs_base::{Addr, Call, Line, Parts};
+use q_construct::{Origin, QDrop, process};
 use std::process::Abort;
 use tnc2_line::read;
 

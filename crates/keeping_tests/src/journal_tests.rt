@@ -1,5 +1,5 @@
 //! Journals in memory, with lines of a server's journal written here.
-use crate::{CountJournal, Failed, Journal, Kind, MemJournal, Slot};
+use aprs_base::{CountJournal, Failed, Journal, Kind, MemJournal, Slot};
 use std::process::Abort;
 use std::test::Fail;
 

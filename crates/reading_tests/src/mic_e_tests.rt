@@ -1,6 +1,6 @@
 //! Positions of the public standard's examples, and others worked out by its rules (tools/position_values.py).
-use crate::read;
 use aprs_base::{Call, Place};
+use mic_e::read;
 
 /// A destination and a body, and their place's latitude, longitude, table and code.
 type Case = (&'static str, &'static str, i32, i32, u8, u8);

@@ -1,9 +1,10 @@
 //! What the program writes, over sinks that take little or fail, and over the files and the output of the system.
-use crate::configuring::Trouble;
-use crate::saying::{listen_failed, too_large, trouble, unread, usage, valid, write_all};
-use crate::{RealFiles, RealSink};
 use aprs_base::{FileError, Files, MemSink, Sink, SinkError};
 use aprs_conf::{ConfFault, ConfWord};
+use aprsc_daemon::{
+    RealFiles, RealSink, Trouble, listen_failed, too_large, trouble, unread, usage, valid,
+    write_all,
+};
 use std::fs;
 use std::test::Fail;
 

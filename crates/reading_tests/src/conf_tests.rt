@@ -1,11 +1,11 @@
 //! Configurations of one server, and the first faults of texts.
-use crate::{ConfError, ConfFault, ConfWord, read};
-use aprs_base::{Addr, PortKind};
+use aprs_base::{Addr, PortKind, UplinkSpec};
+use aprs_conf::{Conf, ConfError, ConfFault, ConfWord, Listen, PeerSpec, read};
 use std::alloc::Global;
 use std::test::Fail;
 
 /// One listener of each kind.
-const FIVE_LISTENS: &str = "ServerId T2TEST
+pub(crate) const FIVE_LISTENS: &str = "ServerId T2TEST
 PassCode 8385
 Listen \"full\" fullfeed tcp 0.0.0.0 10152
 Listen \"filt\" igate tcp 0.0.0.0 14580
@@ -76,67 +76,101 @@ fn many(alloc: Global, line: &str, times: u8) -> Result<Vec<u8>, Fail> {
     Ok(text)
 }
 
+/// A listener's name, kind and port.
+type Row = (&'static str, PortKind, u16);
+
+const FIVE_ROWS: [Row; 5] = [
+    ("full", PortKind::Full, 10152),
+    ("filt", PortKind::Igate, 14580),
+    ("sub", PortKind::Submit, 8080),
+    ("dup", PortKind::Dupe, 20152),
+    ("only", PortKind::Only, 14579),
+];
+
+fn is_listen(listen: &Listen, (name, kind, port): &Row) -> bool {
+    let at = Addr {
+        ip: [0, 0, 0, 0],
+        port: *port,
+    };
+    listen.name.as_bytes() == name.as_bytes()
+        && listen.spec.kind == *kind
+        && listen.spec.at == at
+        && !listen.idle
+}
+
+fn are_listens(listens: &[Listen], rows: &[Row]) -> bool {
+    for (listen, row) in listens.iter().zip(rows) {
+        if !is_listen(listen, row) {
+            return false;
+        }
+    }
+    listens.len() == rows.len()
+}
+
 #[test]
 fn reads_one_listener_of_each_kind(rt: HostRuntime) -> Result<(), Fail> {
     let conf = read(rt.alloc(), FIVE_LISTENS.as_bytes())?;
-    assert_eq!(rt; conf.server.bytes(), b"T2TEST".as_slice());
-    assert_eq!(rt; conf.code, 8385);
-    let rows = [
-        ("full", PortKind::Full, 10152),
-        ("filt", PortKind::Igate, 14580),
-        ("sub", PortKind::Submit, 8080),
-        ("dup", PortKind::Dupe, 20152),
-        ("only", PortKind::Only, 14579),
-    ];
-    assert_eq!(rt; conf.listens.len(), 5);
-    for (listen, (name, kind, port)) in conf.listens.iter().zip(rows) {
-        assert_eq!(rt; listen.name.as_bytes(), name.as_bytes());
-        assert_eq!(rt; listen.spec.kind, kind);
-        assert_eq!(rt;
-            listen.spec.at,
-            Addr {
-                ip: [0, 0, 0, 0],
-                port
-            }
-        );
-        assert!(rt; !listen.idle);
-    }
+    assert!(rt; conf.server.bytes() == b"T2TEST".as_slice() && conf.code == 8385);
+    assert!(rt; are_listens(conf.listens.as_slice(), &FIVE_ROWS));
     Ok(())
+}
+
+fn has_listeners_alone(conf: &Conf) -> bool {
+    conf.admin.as_bytes().is_empty()
+        && conf.email.as_bytes().is_empty()
+        && conf.uplinks.is_empty()
+        && conf.peers.is_empty()
+        && conf.group.is_none()
+}
+
+fn has_usual_limits(conf: &Conf) -> bool {
+    conf.up_timeout == 15 && conf.client_timeout == 172_800 && conf.max_clients == 500
 }
 
 #[test]
 fn gives_what_no_line_says(rt: HostRuntime) -> Result<(), Fail> {
     let conf = read(rt.alloc(), FIVE_LISTENS.as_bytes())?;
-    assert!(rt; conf.admin.as_bytes().is_empty() && conf.email.as_bytes().is_empty());
-    assert!(rt; conf.uplinks.is_empty() && conf.peers.is_empty() && conf.group.is_none());
-    assert_eq!(rt; conf.up_timeout, 15);
-    assert_eq!(rt; conf.client_timeout, 172_800);
-    assert_eq!(rt; conf.max_clients, 500);
+    assert!(rt; has_listeners_alone(&conf));
+    assert!(rt; has_usual_limits(&conf));
     Ok(())
 }
+
+fn has_first_uplink(uplinks: &[UplinkSpec], host: &[u8], port: u16) -> bool {
+    match uplinks.first() {
+        Some(uplink) => uplink.host.as_slice() == host && uplink.port == port,
+        None => false,
+    }
+}
+
+fn has_last_peer(peers: &[PeerSpec], call: &[u8], at: Addr) -> bool {
+    match peers.last() {
+        Some(peer) => peer.call.bytes() == call && peer.at == at,
+        None => false,
+    }
+}
+
+/// The port of the group, where there is one.
+fn group_port(conf: &Conf) -> Option<u16> {
+    Some(conf.group?.port)
+}
+
+fn is_run_by(conf: &Conf, admin: &[u8], email: &[u8]) -> bool {
+    conf.admin.as_bytes() == admin && conf.email.as_bytes() == email
+}
+
+const HUB: Addr = Addr {
+    ip: [192, 0, 2, 3],
+    port: 16404,
+};
 
 #[test]
 fn reads_the_example(rt: HostRuntime) -> Result<(), Fail> {
     let conf = read(rt.alloc(), EXAMPLE.as_bytes())?;
-    assert_eq!(rt; conf.admin.as_bytes(), b"Jane Doe, K1ABC".as_slice());
-    assert_eq!(rt; conf.email.as_bytes(), b"k1abc@example.org".as_slice());
-    assert_eq!(rt; conf.listens.len(), 4);
-    let uplink = conf.uplinks.first().ok_or("an uplink")?;
-    assert_eq!(rt; uplink.host.as_slice(), b"rotate.example.net".as_slice());
-    assert_eq!(rt; uplink.port, 10152);
-    let group = conf.group.ok_or("a group")?;
-    assert_eq!(rt; group.port, 16404);
-    assert_eq!(rt; conf.peers.len(), 2);
-    let peer = conf.peers.last().ok_or("a peer")?;
-    assert_eq!(rt; peer.call.bytes(), b"T2HUB".as_slice());
-    assert_eq!(rt;
-        peer.at,
-        Addr {
-            ip: [192, 0, 2, 3],
-            port: 16404
-        }
-    );
-    assert_eq!(rt; conf.up_timeout, 60);
+    assert!(rt; is_run_by(&conf, b"Jane Doe, K1ABC", b"k1abc@example.org"));
+    assert!(rt; conf.listens.len() == 4 && conf.peers.len() == 2 && conf.up_timeout == 60);
+    assert!(rt; has_first_uplink(conf.uplinks.as_slice(), b"rotate.example.net", 10152));
+    assert!(rt; group_port(&conf) == Some(16404));
+    assert!(rt; has_last_peer(conf.peers.as_slice(), b"T2HUB", HUB));
     Ok(())
 }
 

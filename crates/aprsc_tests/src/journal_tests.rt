@@ -1,7 +1,6 @@
 //! Lines told to slots, and the journals of the system.
-use crate::journals::tell_all;
-use crate::{ErrorJournal, FileJournal};
 use aprs_base::{CountJournal, Failed, Journal, JournalLine, Kind, MemJournal, Memory, Slot};
+use aprsc_daemon::{ErrorJournal, FileJournal, tell_all};
 use arrayvec::ArrayVec;
 use std::alloc::Global;
 use std::fs;

@@ -1,9 +1,9 @@
 //! A run of the program over files, a wire and a sink in memory, and what it left.
-use crate::aprsc;
 use aprs_base::{
     Addr, Chunk, Event, Happening, ListenSpec, MemFile, MemFiles, MemSink, MemWire, Sent, Slot,
     Take, Text, UplinkSpec,
 };
+use aprsc_daemon::aprsc;
 use std::alloc::Global;
 use std::hash::RandomState;
 use std::marker::Sync;

@@ -1,6 +1,6 @@
 //! Queues worked by hand.
-use crate::{Overfull, Queue};
 use aprs_base::{Line, Memory};
+use link_queue::{Overfull, Queue};
 use std::alloc::Global;
 use std::sync::Arc;
 use std::test::Fail;

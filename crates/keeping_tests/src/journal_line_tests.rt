@@ -1,7 +1,9 @@
 //! The lines as operators read them.
-use crate::{end_line, filter_line, join_line, login_line, open_line, refusal_line, unjoined_line};
 use aprs_base::{Call, JournalLine, Kind, Source};
 use aprs_history::{EndReason, Refusal, Session};
+use journal_lines::{
+    end_line, filter_line, join_line, login_line, open_line, refusal_line, unjoined_line,
+};
 use login_pass::LoginFault;
 use q_construct::QDrop;
 use std::process::Abort;

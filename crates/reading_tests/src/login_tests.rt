@@ -1,6 +1,6 @@
 //! Logins from the description of the line, and passcodes that are in use.
-use crate::{LoginFault, passcode, read_login};
 use aprs_base::{Call, Line};
+use login_pass::{LoginFault, passcode, read_login};
 
 #[test]
 fn gives_known_passcodes(rt: HostRuntime) {

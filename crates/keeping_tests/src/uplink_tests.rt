@@ -1,6 +1,6 @@
 //! Uplinks at given moments.
-use crate::{Side, UpActs, UpEvent, Uplinks, goes_to};
 use std::process::Abort;
+use uplinks_peers::{Side, UpActs, UpEvent, Uplinks, goes_to};
 
 const NOTHING: UpActs = UpActs {
     dial: None,

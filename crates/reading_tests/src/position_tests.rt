@@ -1,6 +1,6 @@
 //! Positions of the public standard's examples, and others worked out by its rules (tools/position_values.py).
-use crate::{read_compressed, read_either, read_plain};
 use aprs_base::Place;
+use aprs_position::{read_compressed, read_either, read_plain};
 
 /// A text, and its place's latitude, longitude, table and code.
 type Case = (&'static str, i32, i32, u8, u8);

@@ -1,7 +1,7 @@
 //! What is answered to lines, from the public description of APRS-IS.
-use crate::{Voice, denied_line, judge_comment, judge_login, submitter_of, uplink_line};
 use aprs_base::{Call, Cut, Line};
 use aprs_history::{FilterAnswer, Refusal, Verdict};
+use line_verdict::{Voice, denied_line, judge_comment, judge_login, submitter_of, uplink_line};
 use login_pass::LoginFault;
 use q_construct::{Origin, QDrop};
 use std::alloc::Global;

@@ -1,6 +1,6 @@
 //! Bodies of the public standard's examples, and others read by its rules.
-use crate::classify;
 use aprs_base::{Body, Call, Word9};
+use aprs_body::classify;
 
 /// A body, and its class, place, name, life and receiver.
 type Case = (
