@@ -2,8 +2,6 @@
 #![tactic(auto)]
 
 mod keys;
-#[cfg(test)]
-mod tests;
 mod windows;
 
 pub use keys::Key;

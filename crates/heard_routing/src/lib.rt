@@ -6,7 +6,5 @@ mod heard;
 mod links;
 mod listed;
 mod table;
-#[cfg(test)]
-mod tests;
 
 pub use heard::Heard;

@@ -1,8 +1,10 @@
-//! What is kept and told: journals, queues, uplinks, drills, verdicts. The crate holds nothing but tests.
+//! What is kept and told: tables, journals, queues, uplinks, drills, verdicts. The crate holds nothing but tests.
 #![tactic(auto)]
 
 #[cfg(test)]
 mod drill_tests;
+#[cfg(test)]
+mod heard_tests;
 #[cfg(test)]
 mod journal_line_tests;
 #[cfg(test)]
@@ -10,6 +12,10 @@ mod journal_tests;
 #[cfg(test)]
 mod queue_tests;
 #[cfg(test)]
+mod station_tests;
+#[cfg(test)]
 mod uplink_tests;
 #[cfg(test)]
 mod verdict_tests;
+#[cfg(test)]
+mod window_tests;

@@ -2,7 +2,5 @@
 #![tactic(auto)]
 
 mod stations;
-#[cfg(test)]
-mod tests;
 
 pub use stations::{Stations, seen_in};

@@ -1,9 +1,9 @@
 //! Packets of two stations and a gate, noted at moments that are given.
 ghost use Rattle.std.specs.Prelude.{◌<◌};
 
-use crate::Stations;
 use aprs_base::{Call, Line, Memory, Packet, Source};
 use aprs_body::classify;
+use station_table::Stations;
 use std::alloc::Global;
 use std::hash::RandomState;
 use std::process::Abort;

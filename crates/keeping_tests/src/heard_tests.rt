@@ -1,6 +1,6 @@
 //! Links that hear stations and are promised positions, at moments that are given.
-use crate::Heard;
 use aprs_base::{Call, Memory};
+use heard_routing::Heard;
 use std::alloc::Global;
 use std::hash::RandomState;
 use std::process::Abort;

@@ -2,9 +2,9 @@
 ghost use Rattle.std.specs.Prelude.{◌≤◌};
 ghost use Rattle.dupe_window.specs.Windows.{IsUpTo};
 
-use crate::{Key, Window};
 use aprs_base::{Call, Memory, Parts, Via};
 use arrayvec::ArrayVec;
+use dupe_window::{Key, Window};
 use std::hash::RandomState;
 use std::process::Abort;
 use std::test::Fail;
