@@ -22,8 +22,6 @@ mod openings;
 mod packets;
 mod rounds;
 mod telling;
-#[cfg(test)]
-mod tests;
 mod ticks;
 mod verdicts;
 
@@ -143,6 +141,34 @@ impl Core {
         ensures { result.now ≡ self.now.conf }
     {
         &self.conf
+    }
+
+    /// The greatest number of a link that it was told of, 0 where there is none.
+    pub fn greatest(&self) -> u32
+        ensures { result ≡ self.now.seen.greatest }
+    {
+        self.greatest
+    }
+
+    /// Whether a round ended with a stop.
+    pub fn is_stopped(&self) -> bool
+        ensures { result ≡ self.now.seen.stopped }
+    {
+        self.stopped
+    }
+
+    /// Whether the link is there, and may be offered bytes.
+    pub fn serves(&self, link: u32) -> bool
+        ensures { result ≡ has_number link self.now.seen.links }
+    {
+        self.links.iter().any(|served| served.number == link)
+    }
+
+    /// The packets that were accepted a short while ago.
+    pub fn window(&self) -> &Window
+        ensures { result.now ≡ self.now.seen.window }
+    {
+        &self.window
     }
 
     /// What it has counted since it was made.

@@ -1,5 +1,5 @@
 //! What is to be done after a round.
-use super::session::{Row, run};
+use crate::session::{Row, run};
 
 const STOPPED: [Row<'static>; 6] = [
     Row::Opens(1, 0),

@@ -1,5 +1,5 @@
 //! What is answered to a login.
-use super::session::{Row, run};
+use crate::session::{Row, run};
 
 /// What a new link says, and the answer.
 const LOGINS: [(&[u8], &[u8]); 10] = [

@@ -1,5 +1,5 @@
 //! Messages: which links get them, and whose next position goes along.
-use super::session::{Row, run};
+use crate::session::{Row, run};
 
 /// K1XYZ is a gateway without a filter, and has heard K1ABC; OH7LZB and N0CALL are on the full port.
 const HEARD: [Row<'static>; 10] = [

@@ -1,5 +1,5 @@
 //! What one client says, and another hears.
-use super::session::{Row, repeated, run};
+use crate::session::{Row, repeated, run};
 use std::alloc::Global;
 use std::marker::Sync;
 use std::process::Abort;

@@ -1,6 +1,6 @@
 //! Links that the server ends, and the date that it tells.
-use super::cores::Limits;
-use super::session::{Row, USUAL, repeated, run_within};
+use crate::cores::Limits;
+use crate::session::{Row, USUAL, repeated, run_within};
 use std::alloc::Global;
 use std::marker::Sync;
 use std::process::Abort;

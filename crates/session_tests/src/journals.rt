@@ -1,6 +1,6 @@
 //! What rounds tell the journals.
-use super::cores::Limits;
-use super::session::{Row, USUAL, run, run_within};
+use crate::cores::Limits;
+use crate::session::{Row, USUAL, run, run_within};
 use aprs_base::Kind;
 
 /// Steps of sessions, and what is refused within them.

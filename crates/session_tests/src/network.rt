@@ -1,5 +1,5 @@
 //! What uplinks, peers and stations that submit datagrams bring, and who gets it.
-use super::session::{Row, run};
+use crate::session::{Row, run};
 
 /// The uplink joins as link 1. N0CALL logs in on the full port as link 2, and K1XYZ as link 3 where refused duplicates are
 /// shown.

@@ -1,5 +1,5 @@
 use Rattle.std.proofs.Common.{length}
-use Rattle.server_core.proofs.server.tests.cores.+are_fresh.Given as goal
+use Rattle.session_tests.proofs.cores.+are_fresh.Given as goal
 
 abbrev pub decreases-are_fresh : goal.decreases-are_fresh
 decreases-are_fresh l = length l.events.now

@@ -1,5 +1,5 @@
 //! What a core counts.
-use super::session::{Row, run};
+use crate::session::{Row, run};
 
 /// A full feed of two clients, and a third link that is shown duplicates.
 const COUNTED: [Row<'static>; 17] = [

@@ -1,5 +1,5 @@
 //! How a server marks the way of a packet.
-use super::session::{Row, run};
+use crate::session::{Row, run};
 use std::alloc::Global;
 use std::marker::Sync;
 use std::process::Abort;

@@ -1,5 +1,5 @@
 //! Filters: what is answered to them, and what a link with a filter hears.
-use super::session::{Row, repeated, run};
+use crate::session::{Row, repeated, run};
 
 const OPENED: [Row<'static>; 2] = [Row::Opens(1, 1), Row::Gets(1, b"# aprsc 1.0\r\n")];
 

@@ -1,9 +1,8 @@
 //! Sessions as tables of rows.
-use super::super::Core;
-use super::cores::{Limits, bytes, core_of, datagram, is_served, joined, opened, round, take_next};
-use crate::acts::{Acts, CastOut};
+use crate::cores::{Limits, bytes, core_of, datagram, joined, opened, round, take_next};
 use aprs_base::{Event, JournalLine, Kind, Line};
 use dupe_window::Key;
+use server_core::{Acts, CastOut, Core};
 use std::alloc::Global;
 use std::marker::Sync;
 use std::process::Abort;
@@ -13,7 +12,7 @@ use tnc2_line::read;
 
 /// A row of a session: what comes, or what is to be done after it.
 #[derive(Clone, Copy)]
-pub(super) enum Row<'a> {
+pub(crate) enum Row<'a> {
     /// A link is opened on a listener: 0 is full, 1 an igate port, 2 for clients alone, 3 shows refused duplicates.
     Opens(u32, u16),
     /// The uplink joins as that link.
@@ -59,7 +58,7 @@ pub(super) enum Row<'a> {
 }
 
 /// The limits of a configuration that names none.
-pub(super) const USUAL: Limits = Limits {
+pub(crate) const USUAL: Limits = Limits {
     silence: 172_800,
     clients: 500,
 };
@@ -68,6 +67,8 @@ pub(super) const USUAL: Limits = Limits {
 #[derive(Drop)]
 struct Session {
     core: Core,
+    /// That of the last tick.
+    moment: u64,
     events: Vec<Event>,
     acts: Acts,
     lines: Vec<JournalLine>,
@@ -91,11 +92,16 @@ fn end_round<R: Threads + Sync + Abort>(rt: &R, alloc: Global, session: &mut Ses
     session.events.clear();
 }
 
+fn tick<R: Threads + Sync + Abort>(rt: &R, alloc: Global, session: &mut Session, moment: u64) {
+    session.moment = moment;
+    end_round(rt, alloc, session, Event::Tick(moment));
+}
+
 /// Where something came since the last round, that round ends.
 fn settle<R: Threads + Sync + Abort>(rt: &R, alloc: Global, session: &mut Session) {
     if !session.events.is_empty() {
-        let moment = session.core.moment;
-        end_round(rt, alloc, session, Event::Tick(moment));
+        let moment = session.moment;
+        tick(rt, alloc, session, moment);
     }
 }
 
@@ -145,7 +151,7 @@ fn are_told<R: Abort>(rt: &R, lines: &[JournalLine], want: &[(Kind, u64, &[u8])]
 
 fn recalls<R: Abort>(rt: &R, core: &Core, line: &[u8], now: u64, want: Option<u64>) {
     let parts = Line::new(line).and_then(|line| read(&line).ok());
-    let seen = parts.and_then(|parts| core.window.seen(&Key::of(&parts), now));
+    let seen = parts.and_then(|parts| core.window().seen(&Key::of(&parts), now));
     assert!(rt; seen == want);
 }
 
@@ -169,7 +175,7 @@ fn step<R: Threads + Sync + Abort>(rt: &R, alloc: Global, session: &mut Session,
         Row::Says(link, text) => come(rt, session, bytes(rt, link, text)),
         Row::Ends(link) => come(rt, session, Event::Ended(link)),
         Row::Room(link) => come(rt, session, Event::Room(link)),
-        Row::Tick(moment) => end_round(rt, alloc, session, Event::Tick(moment)),
+        Row::Tick(moment) => tick(rt, alloc, session, moment),
         Row::Stop => end_round(rt, alloc, session, Event::Stop),
         Row::Gone(link) => session.core.gone(link),
         Row::Gets(link, text) => gets(rt, alloc, session, link, text, 600),
@@ -182,7 +188,7 @@ fn step<R: Threads + Sync + Abort>(rt: &R, alloc: Global, session: &mut Session,
         Row::Tells(lines) => are_told(rt, session.lines.as_slice(), lines),
         Row::Counts(want) => assert!(rt; counts_of(&session.core) == want),
         Row::Done => assert!(rt; session.acts.done),
-        Row::Lacks(link) => assert!(rt; !is_served(&session.core, link)),
+        Row::Lacks(link) => assert!(rt; !session.core.serves(link)),
         Row::Recalls(line, now, want) => recalls(rt, &session.core, line, now, want),
     }
 }
@@ -212,6 +218,7 @@ fn new_session<R: RandomSource + Abort>(
 ) -> Session {
     Session {
         core: core_of(rt, alloc, server, limits),
+        moment: 0,
         events: Vec::new(alloc),
         acts: no_acts(alloc),
         lines: Vec::new(alloc),
@@ -219,7 +226,7 @@ fn new_session<R: RandomSource + Abort>(
 }
 
 /// A session of a server with this call, which begins at 1000 and with the first rows, and goes on with more.
-pub(super) fn run<R: Threads + Sync + RandomSource + Abort>(
+pub(crate) fn run<R: Threads + Sync + RandomSource + Abort>(
     rt: &R,
     alloc: Global,
     server: &[u8],
@@ -233,7 +240,7 @@ pub(super) fn run<R: Threads + Sync + RandomSource + Abort>(
 }
 
 /// The same for a server with these limits.
-pub(super) fn run_within<R: Threads + Sync + RandomSource + Abort>(
+pub(crate) fn run_within<R: Threads + Sync + RandomSource + Abort>(
     rt: &R,
     alloc: Global,
     limits: Limits,
@@ -245,7 +252,7 @@ pub(super) fn run_within<R: Threads + Sync + RandomSource + Abort>(
 }
 
 /// The head, so many times the piece, and the end.
-pub(super) fn repeated<R: Abort>(
+pub(crate) fn repeated<R: Abort>(
     rt: &R,
     alloc: Global,
     head: &[u8],

@@ -5,14 +5,12 @@ ghost use Rattle.aprs_base.specs.Outside.{new_link};
 ghost use Rattle.aprs_conf.specs.Sound.{IsGroup};
 ghost use Rattle.aprs_history.specs.History.{is_round_event};
 ghost use Rattle.aprs_history.specs.Rounds.{AreFresh, is_whole};
-ghost use Rattle.server_core.specs.LinkSteps.{has_number};
 ghost use Rattle.server_core.specs.Meaning.{numbered};
 
-use super::super::Core;
-use crate::acts::Acts;
 use aprs_base::{Addr, Call, Chunk, Event, JournalLine, ListenSpec, PortKind, Text, UplinkSpec};
 use aprs_conf::{Conf, Listen, PeerSpec};
 use arrayvec::ArrayVec;
+use server_core::{Acts, Core};
 use std::alloc::Global;
 use std::hash::RandomState;
 use std::marker::Sync;
@@ -54,7 +52,7 @@ fn listen(alloc: Global, kind: PortKind) -> Listen {
 
 /// How many seconds a client may be silent, and how many clients may be there.
 #[derive(Clone, Copy)]
-pub(super) struct Limits {
+pub(crate) struct Limits {
     pub silence: u32,
     pub clients: u32,
 }
@@ -106,7 +104,7 @@ fn conf_of<R: Abort>(rt: &R, alloc: Global, server: Call, limits: Limits) -> Con
 }
 
 /// A core with this call, over such a configuration.
-pub(super) fn core_of<R: RandomSource + Abort>(
+pub(crate) fn core_of<R: RandomSource + Abort>(
     rt: &R,
     alloc: Global,
     server: &[u8],
@@ -118,7 +116,7 @@ pub(super) fn core_of<R: RandomSource + Abort>(
     Core::new(alloc, &hasher, conf_of(rt, alloc, server, limits), 1).expect(rt, "memory")
 }
 
-pub(super) fn opened(link: u32, listener: u16) -> Event {
+pub(crate) fn opened(link: u32, listener: u16) -> Event {
     Event::Opened {
         listener,
         link,
@@ -127,7 +125,7 @@ pub(super) fn opened(link: u32, listener: u16) -> Event {
 }
 
 /// The uplink joins as that link.
-pub(super) fn joined(link: u32) -> Event {
+pub(crate) fn joined(link: u32) -> Event {
     Event::Joined {
         uplink: 0,
         link,
@@ -135,7 +133,7 @@ pub(super) fn joined(link: u32) -> Event {
     }
 }
 
-pub(super) fn datagram<R: Abort>(rt: &R, listener: u16, port: u16, text: &[u8]) -> Event {
+pub(crate) fn datagram<R: Abort>(rt: &R, listener: u16, port: u16, text: &[u8]) -> Event {
     Event::Datagram {
         listener,
         from: far(port),
@@ -143,7 +141,7 @@ pub(super) fn datagram<R: Abort>(rt: &R, listener: u16, port: u16, text: &[u8]) 
     }
 }
 
-pub(super) fn bytes<R: Abort>(rt: &R, link: u32, text: &[u8]) -> Event {
+pub(crate) fn bytes<R: Abort>(rt: &R, link: u32, text: &[u8]) -> Event {
     Event::Bytes(link, Chunk::new(text).expect(rt, "a chunk"))
 }
 
@@ -196,12 +194,12 @@ fn check_round<R: Abort>(rt: &R, core: &Core, events: &[Event])
 {
     assert!(rt; events.len() <= 512);
     assert!(rt; is_whole(0, events));
-    assert!(rt; are_fresh(core.greatest, events));
-    assert!(rt; !core.stopped);
+    assert!(rt; are_fresh(core.greatest(), events));
+    assert!(rt; !core.is_stopped());
 }
 
 /// Takes a round of these events, and tells its lines.
-pub(super) fn round<R: Threads + Sync + Abort>(
+pub(crate) fn round<R: Threads + Sync + Abort>(
     rt: &R,
     alloc: Global,
     core: &mut Core,
@@ -212,12 +210,6 @@ pub(super) fn round<R: Threads + Sync + Abort>(
     core.round(rt, alloc, events, lines).expect(rt, "memory")
 }
 
-pub(super) fn is_served(core: &Core, link: u32) -> bool
-    ensures { result ≡ has_number link core.now.seen.links }
-{
-    core.links.iter().any(|served| served.number == link)
-}
-
 fn is_wanted(bytes: &[u8], want: Option<&[u8]>) -> bool {
     match want {
         Some(want) => bytes == want,
@@ -226,7 +218,7 @@ fn is_wanted(bytes: &[u8], want: Option<&[u8]>) -> bool {
 }
 
 /// The link is offered these bytes, where some are named, and takes at most so many.
-pub(super) fn take_next<R: Abort>(
+pub(crate) fn take_next<R: Abort>(
     rt: &R,
     core: &mut Core,
     link: u32,
@@ -234,7 +226,7 @@ pub(super) fn take_next<R: Abort>(
     most: usize,
 ) {
     let mut out = [0; 600];
-    assert!(rt; is_served(core, link));
+    assert!(rt; core.serves(link));
     let count = core.offer(link, &mut out);
     assert!(rt; is_wanted(&out[..count], want));
     core.took(link, count, count.min(most));
