@@ -1,7 +1,7 @@
 #!/usr/bin/env python3
 """What reading, routing and writing one packet line costs, beside a plain reader: tools/reading/run.py
 
-The program main.rt is no crate of the repository. It is proved and built in a copy, with the crates below it.
+The program reading_costs.rattle is no crate of the repository. It is proved and built in a copy, with the crates below it.
 """
 import os
 import resource
@@ -34,7 +34,7 @@ def main():
         subprocess.run(["git", "clone", "--quiet", TOP, copy], check=True)
         crate = f"{copy}/crates/reading_costs"
         os.makedirs(f"{crate}/src")
-        shutil.copy(f"{HERE}/main.rt", f"{crate}/src/main.rt")
+        shutil.copy(f"{HERE}/reading_costs.rattle", f"{crate}/src/main.rt")
         with open(f"{copy}/crates.txt", "a") as crates:
             crates.write("reading_costs: aprs_base tnc2_line q_construct\n")
         built = subprocess.run(["rt", "run"], cwd=crate, capture_output=True, text=True)

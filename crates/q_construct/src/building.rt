@@ -6,7 +6,8 @@ ghost use Rattle.q_construct.specs.Rule.{built_row, common_rows, ending, first_r
 
 use crate::origins::Origin;
 use crate::paths::{
-    Path, after, before, construct_bytes, gate_of, has_construct, put_ended, put_path, put_submitted,
+    Path, after, before, construct_bytes, gate_of, has_construct, put_ended, put_path,
+    put_submitted,
 };
 use aprs_base::{Call, Via};
 use arrayvec::ArrayVec;
@@ -122,13 +123,7 @@ fn build_received(built: &mut Built, login: &Call, given: &[Via]) -> bool
 }
 
 /// The path of what such a gateway sends for others, on a port for clients alone. Answers whether it is one of these.
-fn build_relayed(
-    built: &mut Built,
-    source: &Call,
-    login: &Call,
-    only: bool,
-    given: &[Via],
-) -> bool
+fn build_relayed(built: &mut Built, source: &Call, login: &Call, only: bool, given: &[Via]) -> bool
     requires empty { built.old.path.items ≡ [] }
     requires short { length given.now ≤ 32 }
     ensures row { Receives result built.new (only && not (same source.now login.now)) login.now given.now }
