@@ -1,0 +1,3 @@
+pub mod FriendLemmas
+pub mod MemberLemmas
+pub mod WalkLemmas

@@ -1,0 +1,71 @@
+-- What the table of a link's steps comes to, in the words of the rule.
+use Rattle.std.specs.Prelude.{ℕ, ◌≡◌, ◌≢◌, ◌+◌, ◌^◌, ◌-◌, min, Bool, true, false, List, length, Option, Some}
+use Rattle.std.specs.List.{list_any}
+use Rattle.aprs_base.specs.declared.packets.Source.TheVariants as source
+use Rattle.filter_eval.specs.Passes.{passes_of}
+use Rattle.link_queue.specs.Queues.{with_line}
+use Rattle.worker_match.specs.declared.links.Feed.TheVariants as feed
+use Rattle.worker_match.specs.Seen.{LinkSeen, OfferSeen, ItemSeen, Told, ToldAll, Ended, Became, Came}
+use Rattle.worker_match.specs.Walk.{after, walked, wants}
+
+-- ---- whom an item changes
+
+-- a link that doesn't live, or is over, is changed by nothing
+abbrev pub DeadStay : Type 0
+DeadStay = (link : LinkSeen) (items : List ItemSeen) → link.alive ≡ false → walked items link ≡ link
+
+abbrev pub OverStay : Type 0
+OverStay = (link : LinkSeen) (items : List ItemSeen) → link.over ≡ true → walked items link ≡ link
+
+-- what is for others: the line, the end and the session of another link, and for a link that was dialled what is for all clients
+abbrev pub IsForOthers : ItemSeen → LinkSeen → Type 0
+IsForOthers (Told number line) link = link.link ≢ number
+IsForOthers (ToldAll line) link = link.inbound ≡ false
+IsForOthers (Ended number) link = link.link ≢ number
+IsForOthers (Became session) link = link.link ≢ session.link
+IsForOthers (Came offer) link = ⊥
+
+abbrev pub OthersStay : Type 0
+OthersStay = (link : LinkSeen) (item : ItemSeen) → IsForOthers item link → after link item ≡ link
+
+-- ---- what a link wants
+
+-- nobody wants what came from its own link
+abbrev pub NoneWantTheirOwn : Type 0
+NoneWantTheirOwn = (link : LinkSeen) (offer : OfferSeen) → offer.packet.from ≡ source.Link link.link → wants offer link ≡ false
+
+-- a refused duplicate is wanted by those alone that are fed such, and nothing else by them
+abbrev pub DupesAreForDupeFeeds : Type 0
+DupesAreForDupeFeeds = (link : LinkSeen) (offer : OfferSeen) → wants offer link ≡ true → (offer.dupe ≡ true → link.feed ≡ feed.Dupe) × (link.feed ≡ feed.Dupe → offer.dupe ≡ true)
+
+-- ---- what a packet leaves of a link that lives and isn't over
+
+pub record IsOpen (link : LinkSeen) : Type 0 where
+  pub alive : link.alive ≡ true
+  pub under : link.over ≡ false
+
+-- a wanted packet's line is the next in the queue, and is counted
+pub record HasTaken (offer : OfferSeen) (old new : LinkSeen) : Type 0 where
+  pub queue : new.queue ≡ with_line offer.packet.line old.queue
+  pub put : new.put ≡ min (old.put + 1) (2 ^ 64 - 1)
+  pub over : new.over ≡ false
+
+abbrev pub WantedAreTaken : Type 0
+WantedAreTaken =
+    (link : LinkSeen) (offer : OfferSeen) → IsOpen link → wants offer link ≡ true → length link.queue.lines ≢ link.queue.limit
+    → HasTaken offer link (after link (Came offer))
+
+-- nothing is taken, and the link is over or not
+pub record HasTakenNone (over : Bool) (old new : LinkSeen) : Type 0 where
+  pub queue : new.queue ≡ old.queue
+  pub put : new.put ≡ old.put
+  pub over : new.over ≡ over
+
+-- where its queue is full it is over
+abbrev pub FullAreOver : Type 0
+FullAreOver =
+    (link : LinkSeen) (offer : OfferSeen) → IsOpen link → wants offer link ≡ true → length link.queue.lines ≡ link.queue.limit
+    → HasTakenNone true link (after link (Came offer))
+
+abbrev pub OthersAreNotTaken : Type 0
+OthersAreNotTaken = (link : LinkSeen) (offer : OfferSeen) → IsOpen link → wants offer link ≡ false → HasTakenNone false link (after link (Came offer))

@@ -1,0 +1,16 @@
+//! What the walk of links comes to, as laws of its definition.
+ghost use Rattle.worker_match.specs.WalkLaws.{DeadStay, DupesAreForDupeFeeds, FullAreOver, NoneWantTheirOwn, OthersAreNotTaken, OthersStay, OverStay, WantedAreTaken};
+
+/// A link that doesn't live, or is over, is changed by nothing, and no link by what is for others. None wants what came from
+/// itself, and refused duplicates are for those that are fed such. Exactly what a link wants is put into its queue, as long
+/// as there is room; then the link is over.
+pub fn links_take_what_they_want()
+    ensures dead { DeadStay }
+    ensures over { OverStay }
+    ensures others { OthersStay }
+    ensures own { NoneWantTheirOwn }
+    ensures dupes { DupesAreForDupeFeeds }
+    ensures wanted { WantedAreTaken }
+    ensures full { FullAreOver }
+    ensures unwanted { OthersAreNotTaken }
+{}

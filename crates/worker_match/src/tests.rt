@@ -1,0 +1,1 @@
+//! Links and items worked by hand.
