@@ -26,8 +26,8 @@ walk_done items i link total past so_far = sym (ap (λ left. walked (items_seen 
 
 pub ordered_at : (items : List Item) (i : ℕ) (x : Item) → All IsOrdered (items_seen items) → i < length items → x ≡ get_or items i x → IsOrdered (item_seen x)
 ordered_at [] i x all lt at = absurd (omega arith)
-ordered_at (y ∷ items) zero x all lt at = subst (λ z. IsOrdered (item_seen z)) (sym at) all.0
-ordered_at (y ∷ items) (suc i) x all lt at = ordered_at items i x all.1 (omega arith) at
+ordered_at (y ∷ items) zero x all lt at = subst (λ z. IsOrdered (item_seen z)) (sym at) (all 0 (item_seen y) (omega arith))
+ordered_at (y ∷ items) (suc i) x all lt at = ordered_at items i x (λ k d within. all (suc k) d (omega arith)) (omega arith) at
 
 -- ---- a loop that changes each element
 

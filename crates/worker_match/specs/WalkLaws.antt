@@ -56,10 +56,10 @@ WantedAreTaken =
     → HasTaken offer link (after link (Came offer))
 
 -- nothing is taken, and the link is over or not
-pub record HasTakenNone (over : Bool) (old new : LinkSeen) : Type 0 where
+pub record HasTakenNone (overfull : Bool) (old new : LinkSeen) : Type 0 where
   pub queue : new.queue ≡ old.queue
   pub put : new.put ≡ old.put
-  pub over : new.over ≡ over
+  pub over : new.over ≡ overfull
 
 -- where its queue is full it is over
 abbrev pub FullAreOver : Type 0
