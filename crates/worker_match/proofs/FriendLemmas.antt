@@ -1,5 +1,5 @@
 -- Where the calls of terms were last seen, as a loop over them goes on.
-use Rattle.std.proofs.Common.{◌≡◌, ℕ, zero, suc, ◌+◌, ◌<◌, ◌≤◌, min, List, [], ◌∷◌, length, take, get_or, slice_set, Option, refl, ap, ◌∙◌, arith, add-one}
+use Rattle.std.proofs.Common.{◌≡◌, ℕ, zero, suc, ◌+◌, ◌<◌, ◌≤◌, min, List, [], ◌∷◌, length, take, get_or, slice_get, slice_set, Option, Some, refl, ap, ◌∙◌, arith, add-one}
 use Rattle.filter_lang.specs.Terms.{TermSeen}
 use Rattle.filter_eval.specs.declared.seen.Seen.{Seen}
 use Rattle.worker_match.specs.Walk.{friend_seen, friends_seen}
@@ -39,3 +39,21 @@ module _ (call : List ℕ) (seen : Seen) where
   seen_all (t ∷ terms) [] (suc i) past = refl
   seen_all (t ∷ terms) (f ∷ friends) zero past = absurd (omega arith)
   seen_all (t ∷ terms) (f ∷ friends) (suc i) past = ap (λ rest. friend_seen call seen t f ∷ rest) (seen_all terms friends i (omega arith))
+
+-- each friend by its term, and as many as before
+pub seen_each : (call : List ℕ) (seen : Seen) (terms : List TermSeen) (friends : List (Option Seen)) (i : ℕ) (term : TermSeen) (friend : Option Seen)
+    → slice_get terms i ≡ Some term → slice_get friends i ≡ Some friend → slice_get (friends_seen call seen terms friends) i ≡ Some (friend_seen call seen term friend)
+seen_each call seen [] friends zero term friend at_term at_friend = absurd (cc)
+seen_each call seen [] friends (suc i) term friend at_term at_friend = absurd (cc)
+seen_each call seen (t ∷ terms) [] zero term friend at_term at_friend = absurd (cc)
+seen_each call seen (t ∷ terms) [] (suc i) term friend at_term at_friend = absurd (cc)
+seen_each call seen (t ∷ terms) (f ∷ friends) zero term friend at_term at_friend =
+    let one : t ≡ term = cc in
+    let two : f ≡ friend = cc in
+    rw (one, two) refl
+seen_each call seen (t ∷ terms) (f ∷ friends) (suc i) term friend at_term at_friend = seen_each call seen terms friends i term friend at_term at_friend
+
+pub seen_many : (call : List ℕ) (seen : Seen) (terms : List TermSeen) (friends : List (Option Seen)) → length (friends_seen call seen terms friends) ≡ length friends
+seen_many call seen [] friends = refl
+seen_many call seen (t ∷ terms) [] = refl
+seen_many call seen (t ∷ terms) (f ∷ friends) = ap suc (seen_many call seen terms friends)

@@ -1,12 +1,14 @@
 -- What the table of a link's steps comes to, in the words of the rule.
-use Rattle.std.specs.Prelude.{ℕ, ◌≡◌, ◌≢◌, ◌+◌, ◌^◌, ◌-◌, min, Bool, true, false, List, length, Option, Some}
-use Rattle.std.specs.List.{list_any}
+use Rattle.std.specs.Prelude.{ℕ, ◌≡◌, ◌≢◌, ◌⊎◌, ◌+◌, ◌^◌, ◌-◌, min, Bool, true, false, List, length, slice_get, Option, Some, None, if◌then◌else◌}
 use Rattle.aprs_base.specs.declared.packets.Source.TheVariants as source
-use Rattle.filter_eval.specs.Passes.{passes_of}
+use Rattle.filter_lang.specs.Terms.{TermSeen}
+use Rattle.filter_eval.specs.Passes.{is_some_and, is_text}
+use Rattle.filter_eval.specs.declared.seen.Seen.{Seen}
+use Rattle.station_table.specs.Stations.{seen_in}
 use Rattle.link_queue.specs.Queues.{with_line}
 use Rattle.worker_match.specs.declared.links.Feed.TheVariants as feed
 use Rattle.worker_match.specs.Seen.{LinkSeen, OfferSeen, ItemSeen, Told, ToldAll, Ended, Became, Came}
-use Rattle.worker_match.specs.Walk.{after, walked, wants}
+use Rattle.worker_match.specs.Walk.{after, names, terms_of, walked, wants}
 
 -- ---- whom an item changes
 
@@ -69,3 +71,27 @@ FullAreOver =
 
 abbrev pub OthersAreNotTaken : Type 0
 OthersAreNotTaken = (link : LinkSeen) (offer : OfferSeen) → IsOpen link → wants offer link ≡ false → HasTakenNone false link (after link (Came offer))
+
+-- ---- what a packet tells of places, whether it was taken or not
+
+-- each friend that its term names by that call was seen there, and so was the link where the call is its own
+pub record HasSeen (call : List ℕ) (seen : Seen) (old new : LinkSeen) : Type 0 where
+  pub friends :
+      (i : ℕ) (term : TermSeen) (friend : Option Seen) → slice_get (terms_of old.filter) i ≡ Some term → slice_get old.friends i ≡ Some friend
+      → slice_get new.friends i ≡ Some (if names call term.what then Some seen else friend)
+  pub many : length new.friends ≡ length old.friends
+  pub mine : new.mine ≡ (if is_some_and (λ own. is_text own call) old.me then Some seen else old.mine)
+
+abbrev pub PositionsAreSeen : Type 0
+PositionsAreSeen =
+    (link : LinkSeen) (offer : OfferSeen) (seen : Seen) → IsOpen link → offer.dupe ≡ false → seen_in offer.packet ≡ Some seen
+    → HasSeen offer.packet.parts.source seen link (after link (Came offer))
+
+pub record HasSeenNothing (old new : LinkSeen) : Type 0 where
+  pub friends : new.friends ≡ old.friends
+  pub mine : new.mine ≡ old.mine
+
+-- a refused duplicate, and what is no position, tell of none
+abbrev pub OthersTellNothing : Type 0
+OthersTellNothing =
+    (link : LinkSeen) (offer : OfferSeen) → IsOpen link → (offer.dupe ≡ true) ⊎ (seen_in offer.packet ≡ None) → HasSeenNothing link (after link (Came offer))

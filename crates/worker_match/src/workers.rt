@@ -1,5 +1,5 @@
 //! The walk of many links over the same items, by several workers.
-ghost use Rattle.std.specs.Prelude.{◌≡◌, ◌+◌, ◌≤◌, All, OnOk, map};
+ghost use Rattle.std.specs.Prelude.{◌≡◌, ◌+◌, ◌*◌, ◌/◌, ◌≤◌, All, OnOk, map, max, min};
 ghost use Rattle.std.specs.Thread.{IsSync};
 ghost use Rattle.worker_match.specs.Items.{items_seen};
 ghost use Rattle.worker_match.specs.Walk.{IsOrdered, walked};
@@ -30,8 +30,7 @@ pub fn spread<R: Threads + Sync, G: Gate + Sync>(
 /// No more parts than workers, and none without a link where there are links.
 fn most_parts(links: usize, workers: u32) -> u32
     requires { 1 ≤ workers }
-    ensures least { 1 ≤ result }
-    ensures most { result ≤ workers }
+    ensures { result ≡ min workers (max links 1) }
 {
     match u32::try_from(links) {
         Ok(links) => workers.min(links.max(1)),
@@ -42,7 +41,8 @@ fn most_parts(links: usize, workers: u32) -> u32
 /// How many links the first `parts` of the workers' parts have.
 fn front_size(links: usize, parts: u32, workers: u32) -> usize
     requires { (1 ≤ workers) × (workers ≤ 64) × (parts ≤ workers) }
-    ensures { result ≤ links }
+    ensures exact { result ≡ links / workers * parts }
+    ensures within { result ≤ links }
 {
     links / workers as usize * parts as usize
 }

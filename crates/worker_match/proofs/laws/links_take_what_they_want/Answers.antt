@@ -1,9 +1,12 @@
-use Rattle.std.proofs.Common.{◌≡◌, ℕ, ◌&&◌, Bool, true, false, not, List, length, Option, Some, None, refl, ap, sym, subst, ◌∙◌, cond}
+use Rattle.std.proofs.Common.{◌≡◌, ℕ, ◌⊎◌, ◌&&◌, Bool, true, false, not, List, length, Option, Some, None, refl, ap, sym, slice_get, subst, ◌∙◌, cond, inl, inr}
+use Rattle.filter_lang.specs.Terms.{TermSeen}
 use Rattle.filter_eval.specs.declared.seen.Seen.{Seen}
+use Rattle.station_table.specs.Stations.{seen_in}
 use Rattle.link_queue.specs.Queues.{with_line}
 use Rattle.worker_match.specs.Seen.{LinkSeen, OfferSeen, Came}
-use Rattle.worker_match.specs.Walk.{after, is_open, met, one_more, told_by, wants, with_copy, with_packet, with_seen}
-use Rattle.worker_match.specs.WalkLaws.{HasTaken, HasTakenNone, IsOpen}
+use Rattle.worker_match.specs.Walk.{after, is_full, is_open, met, mine_seen, one_more, terms_of, told_by, wants, with_copy, with_packet, with_seen}
+use Rattle.worker_match.specs.WalkLaws.{HasSeen, HasSeenNothing, HasTaken, HasTakenNone, IsOpen}
+use Rattle.worker_match.proofs.FriendLemmas.{seen_each, seen_many}
 use Rattle.worker_match.proofs.PushLemmas.{full_is, not_full}
 use Rattle.worker_match.proofs.WalkLemmas.{closed_stays}
 use Rattle.worker_match.proofs.laws.links_take_what_they_want.Goals as goal
@@ -56,3 +59,52 @@ returns-clause-full c link offer open' wanted full =
     subst (HasTakenNone true link) (sym (opened link offer open'))
     (seen_none offer.packet.parts.source (told_by offer) true link (with_packet offer link)
     (subst (HasTakenNone true link) (sym (overfull link offer open' wanted full)) (record { queue = refl; put = refl; over = refl })))
+
+-- ---- places
+
+-- the same filter, login and places
+record IsLike (old new : LinkSeen) : Type 0 where
+  filter : new.filter ≡ old.filter
+  me : new.me ≡ old.me
+  friends : new.friends ≡ old.friends
+  mine : new.mine ≡ old.mine
+
+copy_either : (full : Bool) (line : List ℕ) (link : LinkSeen)
+    → IsLike link (cond full (record link { over = true }) (record link { queue = with_line line link.queue; put = one_more link.put }))
+copy_either true line link = record { filter = refl; me = refl; friends = refl; mine = refl }
+copy_either false line link = record { filter = refl; me = refl; friends = refl; mine = refl }
+
+copy_like : (line : List ℕ) (link : LinkSeen) → IsLike link (with_copy line link)
+unfolding with_copy
+copy_like line link = copy_either (is_full link.queue) line link
+
+packet_like : (wanted : Bool) (line : List ℕ) (link : LinkSeen) → IsLike link (cond wanted (with_copy line link) link)
+packet_like true line link = copy_like line link
+packet_like false line link = record { filter = refl; me = refl; friends = refl; mine = refl }
+
+seen_by : (call : List ℕ) (seen : Seen) (old new : LinkSeen) → IsLike old new → HasSeen call seen old (with_seen call (Some seen) new)
+seen_by call seen old new like = record {
+  friends = λ i term friend at_term at_friend.
+      seen_each call seen (terms_of new.filter) new.friends i term friend (ap (λ f. slice_get (terms_of f) i) like.filter ∙ at_term) (ap (λ fs. slice_get fs i) like.friends ∙ at_friend);
+  many = seen_many call seen (terms_of new.filter) new.friends ∙ ap length like.friends;
+  mine = ap (λ me. mine_seen call seen me new.mine) like.me ∙ ap (mine_seen call seen old.me) like.mine;
+}
+
+told_none : (dupe : Bool) (seen : Option Seen) → (dupe ≡ true) ⊎ (seen ≡ None) → cond dupe None seen ≡ None
+told_none true seen why = refl
+told_none false seen (inl is) = absurd (cc)
+told_none false seen (inr none) = none
+
+pub returns-clause-places : goal.returns-clause-places
+returns-clause-places c link offer seen open' dupe told =
+    let call = offer.packet.parts.source in
+    let is : told_by offer ≡ Some seen = ap (λ b. cond b None (seen_in offer.packet)) dupe ∙ told in
+    subst (HasSeen call seen link) (sym (opened link offer open' ∙ ap (λ s. with_seen call s (with_packet offer link)) is))
+    (seen_by call seen link (with_packet offer link) (packet_like (wants offer link) offer.packet.line link))
+
+pub returns-clause-nothing : goal.returns-clause-nothing
+returns-clause-nothing c link offer open' why =
+    let like = packet_like (wants offer link) offer.packet.line link in
+    let is : told_by offer ≡ None = told_none offer.dupe (seen_in offer.packet) why in
+    subst (HasSeenNothing link) (sym (opened link offer open' ∙ ap (λ s. with_seen offer.packet.parts.source s (with_packet offer link)) is))
+    (record { friends = like.friends; mine = like.mine })
