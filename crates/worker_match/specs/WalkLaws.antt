@@ -30,6 +30,31 @@ IsForOthers (Came offer) link = ⊥
 abbrev pub OthersStay : Type 0
 OthersStay = (link : LinkSeen) (item : ItemSeen) → IsForOthers item link → after link item ≡ link
 
+-- ---- what a line for it leaves of a link
+
+-- it lives and isn't over
+pub record IsOpen (link : LinkSeen) : Type 0 where
+  pub alive : link.alive ≡ true
+  pub under : link.over ≡ false
+
+-- a line for it alone, and for a link that was opened from the other side one for all clients
+abbrev pub IsTextFor : LinkSeen → List ℕ → ItemSeen → Type 0
+IsTextFor link line (Told number text) = (link.link ≡ number) × (text ≡ line)
+IsTextFor link line (ToldAll text) = (link.inbound ≡ true) × (text ≡ line)
+IsTextFor link line item = ⊥
+
+-- it is the next in the queue, and isn't counted
+abbrev pub TextsAreTaken : Type 0
+TextsAreTaken =
+    (link : LinkSeen) (line : List ℕ) (item : ItemSeen) → IsOpen link → IsTextFor link line item → length link.queue.lines ≢ link.queue.limit
+    → after link item ≡ record link { queue = with_line line link.queue }
+
+-- where the queue is full the link is over
+abbrev pub FullByText : Type 0
+FullByText =
+    (link : LinkSeen) (line : List ℕ) (item : ItemSeen) → IsOpen link → IsTextFor link line item → length link.queue.lines ≡ link.queue.limit
+    → after link item ≡ record link { over = true }
+
 -- ---- what a link wants
 
 -- nobody wants what came from its own link
@@ -41,10 +66,6 @@ abbrev pub DupesAreForDupeFeeds : Type 0
 DupesAreForDupeFeeds = (link : LinkSeen) (offer : OfferSeen) → wants offer link ≡ true → (offer.dupe ≡ true → link.feed ≡ feed.Dupe) × (link.feed ≡ feed.Dupe → offer.dupe ≡ true)
 
 -- ---- what a packet leaves of a link that lives and isn't over
-
-pub record IsOpen (link : LinkSeen) : Type 0 where
-  pub alive : link.alive ≡ true
-  pub under : link.over ≡ false
 
 -- a wanted packet's line is the next in the queue, and is counted
 pub record HasTaken (offer : OfferSeen) (old new : LinkSeen) : Type 0 where

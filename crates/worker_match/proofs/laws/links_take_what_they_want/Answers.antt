@@ -1,13 +1,13 @@
-use Rattle.std.proofs.Common.{◌≡◌, ℕ, ◌⊎◌, ◌&&◌, Bool, true, false, not, List, length, Option, Some, None, refl, ap, sym, slice_get, subst, ◌∙◌, cond, inl, inr}
+use Rattle.std.proofs.Common.{◌≡◌, ℕ, ◌⊎◌, ◌&&◌, Bool, true, false, not, List, length, Option, Some, None, refl, ap, sym, slice_get, subst, ◌∙◌, cond, inl, inr, eq-eqb}
 use Rattle.filter_lang.specs.Terms.{TermSeen}
 use Rattle.filter_eval.specs.declared.seen.Seen.{Seen}
 use Rattle.station_table.specs.Stations.{seen_in}
 use Rattle.link_queue.specs.Queues.{with_line}
-use Rattle.worker_match.specs.Seen.{LinkSeen, OfferSeen, Came}
-use Rattle.worker_match.specs.Walk.{after, is_full, is_open, met, mine_seen, one_more, terms_of, told_by, wants, with_copy, with_packet, with_seen}
-use Rattle.worker_match.specs.WalkLaws.{HasSeen, HasSeenNothing, HasTaken, HasTakenNone, IsOpen}
+use Rattle.worker_match.specs.Seen.{LinkSeen, OfferSeen, ItemSeen, Told, ToldAll, Ended, Became, Came}
+use Rattle.worker_match.specs.Walk.{after, is_full, is_open, met, mine_seen, one_more, terms_of, told_by, wants, with_copy, with_packet, with_seen, with_text}
+use Rattle.worker_match.specs.WalkLaws.{HasSeen, HasSeenNothing, HasTaken, HasTakenNone, IsOpen, IsTextFor}
 use Rattle.worker_match.proofs.FriendLemmas.{seen_each, seen_many}
-use Rattle.worker_match.proofs.PushLemmas.{full_is, not_full}
+use Rattle.worker_match.proofs.PushLemmas.{full_is, not_full, text_fits, text_over}
 use Rattle.worker_match.proofs.WalkLemmas.{closed_stays}
 use Rattle.worker_match.proofs.laws.links_take_what_they_want.Goals as goal
 
@@ -47,6 +47,30 @@ returns-clause-dead c link items dead = closed_stays items link (ap (λ a. a && 
 
 pub returns-clause-over : goal.returns-clause-over
 returns-clause-over c link items over = closed_stays items link (closed_by link.alive link.over over)
+
+-- ---- lines for a link
+
+module _ (link : LinkSeen) (line : List ℕ) (open' : IsOpen link) where
+  open_is : is_open link ≡ true
+  open_is = ap (λ a. a && not link.over) open'.alive ∙ ap not open'.under
+
+  -- an item that is a line for it
+  told : (item : ItemSeen) → IsTextFor link line item → after link item ≡ with_text line link
+  told (Told number text) is =
+      ap (λ b. cond b (met (Told number text) link) link) open_is ∙ ap (λ b. cond b (with_text text link) link) (eq-eqb link.link number is.0) ∙ ap (λ t. with_text t link) is.1
+  told (ToldAll text) is =
+      ap (λ b. cond b (met (ToldAll text) link) link) open_is ∙ ap (λ b. cond b (with_text text link) link) is.0 ∙ ap (λ t. with_text t link) is.1
+  told (Ended number) is = absurd is
+  told (Became session) is = absurd is
+  told (Came offer) is = absurd is
+
+pub returns-clause-texts : goal.returns-clause-texts
+returns-clause-texts c link line item open' is room = told link line open' item is ∙ sym (text_fits line link link (with_line line link.queue) refl refl room)
+
+pub returns-clause-full_by_text : goal.returns-clause-full_by_text
+returns-clause-full_by_text c link line item open' is full = told link line open' item is ∙ sym (text_over line link link link.queue refl refl full)
+
+-- ---- packets
 
 pub returns-clause-wanted : goal.returns-clause-wanted
 returns-clause-wanted c link offer open' wanted room =
