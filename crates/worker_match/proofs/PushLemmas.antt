@@ -1,5 +1,5 @@
 -- A line more in a link's queue, or the link over.
-use Rattle.std.proofs.Common.{◌≡◌, ℕ, ◌==◌, true, false, List, length, refl, ap, sym, ◌∙◌, eq-eqb}
+use Rattle.std.proofs.Common.{◌≡◌, ℕ, true, false, List, length, refl, eq-eqb}
 use Rattle.std.proofs.lemmas.Bool.{eqb-true, false_from_ne_true}
 use Rattle.link_queue.specs.Queues.{QueueSeen, with_line}
 use Rattle.worker_match.specs.Seen.{LinkSeen}

@@ -1,5 +1,5 @@
 -- A walk of a link over items, and of links one after another.
-use Rattle.std.proofs.Common.{◌≡◌, ℕ, zero, suc, ◌+◌, ◌≤◌, ◌<◌, Bool, true, false, List, [], ◌∷◌, ◌++◌, length, get_or, map, refl, sym, ap, ◌∙◌, subst, arith, cond, All, slice_set, take, drop, take_all, append-nil, add-one}
+use Rattle.std.proofs.Common.{◌≡◌, ℕ, zero, suc, ◌+◌, ◌≤◌, ◌<◌, true, false, List, [], ◌∷◌, ◌++◌, length, get_or, map, refl, sym, ap, ◌∙◌, subst, arith, cond, All, slice_set, take, drop, take_all, append-nil, add-one}
 use Rattle.std.proofs.lemmas.List.{drop_all, drop_more}
 use Rattle.worker_match.specs.declared.items.Item.{Item}
 use Rattle.worker_match.specs.Items.{item_seen, items_seen}

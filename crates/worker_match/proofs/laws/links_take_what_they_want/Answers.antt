@@ -1,5 +1,4 @@
 use Rattle.std.proofs.Common.{◌≡◌, ℕ, ◌⊎◌, ◌&&◌, Bool, true, false, not, List, length, Option, Some, None, refl, ap, sym, slice_get, subst, ◌∙◌, cond, inl, inr, eq-eqb}
-use Rattle.filter_lang.specs.Terms.{TermSeen}
 use Rattle.filter_eval.specs.declared.seen.Seen.{Seen}
 use Rattle.station_table.specs.Stations.{seen_in}
 use Rattle.link_queue.specs.Queues.{with_line}

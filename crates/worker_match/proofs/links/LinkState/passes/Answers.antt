@@ -1,4 +1,4 @@
-use Rattle.std.proofs.Common.{◌≡◌, List, ℕ, [], false, Bool, Option, None, refl, ap, sym, ◌∙◌, option_map}
+use Rattle.std.proofs.Common.{◌≡◌, List, [], false, Bool, Option, refl, ap, sym, ◌∙◌, option_map}
 use Rattle.std.specs.Arc.{arc_value}
 use Rattle.aprs_base.specs.PacketSeen.{PacketSeen}
 use Rattle.filter_lang.specs.Terms.{TermSeen}
