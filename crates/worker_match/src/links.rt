@@ -1,10 +1,10 @@
 //! A link, and what each item leaves of it.
-ghost use Rattle.std.specs.Prelude.{◌≡◌, IfOk, OnOk, Some, option_map};
+ghost use Rattle.std.specs.Prelude.{◌≡◌, if◌then◌else◌, IfOk, OnOk, Some, option_map};
 ghost use Rattle.std.specs.Arc.{arc_value};
 ghost use Rattle.std.specs.List.Sorted.{IsStrictlyIncreasing};
 ghost use Rattle.filter_eval.specs.Passes.{passes_of};
 ghost use Rattle.worker_match.specs.Items.{item_seen};
-ghost use Rattle.worker_match.specs.Seen.{Came};
+ghost use Rattle.worker_match.specs.Seen.{Became, Came, Ended};
 ghost use Rattle.worker_match.specs.Walk.{IsOrdered, feed_wants, is_chosen, is_open, met, terms_of, wants, with_copy, with_packet, with_seen, with_text};
 
 use crate::friends::{copy_friends, see_friends, see_mine};
@@ -181,22 +181,44 @@ impl LinkState {
         Ok(())
     }
 
-    /// Is from now on what its session says.
+    /// Takes a line, where it is for it.
+    fn take_text(&mut self, is_for: bool, line: &Arc<Line>) -> Result<(), Memory>
+        ensures { OnOk result (self.new ≡ (if is_for then with_text (arc_value line.now) self.old else self.old)) }
+    {
+        if is_for {
+            self.push(line.clone()?);
+        }
+        Ok(())
+    }
+
+    /// Ends, where that is its number.
+    fn end(&mut self, link: u32)
+        ensures { self.new ≡ met (Ended link) self.old }
+    {
+        if self.link == link {
+            self.alive = false;
+        }
+    }
+
+    /// Is from now on what a session says, where that is its number.
     fn begin(
         &mut self,
+        link: u32,
         feed: Feed,
         me: &Option<Call>,
         filter: &Option<Arc<FilterSet>>,
         friends: &Friends,
         mine: Option<Seen>,
     ) -> Result<(), Memory>
-        ensures { OnOk result (self.new ≡ record self.old { feed = feed; me = me.now; filter = option_map arc_value filter.now; friends = friends.now; mine = mine }) }
+        ensures { OnOk result (self.new ≡ met (Became (record { link = link; feed = feed; me = me.now; filter = option_map arc_value filter.now; friends = friends.now; mine = mine })) self.old) }
     {
-        self.filter = copy_filter(filter)?;
-        self.feed = feed;
-        self.me = copy_login(me);
-        self.friends = copy_friends(friends);
-        self.mine = mine;
+        if self.link == link {
+            self.filter = copy_filter(filter)?;
+            self.feed = feed;
+            self.me = copy_login(me);
+            self.friends = copy_friends(friends);
+            self.mine = mine;
+        }
         Ok(())
     }
 
@@ -206,22 +228,10 @@ impl LinkState {
         ensures { OnOk result (self.new ≡ met (item_seen item.now) self.old) }
     {
         match item {
-            Item::Text { link, line } => {
-                if self.link == *link {
-                    self.push(line.clone()?);
-                }
-                Ok(())
-            }
-            Item::All { line } => {
-                if self.inbound {
-                    self.push(line.clone()?);
-                }
-                Ok(())
-            }
+            Item::Text { link, line } => self.take_text(self.link == *link, line),
+            Item::All { line } => self.take_text(self.inbound, line),
             Item::End { link } => {
-                if self.link == *link {
-                    self.alive = false;
-                }
+                self.end(*link);
                 Ok(())
             }
             Item::Session {
@@ -231,12 +241,7 @@ impl LinkState {
                 filter,
                 friends,
                 mine,
-            } => {
-                if self.link == *link {
-                    return self.begin(*feed, me, filter, friends, *mine);
-                }
-                Ok(())
-            }
+            } => self.begin(*link, *feed, me, filter, friends, *mine),
             Item::Packet {
                 packet,
                 dupe,
