@@ -1,0 +1,4 @@
+pub mod FriendLemmas
+pub mod MemberLemmas
+pub mod PushLemmas
+pub mod WalkLemmas

@@ -1,0 +1,54 @@
+-- A walk of a link over items, and of links one after another.
+use Rattle.std.proofs.Common.{◌≡◌, ℕ, zero, suc, ◌+◌, ◌≤◌, ◌<◌, true, false, List, [], ◌∷◌, ◌++◌, length, get_or, map, refl, sym, ap, ◌∙◌, subst, arith, cond, All, slice_set, take, drop, take_all, append-nil, add-one}
+use Rattle.std.proofs.lemmas.List.{drop_all, drop_more}
+use Rattle.worker_match.specs.declared.items.Item.{Item}
+use Rattle.worker_match.specs.Items.{item_seen, items_seen}
+use Rattle.worker_match.specs.Seen.{LinkSeen, ItemSeen}
+use Rattle.worker_match.specs.Walk.{IsOrdered, after, is_open, met, walked}
+
+-- a link that doesn't live, or is over, stays
+pub closed_stays : (items : List ItemSeen) (link : LinkSeen) → is_open link ≡ false → walked items link ≡ link
+closed_stays [] link is = refl
+closed_stays (item ∷ items) link is = ap (walked items) (ap (λ b. cond b (met item link) link) is) ∙ closed_stays items link is
+
+-- one item more
+pub walk_more : (items : List Item) (i : ℕ) (x : Item) (link new total : LinkSeen) → i < length items → x ≡ get_or items i x → is_open link ≡ true
+    → new ≡ met (item_seen x) link → walked (items_seen (drop i items)) link ≡ total → walked (items_seen (drop (i + 1) items)) new ≡ total
+walk_more items i x link new total lt at open' is so_far =
+    ap (walked (items_seen (drop (i + 1) items)))
+    (is ∙ sym (ap (λ b. cond b (met (item_seen x) link) link) open') ∙ ap (λ y. after link (item_seen y)) at)
+    ∙ sym (ap (λ left. walked (items_seen left) link) (drop_more items i x lt))
+    ∙ so_far
+
+-- the end of the items
+pub walk_done : (items : List Item) (i : ℕ) (link total : LinkSeen) → length items ≤ i → walked (items_seen (drop i items)) link ≡ total → link ≡ total
+walk_done items i link total past so_far = sym (ap (λ left. walked (items_seen left) link) (drop_all i items past)) ∙ so_far
+
+pub ordered_at : (items : List Item) (i : ℕ) (x : Item) → All IsOrdered (items_seen items) → i < length items → x ≡ get_or items i x → IsOrdered (item_seen x)
+ordered_at [] i x all lt at = absurd (omega arith)
+ordered_at (y ∷ items) zero x all lt at = subst (λ z. IsOrdered (item_seen z)) (sym at) (all 0 (item_seen y) (omega arith))
+ordered_at (y ∷ items) (suc i) x all lt at = ordered_at items i x (λ k d within. all (suc k) d (omega arith)) (omega arith) at
+
+-- ---- a loop that changes each element
+
+module _ {X : Type 0} (f : X → X) where
+  mapped_at : (xs : List X) (i : ℕ) (new d : X) → i < length xs → new ≡ f (get_or xs i d)
+      → slice_set (map f (take i xs) ++ drop i xs) i new ≡ map f (take (suc i) xs) ++ drop (suc i) xs
+  mapped_at [] i new d lt is = absurd (omega arith)
+  mapped_at (x ∷ xs) zero new d lt is = ap (λ y. y ∷ xs) is
+  mapped_at (x ∷ xs) (suc i) new d lt is = ap (λ ys. f x ∷ ys) (mapped_at xs i new d (omega arith) is)
+
+  get_mapped : (xs : List X) (i : ℕ) (d : X) → i < length xs → get_or (map f (take i xs) ++ drop i xs) i d ≡ get_or xs i d
+  get_mapped [] i d lt = absurd (omega arith)
+  get_mapped (x ∷ xs) zero d lt = refl
+  get_mapped (x ∷ xs) (suc i) d lt = get_mapped xs i d (omega arith)
+
+  pub mapped_more : (xs ys : List X) (i : ℕ) (new d : X) → i < length xs → ys ≡ map f (take i xs) ++ drop i xs → new ≡ f (get_or ys i d)
+      → slice_set ys i new ≡ map f (take (i + 1) xs) ++ drop (i + 1) xs
+  mapped_more xs ys i new d lt so_far is =
+      rw add-one (ap (λ zs. slice_set zs i new) so_far
+      ∙ mapped_at xs i new d lt (is ∙ ap f (ap (λ zs. get_or zs i d) so_far ∙ get_mapped xs i d lt)))
+
+  pub mapped_all : (xs ys : List X) (i : ℕ) → length xs ≤ i → ys ≡ map f (take i xs) ++ drop i xs → ys ≡ map f xs
+  mapped_all xs ys i past is =
+      is ∙ ap (λ rest. map f (take i xs) ++ rest) (drop_all i xs past) ∙ append-nil (map f (take i xs)) ∙ ap (map f) (take_all i xs past)

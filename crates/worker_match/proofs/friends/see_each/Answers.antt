@@ -1,0 +1,15 @@
+use Rattle.std.proofs.Common.{refl, ◌∙◌, arith}
+use Rattle.worker_match.proofs.FriendLemmas.{seen_all, seen_more}
+use Rattle.worker_match.proofs.friends.see_each.Goals as goal
+
+pub loop-place-init : goal.loop-place-init
+loop-place-init c = refl
+
+pub loop-place-preserved : goal.loop-place-preserved
+loop-place-preserved c =
+    seen_more c.args.call.now c.args.seen c.args.terms.now c.args.friends.now c.loop-place.friends c.loop-place.place c.index-terms-place.result c.index-friends-place.result
+    c.friend_seen.result (omega arith) (omega arith) c.loop-place.invariant c.index-terms-place.is c.index-friends-place.is c.friend_seen.ensures
+
+pub returns-clause-seen : goal.returns-clause-seen
+returns-clause-seen c =
+    c.loop-place.invariant ∙ seen_all c.args.call.now c.args.seen c.args.terms.now c.args.friends.now c.loop-place.place (omega arith)

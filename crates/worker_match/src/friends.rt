@@ -1,0 +1,75 @@
+//! Where the calls that a filter names were last seen.
+ghost use Rattle.std.specs.Prelude.{◌≡◌, ◌||◌, IsTrue, length};
+ghost use Rattle.filter_eval.specs.Passes.{is_some_and, is_text};
+ghost use Rattle.worker_match.specs.Walk.{friend_seen, friends_seen, mine_seen, names};
+
+use aprs_base::Call;
+use arrayvec::ArrayVec;
+use filter_eval::{Friends, Seen};
+use filter_lang::{FilterSet, Term, What};
+
+/// Whether the term asks for the position of the call.
+fn names(call: &Call, what: &What) -> bool
+    ensures { result ≡ names call.now what.now }
+{
+    match what {
+        What::Friend { call: named, .. } => named == call,
+        What::ClassNear { call: named, .. } => named == call,
+        _ => false,
+    }
+}
+
+/// Where a term's call was last seen, once a station was seen.
+fn friend_seen(call: &Call, seen: Seen, term: &Term, friend: Option<Seen>) -> Option<Seen>
+    ensures { result ≡ friend_seen call.now seen term.now friend }
+{
+    if names(call, &term.what) {
+        Some(seen)
+    } else {
+        friend
+    }
+}
+
+fn see_each(call: &Call, seen: Seen, terms: &[Term], friends: &mut [Option<Seen>])
+    ensures seen { friends.new ≡ friends_seen call.now seen terms.now friends.old }
+    ensures many { length friends.new ≡ length friends.old }
+{
+    for place in 0..terms.len().min(friends.len()) {
+        friends[place] = friend_seen(call, seen, &terms[place], friends[place]);
+    }
+}
+
+/// A station was seen there: so was a friend, where a term of the filter names it.
+pub(crate) fn see_friends(call: &Call, seen: Seen, filter: &FilterSet, friends: &mut Friends)
+    ensures { friends.new ≡ friends_seen call.now seen filter.now friends.old }
+{
+    see_each(
+        call,
+        seen,
+        filter.terms.as_slice(),
+        friends.at.as_mut_slice(),
+    );
+}
+
+/// The same of a link's own login.
+pub(crate) fn see_mine(
+    call: &Call,
+    seen: Seen,
+    me: &Option<Call>,
+    mine: Option<Seen>,
+) -> Option<Seen>
+    ensures { result ≡ mine_seen call.now seen me.now mine }
+{
+    match me {
+        Some(own) if own == call => Some(seen),
+        _ => mine,
+    }
+}
+
+/// A copy, which takes no memory.
+pub(crate) fn copy_friends(friends: &Friends) -> Friends
+    ensures { result ≡ friends.now }
+{
+    let at = friends.at.clone().unwrap();
+    Friends { at }
+}

@@ -1,0 +1,18 @@
+//! Links and what comes to them: one walk of each link over a list of items, shared out among workers.
+#![tactic(auto)]
+
+mod friends;
+mod gate;
+mod items;
+mod laws;
+mod links;
+mod offers;
+#[cfg(test)]
+mod tests;
+mod workers;
+
+pub use gate::{Gate, OpenGate};
+pub use items::Item;
+pub use laws::links_take_what_they_want;
+pub use links::{Feed, LinkState};
+pub use workers::spread;

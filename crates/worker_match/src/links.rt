@@ -1,0 +1,282 @@
+//! A link, and what each item leaves of it.
+ghost use Rattle.std.specs.Prelude.{◌≡◌, if◌then◌else◌, IfOk, OnOk, Some, option_map};
+ghost use Rattle.std.specs.Arc.{arc_value};
+ghost use Rattle.std.specs.List.Sorted.{IsStrictlyIncreasing};
+ghost use Rattle.filter_eval.specs.Passes.{passes_of};
+ghost use Rattle.worker_match.specs.Items.{item_seen};
+ghost use Rattle.worker_match.specs.Seen.{Became, Came, Ended};
+ghost use Rattle.worker_match.specs.Walk.{IsOrdered, feed_wants, is_chosen, is_open, met, terms_of, wants, with_copy, with_packet, with_seen, with_text};
+
+use crate::friends::{copy_friends, see_friends, see_mine};
+use crate::items::Item;
+use crate::offers::Offer;
+use aprs_base::{Call, Line, Memory, copy_call};
+use filter_eval::{Friends, Seen, passes};
+use filter_lang::FilterSet;
+use link_queue::{Overfull, Queue};
+use std::marker::Model;
+use std::sync::Arc;
+
+/// What a link is fed.
+#[derive(Clone, Copy, PartialEq, Eq, Debug)]
+pub enum Feed {
+    Nothing,
+    /// All packets.
+    Full,
+    /// What was submitted to this server.
+    Up,
+    /// The duplicates that are refused.
+    Dupe,
+    /// What its filter passes, and what the message rule asks for.
+    Filter,
+}
+
+/// A link: what it is fed, and the lines that it has still to take.
+#[derive(Drop)]
+pub struct LinkState {
+    pub link: u32,
+    pub feed: Feed,
+    /// Whether it was opened from the other side.
+    pub inbound: bool,
+    pub alive: bool,
+    /// A line didn't fit into the queue: nothing changes the link any more.
+    pub over: bool,
+    /// Its login.
+    pub me: Option<Call>,
+    pub filter: Option<Arc<FilterSet>>,
+    /// Where the calls of the filter's terms were last seen, and its own login.
+    pub friends: Friends,
+    pub mine: Option<Seen>,
+    pub queue: Queue,
+    /// How many packet lines were put into the queue. It stays at its greatest value.
+    pub put: u64,
+}
+
+impl Model for LinkState {
+    ghost use Rattle.std.specs.Prelude.{option_map};
+    ghost use Rattle.std.specs.Arc.{arc_value};
+    ghost use Rattle.worker_match.specs.Seen.{LinkSeen};
+
+    ghost Value = { LinkSeen };
+
+    ghost view = { λ l. record {
+      link = l.link;
+      feed = l.feed;
+      inbound = l.inbound;
+      alive = l.alive;
+      over = l.over;
+      me = l.me;
+      filter = option_map arc_value l.filter;
+      friends = l.friends;
+      mine = l.mine;
+      queue = l.queue;
+      put = l.put;
+    } };
+}
+
+impl LinkState {
+    /// Whether items change it.
+    pub(crate) fn is_open(&self) -> bool
+        ensures { result ≡ is_open self.now }
+    {
+        self.alive && !self.over
+    }
+
+    /// Takes a line; where it doesn't fit the link is over.
+    fn push(&mut self, line: Arc<Line>)
+        ensures { self.new ≡ with_text (arc_value line) self.old }
+    {
+        if let Err(Overfull) = self.queue.push(line) {
+            self.over = true;
+        }
+    }
+
+    /// The same for a packet's line, which is counted where it fits.
+    fn push_copy(&mut self, line: Arc<Line>)
+        ensures { self.new ≡ with_copy (arc_value line) self.old }
+    {
+        match self.queue.push(line) {
+            Ok(()) => self.put = self.put.saturating_add(1),
+            Err(Overfull) => self.over = true,
+        }
+    }
+
+    /// Whether its filter passes the packet.
+    fn passes(&self, offer: &Offer) -> bool
+        ensures { result ≡ passes_of (terms_of self.now.filter) offer.now.packet self.now.friends self.now.mine offer.now.known offer.now.gate }
+    {
+        match &self.filter {
+            Some(filter) => passes(
+                filter,
+                offer.packet,
+                &self.friends,
+                self.mine,
+                offer.known,
+                offer.gate,
+            ),
+            None => false,
+        }
+    }
+
+    /// Whether its filter passes the packet, or the message rule asks for it there.
+    fn chooses(&self, offer: &Offer) -> bool
+        requires { IsStrictlyIncreasing offer.now.extra }
+        ensures { result ≡ is_chosen offer.now self.now }
+    {
+        self.passes(offer) || offer.is_owed(self.link)
+    }
+
+    fn feed_wants(&self, offer: &Offer) -> bool
+        requires { IsStrictlyIncreasing offer.now.extra }
+        ensures { result ≡ feed_wants self.now.feed offer.now self.now }
+    {
+        match self.feed {
+            Feed::Nothing => false,
+            Feed::Full => !offer.dupe,
+            Feed::Up => !offer.dupe && offer.submitted,
+            Feed::Dupe => offer.dupe,
+            Feed::Filter => !offer.dupe && self.chooses(offer),
+        }
+    }
+
+    fn wants(&self, offer: &Offer) -> bool
+        requires { IsStrictlyIncreasing offer.now.extra }
+        ensures { result ≡ wants offer.now self.now }
+    {
+        !offer.is_from(self.link) && self.feed_wants(offer)
+    }
+
+    /// Takes the packet's line, where it wants it.
+    fn take_copy(&mut self, offer: &Offer) -> Result<(), Memory>
+        requires { IsStrictlyIncreasing offer.now.extra }
+        ensures { OnOk result (self.new ≡ with_packet offer.now self.old) }
+    {
+        if self.wants(offer) {
+            let packet = offer.packet;
+            self.push_copy(packet.line.clone()?);
+        }
+        Ok(())
+    }
+
+    /// A station was seen there.
+    fn see(&mut self, call: &Call, seen: Seen)
+        ensures { self.new ≡ with_seen call.now (Some seen) self.old }
+    {
+        if let Some(filter) = &self.filter {
+            see_friends(call, seen, filter, &mut self.friends);
+        }
+        self.mine = see_mine(call, seen, &self.me, self.mine);
+    }
+
+    /// Meets a packet: takes its line, where it wants it, and sees where its source is.
+    fn meet_packet(&mut self, offer: &Offer) -> Result<(), Memory>
+        requires { IsStrictlyIncreasing offer.now.extra }
+        ensures { OnOk result (self.new ≡ met (Came offer.now) self.old) }
+    {
+        self.take_copy(offer)?;
+        if let Some(seen) = offer.told() {
+            let packet = offer.packet;
+            self.see(&packet.parts.source, seen);
+        }
+        Ok(())
+    }
+
+    /// Takes a line, where it is for it.
+    fn take_text(&mut self, is_for: bool, line: &Arc<Line>) -> Result<(), Memory>
+        ensures { OnOk result (self.new ≡ (if is_for then with_text (arc_value line.now) self.old else self.old)) }
+    {
+        if is_for {
+            self.push(line.clone()?);
+        }
+        Ok(())
+    }
+
+    /// Ends, where that is its number.
+    fn end(&mut self, link: u32)
+        ensures { self.new ≡ met (Ended link) self.old }
+    {
+        if self.link == link {
+            self.alive = false;
+        }
+    }
+
+    /// Is from now on what a session says, where that is its number.
+    fn begin(
+        &mut self,
+        link: u32,
+        feed: Feed,
+        me: &Option<Call>,
+        filter: &Option<Arc<FilterSet>>,
+        friends: &Friends,
+        mine: Option<Seen>,
+    ) -> Result<(), Memory>
+        ensures { OnOk result (self.new ≡ met (Became (record { link = link; feed = feed; me = me.now; filter = option_map arc_value filter.now; friends = friends.now; mine = mine })) self.old) }
+    {
+        if self.link == link {
+            self.filter = copy_filter(filter)?;
+            self.feed = feed;
+            self.me = copy_login(me);
+            self.friends = copy_friends(friends);
+            self.mine = mine;
+        }
+        Ok(())
+    }
+
+    /// What an item leaves of it, where it lives and isn't over.
+    pub(crate) fn meet(&mut self, item: &Item) -> Result<(), Memory>
+        requires { IsOrdered (item_seen item.now) }
+        ensures { OnOk result (self.new ≡ met (item_seen item.now) self.old) }
+    {
+        match item {
+            Item::Text { link, line } => self.take_text(self.link == *link, line),
+            Item::All { line } => self.take_text(self.inbound, line),
+            Item::End { link } => {
+                self.end(*link);
+                Ok(())
+            }
+            Item::Session {
+                link,
+                feed,
+                me,
+                filter,
+                friends,
+                mine,
+            } => self.begin(*link, *feed, me, filter, friends, *mine),
+            Item::Packet {
+                packet,
+                dupe,
+                submitted,
+                known,
+                gate,
+                extra,
+            } => self.meet_packet(&Offer {
+                packet,
+                dupe: *dupe,
+                submitted: *submitted,
+                known: *known,
+                gate: *gate,
+                extra: extra.as_slice(),
+            }),
+        }
+    }
+}
+
+/// The same filter, shared once more.
+fn copy_filter(filter: &Option<Arc<FilterSet>>) -> Result<Option<Arc<FilterSet>>, Memory>
+    ensures { IfOk result (λ copy. option_map arc_value copy ≡ option_map arc_value filter.now) }
+{
+    match filter {
+        Some(filter) => Ok(Some(filter.clone()?)),
+        None => Ok(None),
+    }
+}
+
+/// A copy of a login, which takes no memory.
+fn copy_login(me: &Option<Call>) -> Option<Call>
+    ensures { result ≡ me.now }
+{
+    match me {
+        Some(call) => Some(copy_call(call)),
+        None => None,
+    }
+}

@@ -1,0 +1,118 @@
+//! The walk of many links over the same items, by several workers.
+ghost use Rattle.std.specs.Prelude.{◌≡◌, ◌+◌, ◌*◌, ◌/◌, ◌≤◌, All, OnOk, map, max, min};
+ghost use Rattle.std.specs.Thread.{IsSync};
+ghost use Rattle.worker_match.specs.Items.{items_seen};
+ghost use Rattle.worker_match.specs.Walk.{IsOrdered, walked};
+
+use crate::gate::Gate;
+use crate::items::Item;
+use crate::links::LinkState;
+use aprs_base::Memory;
+use std::thread::{Threads, join_mut};
+
+/// Each link meets the items in their order. The links are split into at most `workers` parts, which are walked at the same
+/// time, each between its entering and its leaving the gate. After `Memory` nothing is said of the links.
+pub fn spread<R: Threads + Sync, G: Gate + Sync>(
+    rt: &R,
+    links: &mut [LinkState],
+    items: &[Item],
+    workers: u32,
+    gate: &G,
+) -> Result<(), Memory>
+    requires workers { (1 ≤ workers) × (workers ≤ 64) }
+    requires ordered { All IsOrdered (items_seen items.now) }
+    ensures { OnOk result (links.new ≡ map (walked (items_seen items.now)) links.old) }
+{
+    let parts = most_parts(links.len(), workers);
+    split(rt, links, items, parts, 0, gate)
+}
+
+/// No more parts than workers, and none without a link where there are links.
+fn most_parts(links: usize, workers: u32) -> u32
+    requires { 1 ≤ workers }
+    ensures { result ≡ min workers (max links 1) }
+{
+    match u32::try_from(links) {
+        Ok(links) => workers.min(links.max(1)),
+        Err(_) => workers,
+    }
+}
+
+/// How many links the first `parts` of the workers' parts have.
+fn front_size(links: usize, parts: u32, workers: u32) -> usize
+    requires { (1 ≤ workers) × (workers ≤ 64) × (parts ≤ workers) }
+    ensures exact { result ≡ links / workers * parts }
+    ensures within { result ≤ links }
+{
+    links / workers as usize * parts as usize
+}
+
+/// The parts from `part` on, one for each worker.
+fn split<R: Threads + Sync, G: Gate + Sync>(
+    rt: &R,
+    links: &mut [LinkState],
+    items: &[Item],
+    workers: u32,
+    part: u32,
+    gate: &G,
+) -> Result<(), Memory>
+    requires workers { (1 ≤ workers) × (part + workers ≤ 64) }
+    requires ordered { All IsOrdered (items_seen items.now) }
+    ensures { OnOk result (links.new ≡ map (walked (items_seen items.now)) links.old) }
+{
+    if workers == 1 {
+        return pass(links, items, part, gate);
+    }
+    let less = workers / 2;
+    let more = workers - less;
+    let size = front_size(links.len(), less, workers);
+    let (front, back) = links.split_at_mut(size);
+    let (first, second) = join_mut(
+        rt,
+        &mut || -> Result<(), Memory>
+            requires { IsSync R.row × IsSync G.row × (1 ≤ less) × (part + less ≤ 64) × All IsOrdered (items_seen items.now) }
+            ensures { OnOk result (front.exit.now ≡ map (walked (items_seen items.entry.now)) front.entry.now) }
+        { split(rt, front, items, less, part, gate) },
+        &mut || -> Result<(), Memory>
+            requires { IsSync R.row × IsSync G.row × (1 ≤ more) × (part + less + more ≤ 64) × All IsOrdered (items_seen items.now) }
+            ensures { OnOk result (back.exit.now ≡ map (walked (items_seen items.entry.now)) back.entry.now) }
+        { split(rt, back, items, more, part + less, gate) },
+    );
+    first?;
+    second
+}
+
+/// One part, through the gate.
+fn pass<G: Gate>(links: &mut [LinkState], items: &[Item], part: u32, gate: &G) -> Result<(), Memory>
+    requires { All IsOrdered (items_seen items.now) }
+    ensures { OnOk result (links.new ≡ map (walked (items_seen items.now)) links.old) }
+{
+    gate.enter(part);
+    let done = walk_part(links, items);
+    gate.leave(part);
+    done
+}
+
+fn walk_part(links: &mut [LinkState], items: &[Item]) -> Result<(), Memory>
+    requires { All IsOrdered (items_seen items.now) }
+    ensures { OnOk result (links.new ≡ map (walked (items_seen items.now)) links.old) }
+{
+    for link in links.iter_mut() {
+        walk_link(link, items)?;
+    }
+    Ok(())
+}
+
+/// One link meets the items, as long as it lives and isn't over.
+fn walk_link(link: &mut LinkState, items: &[Item]) -> Result<(), Memory>
+    requires { All IsOrdered (items_seen items.now) }
+    ensures { OnOk result (link.new ≡ walked (items_seen items.now) link.old) }
+{
+    for item in items {
+        if !link.is_open() {
+            return Ok(());
+        }
+        link.meet(item)?;
+    }
+    Ok(())
+}
