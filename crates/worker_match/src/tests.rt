@@ -15,7 +15,7 @@ use std::process::Abort;
 use std::sync::Arc;
 use std::sync::atomic::{AtomicU64, Ordering};
 use std::test::Fail;
-use std::thread::Threads;
+use std::thread::{Threads, yield_now};
 
 /// The call that the one term may name was seen nowhere.
 fn nowhere(terms: usize) -> Friends {
@@ -301,6 +301,7 @@ impl Gate for Meeting {
                 self.met.fetch_add(1, Ordering::SeqCst);
                 return;
             }
+            yield_now();
         }
     }
 
