@@ -1,4 +1,5 @@
 pub mod Bytes
+pub mod CameSeen
 pub mod Cuts
 pub mod Held
 pub mod Journals

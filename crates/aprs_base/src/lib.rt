@@ -4,6 +4,7 @@
 mod cutting;
 mod events;
 mod files;
+mod gates;
 mod journals;
 mod packets;
 mod sinks;
@@ -12,8 +13,9 @@ mod totals;
 mod wire;
 
 pub use cutting::{Cut, Cutter};
-pub use events::{Event, Happening, Sent, WireError, copy_event};
+pub use events::{Came, Event, Happening, Sent, WireError, copy_event};
 pub use files::{FileError, Files, MemFile, MemFiles};
+pub use gates::{Gate, OpenGate};
 pub use journals::{CountJournal, Journal, JournalLine, Kind, MemJournal, Slot};
 pub use packets::{
     Body, ListenSpec, Packet, Parts, Place, PortKind, Shared, Source, UplinkSpec, Via, copy_via,

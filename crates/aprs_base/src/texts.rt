@@ -285,6 +285,16 @@ impl Chunk {
     }
 }
 
+/// A copy of a chunk, which takes no memory.
+pub(crate) fn copy_chunk(chunk: &Chunk) -> Chunk
+    ensures { result ≡ chunk.now }
+{
+    match ArrayVec::try_from(chunk.text.as_slice()) {
+        Ok(text) => Chunk { text },
+        Err(_) => unreachable!(),
+    }
+}
+
 /// A text of any length.
 #[derive(Debug, Drop)]
 pub struct Text {

@@ -1,9 +1,9 @@
 //! The network: listeners, links that come and go, and datagrams.
-ghost use Rattle.std.specs.Prelude.{◌≡◌, ◌↔◌, ℕ, ◌+◌, ◌≤◌, ◌∷◌, Some, None, IsErr, IsOk, OnOk, OnErr, IsErrOf, IfOk, IsTrue, true, false, drop};
+ghost use Rattle.std.specs.Prelude.{◌≡◌, ◌↔◌, ℕ, ◌+◌, ◌≤◌, ◌∷◌, ◌++◌, [], Some, None, IsErr, IsOk, OnOk, OnErr, IsErrOf, IfOk, IsTrue, true, false, drop};
 ghost use Rattle.aprs_base.specs.WireScript.{after_act, after_listen, after_next, after_send, next_event, outcome_of, script_of, shown_by};
 ghost use Rattle.aprs_base.specs.Outside.{AfterAct, AfterListen, AfterNext, AfterSend, Told, WireShown, are_numbered, new_link, with_cast, with_closed, with_dial};
 
-use crate::events::{Event, Happening, Sent, WireError, copy_event};
+use crate::events::{Came, Event, Happening, Sent, WireError, copy_event};
 use crate::packets::{ListenSpec, UplinkSpec, copy_uplink};
 use crate::texts::{Addr, Memory, Text};
 use std::alloc::Global;
@@ -157,6 +157,20 @@ impl MemWire {
             gones: 0,
         })
     }
+
+    /// Adds an event, which comes after those that are left. The room of those that came is used again.
+    pub fn give(&mut self, event: Event) -> Result<(), Memory>
+        requires { IsTrue (are_numbered self.old.links (self.old.left ++ event ∷ [])) }
+        ensures ok { OnOk result (self.new ≡ record self.old { left = self.old.left ++ event ∷ [] }) }
+        ensures err { OnErr result (self.new ≡ self.old) }
+    {
+        if self.at >= self.events.len() {
+            self.events.clear();
+            self.at = 0;
+        }
+        self.events.push(event)?;
+        Ok(())
+    }
 }
 
 impl Wire for MemWire {
@@ -195,12 +209,14 @@ impl Wire for MemWire {
             return Err(WireError::Failed);
         }
         let Some(event) = self.events.get(self.at) else {
-            self.done.push(Happening::Event(Event::Stop))?;
+            let came = Came::of(self.alloc, &Event::Stop)?;
+            self.done.push(Happening::Event(came))?;
             self.nexts = calls.saturating_add(1);
             return Ok(Event::Stop);
         };
+        let came = Came::of(self.alloc, event)?;
         let event = copy_event(event);
-        self.done.push(Happening::Event(copy_event(&event)))?;
+        self.done.push(Happening::Event(came))?;
         self.nexts = calls.saturating_add(1);
         self.at += 1;
         if let Some(link) = new_link_of(&event) {

@@ -1,7 +1,7 @@
 //! A run of the program over files, a wire and a sink in memory, and what it left.
 use aprs_base::{
-    Addr, Chunk, Event, Happening, ListenSpec, MemFile, MemFiles, MemSink, MemWire, Sent, Slot,
-    Take, Text, UplinkSpec,
+    Addr, Came, Chunk, Event, Happening, ListenSpec, MemFile, MemFiles, MemSink, MemWire, Sent,
+    Slot, Take, Text, UplinkSpec,
 };
 use aprsc_daemon::aprsc;
 use std::alloc::Global;
@@ -78,6 +78,11 @@ impl Left {
         }
         Ok(all)
     }
+}
+
+/// An event that came.
+pub(crate) fn came(alloc: Global, event: &Event) -> Result<Happening, Fail> {
+    Ok(Happening::Event(Came::of(alloc, event)?))
 }
 
 pub(crate) fn opened(link: u32) -> Event {

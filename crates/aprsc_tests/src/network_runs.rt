@@ -1,7 +1,7 @@
 //! Runs with uplinks, peers, datagrams and refused duplicates.
 use crate::memory_run::{
     BANNER, FIRST_LOGIN, FIRST_REPLY, Left, Outside, PACKET, SECOND_LOGIN, SECOND_REPLY, SENT_ON,
-    joined, opened, opened_on, run_over, said,
+    came, joined, opened, opened_on, run_over, said,
 };
 use aprs_base::{Addr, Chunk, Event, Happening, PortKind, Sent, Text};
 use std::alloc::Global;
@@ -154,20 +154,20 @@ fn dials_its_uplinks_in_turn(rt: HostRuntime) -> Result<(), Fail> {
         Outside::well(alloc),
     )?;
     let want = [
-        Happening::Event(Event::Tick(1000)),
+        came(alloc, &Event::Tick(1000))?,
         Happening::Dialled(0),
-        Happening::Event(Event::Unjoined(0)),
-        Happening::Event(Event::Tick(1009)),
-        Happening::Event(Event::Tick(1010)),
+        came(alloc, &Event::Unjoined(0))?,
+        came(alloc, &Event::Tick(1009))?,
+        came(alloc, &Event::Tick(1010))?,
         Happening::Dialled(1),
-        Happening::Event(joined_up(1, 1)),
-        Happening::Event(Event::Tick(1010)),
+        came(alloc, &joined_up(1, 1))?,
+        came(alloc, &Event::Tick(1010))?,
         Happening::Sent(1, Text::copied(alloc, UPLINK_LOGIN)?, Sent::Took(38)),
-        Happening::Event(Event::Tick(1025)),
+        came(alloc, &Event::Tick(1025))?,
         Happening::Closed(1),
-        Happening::Event(Event::Tick(1035)),
+        came(alloc, &Event::Tick(1035))?,
         Happening::Dialled(0),
-        Happening::Event(Event::Stop),
+        came(alloc, &Event::Stop)?,
     ];
     assert!(rt; left.done.as_slice().get(5..) == Some(want.as_slice()));
     let hosts: [(&[u8], u16); 3] = [

@@ -1,7 +1,7 @@
 //! Runs of the program over files, a wire and a sink in memory.
 use crate::memory_run::{
     BANNER, CONF, FIRST_LOGIN, FIRST_REPLY, Outside, PACKET, SECOND_LOGIN, SECOND_REPLY, SENT_ON,
-    joined, opened, opened_on, run_over, said,
+    came, joined, opened, opened_on, run_over, said,
 };
 use aprs_base::{Event, Happening, Sent, Take, Text, copy_event};
 use std::alloc::Global;
@@ -177,7 +177,7 @@ fn stops_with_no_link(rt: HostRuntime) -> Result<(), Fail> {
     assert!(rt; left.status == 0);
     assert!(rt; left.text.is_empty());
     assert!(rt;
-        left.done.as_slice() == [Happening::Listen(0), Happening::Event(Event::Stop)].as_slice()
+        left.done.as_slice() == [Happening::Listen(0), came(alloc, &Event::Stop)?].as_slice()
     );
     Ok(())
 }
@@ -191,8 +191,8 @@ fn greets_a_link_and_closes_it(rt: HostRuntime) -> Result<(), Fail> {
     let left = run_over(&rt, alloc, CONF, events, Outside::well(alloc))?;
     let want = [
         Happening::Listen(0),
-        Happening::Event(opened(1)),
-        Happening::Event(Event::Stop),
+        came(alloc, &opened(1))?,
+        came(alloc, &Event::Stop)?,
         Happening::Sent(1, Text::copied(alloc, BANNER)?, Sent::Took(13)),
         Happening::Closed(1),
     ];
@@ -209,13 +209,13 @@ fn waits_for_room(rt: HostRuntime) -> Result<(), Fail> {
     let left = run_over(&rt, alloc, CONF, one_link(alloc)?, outside)?;
     let want = [
         Happening::Listen(0),
-        Happening::Event(Event::Tick(1000)),
-        Happening::Event(opened(1)),
-        Happening::Event(Event::Tick(1000)),
+        came(alloc, &Event::Tick(1000))?,
+        came(alloc, &opened(1))?,
+        came(alloc, &Event::Tick(1000))?,
         Happening::Sent(1, Text::copied(alloc, BANNER)?, Sent::Took(5)),
-        Happening::Event(Event::Tick(1001)),
-        Happening::Event(Event::Room(1)),
-        Happening::Event(Event::Stop),
+        came(alloc, &Event::Tick(1001))?,
+        came(alloc, &Event::Room(1))?,
+        came(alloc, &Event::Stop)?,
         Happening::Sent(1, Text::copied(alloc, b"sc 1.0\r\n")?, Sent::Took(8)),
         Happening::Closed(1),
     ];
@@ -232,13 +232,13 @@ fn closes_no_link_that_is_gone(rt: HostRuntime) -> Result<(), Fail> {
     let left = run_over(&rt, alloc, CONF, one_link(alloc)?, outside)?;
     let want = [
         Happening::Listen(0),
-        Happening::Event(Event::Tick(1000)),
-        Happening::Event(opened(1)),
-        Happening::Event(Event::Tick(1000)),
+        came(alloc, &Event::Tick(1000))?,
+        came(alloc, &opened(1))?,
+        came(alloc, &Event::Tick(1000))?,
         Happening::Sent(1, Text::copied(alloc, BANNER)?, Sent::Gone),
-        Happening::Event(Event::Tick(1001)),
-        Happening::Event(Event::Room(1)),
-        Happening::Event(Event::Stop),
+        came(alloc, &Event::Tick(1001))?,
+        came(alloc, &Event::Room(1))?,
+        came(alloc, &Event::Stop)?,
     ];
     assert!(rt; left.status == 0);
     assert!(rt; left.done.as_slice() == want.as_slice());
@@ -379,7 +379,7 @@ fn opens_the_listeners_that_are_not_idle(rt: HostRuntime) -> Result<(), Fail> {
     let want = [
         Happening::Listen(0),
         Happening::Listen(1),
-        Happening::Event(Event::Stop),
+        came(alloc, &Event::Stop)?,
     ];
     assert!(rt; left.status == 0);
     assert!(rt; left.done.as_slice() == want.as_slice());

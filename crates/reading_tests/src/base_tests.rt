@@ -1,8 +1,8 @@
 //! Calls, lines and their cutting from the public description of APRS-IS, and the outside in memory by scripts written here.
 use aprs_base::{
-    Addr, Call, Chunk, Cut, Cutter, Event, FileError, Files, Happening, Line, ListenSpec, MemFile,
-    MemFiles, MemSink, MemWire, Memory, PortKind, Sent, Sink, SinkError, Take, Text, UplinkSpec,
-    Wire, WireError,
+    Addr, Call, Came, Chunk, Cut, Cutter, Event, FileError, Files, Happening, Line, ListenSpec,
+    MemFile, MemFiles, MemSink, MemWire, Memory, PortKind, Sent, Sink, SinkError, Take, Text,
+    UplinkSpec, Wire, WireError,
 };
 use arrayvec::ArrayVec;
 use std::alloc::Global;
@@ -146,6 +146,11 @@ fn chunk_of<R: Abort>(rt: &R, text: &[u8]) -> Chunk {
     Chunk::new(text).expect(rt, "a chunk")
 }
 
+/// An event that came.
+fn came(alloc: Global, event: &Event) -> Result<Happening, Fail> {
+    Ok(Happening::Event(Came::of(alloc, event)?))
+}
+
 #[test]
 fn gives_events_then_stop(rt: HostRuntime) -> Result<(), Fail> {
     let alloc = rt.alloc();
@@ -164,11 +169,40 @@ fn gives_events_then_stop(rt: HostRuntime) -> Result<(), Fail> {
     assert!(rt; wire.next() == Ok(Event::Stop));
     assert!(rt; wire.next() == Ok(Event::Stop));
     let done = [
-        Happening::Event(Event::Tick(1000)),
-        Happening::Event(opened),
-        Happening::Event(bytes),
-        Happening::Event(Event::Stop),
-        Happening::Event(Event::Stop),
+        came(alloc, &Event::Tick(1000))?,
+        came(alloc, &opened)?,
+        came(alloc, &bytes)?,
+        came(alloc, &Event::Stop)?,
+        came(alloc, &Event::Stop)?,
+    ];
+    assert!(rt; wire.done.as_slice() == done.as_slice());
+    Ok(())
+}
+
+#[test]
+fn gives_what_it_was_given_later(rt: HostRuntime) -> Result<(), Fail> {
+    let alloc = rt.alloc();
+    let events = vec![in alloc; Event::Tick(1000)]?;
+    let mut wire = MemWire::new(alloc, events, vec![in alloc]?, None, None)?;
+    wire.give(Event::Ended(7))?;
+    assert!(rt; wire.next() == Ok(Event::Tick(1000)));
+    assert!(rt; wire.next() == Ok(Event::Ended(7)));
+    let submitted = Event::Datagram {
+        listener: 3,
+        from: HERE,
+        bytes: chunk_of(&rt, b"x"),
+    };
+    wire.give(submitted.clone()?)?;
+    wire.give(Event::Room(7))?;
+    assert!(rt; wire.next() == Ok(submitted.clone()?));
+    assert!(rt; wire.next() == Ok(Event::Room(7)));
+    assert!(rt; wire.next() == Ok(Event::Stop));
+    let done = [
+        came(alloc, &Event::Tick(1000))?,
+        came(alloc, &Event::Ended(7))?,
+        came(alloc, &submitted)?,
+        came(alloc, &Event::Room(7))?,
+        came(alloc, &Event::Stop)?,
     ];
     assert!(rt; wire.done.as_slice() == done.as_slice());
     Ok(())

@@ -2,7 +2,6 @@
 #![tactic(auto)]
 
 mod friends;
-mod gate;
 mod items;
 mod laws;
 mod links;
@@ -11,7 +10,6 @@ mod offers;
 mod tests;
 mod workers;
 
-pub use gate::{Gate, OpenGate};
 pub use items::Item;
 pub use laws::links_take_what_they_want;
 pub use links::{Feed, LinkState};

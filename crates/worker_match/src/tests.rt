@@ -4,8 +4,8 @@ ghost use Rattle.std.specs.List.Sorted.{IsStrictlyIncreasing};
 ghost use Rattle.worker_match.specs.Items.{item_seen};
 ghost use Rattle.worker_match.specs.Walk.{IsOrdered};
 
-use crate::{Feed, Gate, Item, LinkState, OpenGate, spread};
-use aprs_base::{Body, Call, Line, Memory, Packet, Parts, Place, Source};
+use crate::{Feed, Item, LinkState, spread};
+use aprs_base::{Body, Call, Gate, Line, Memory, OpenGate, Packet, Parts, Place, Source};
 use arrayvec::ArrayVec;
 use filter_eval::Friends;
 use link_queue::Queue;

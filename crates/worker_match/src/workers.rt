@@ -4,10 +4,9 @@ ghost use Rattle.std.specs.Thread.{IsSync};
 ghost use Rattle.worker_match.specs.Items.{items_seen};
 ghost use Rattle.worker_match.specs.Walk.{IsOrdered, walked};
 
-use crate::gate::Gate;
 use crate::items::Item;
 use crate::links::LinkState;
-use aprs_base::Memory;
+use aprs_base::{Gate, Memory};
 use std::thread::{Threads, join_mut};
 
 /// Each link meets the items in their order. The links are split into at most `workers` parts, which are walked at the same
