@@ -6,4 +6,4 @@ mod logins;
 mod plan;
 mod writing;
 
-pub use plan::{Plan, events};
+pub use plan::{Events, Plan, copy_events};

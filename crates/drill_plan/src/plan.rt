@@ -1,14 +1,13 @@
 //! The events of a drill, in order.
-ghost use Rattle.std.specs.Prelude.{◌≡◌, ◌++◌, ◌≤◌, map, IfOk, IsTrue};
-ghost use Rattle.std.specs.Int.{div_ceil};
-ghost use Rattle.std.specs.List.{flat_map, range_with_len};
+ghost use Rattle.std.specs.Prelude.{◌≡◌, ◌↔◌, ◌-◌, ◌≤◌, [], IsTrue};
 ghost use Rattle.aprs_base.specs.Outside.{are_numbered};
-ghost use Rattle.drill_plan.specs.Drill.{drill_events, hundred_of, line_of, login_of, opening_of, state_after, states};
+ghost use Rattle.drill_plan.specs.Drill.{drill_events, opening_of};
+ghost use Rattle.drill_plan.specs.Left.{tick_after};
 
 use crate::lines::{line_text, next_state};
 use crate::logins::login_text;
-use aprs_base::{Addr, Event, Memory};
-use std::alloc::Global;
+use aprs_base::{Addr, Event};
+use std::marker::Model;
 
 /// The moment at which a drill begins.
 const BEGIN: u64 = 1_000_000;
@@ -27,6 +26,37 @@ pub struct Plan {
     pub links: u32,
 }
 
+/// The events of a drill that are left: a tick, the openings and the logins of the links, the lines with a tick after each
+/// hundred and after the last, and the stop.
+#[derive(Clone, Drop)]
+pub struct Events {
+    plan: Plan,
+    /// The moment of the tick that is due.
+    tick: Option<u64>,
+    /// How many links came.
+    opened: u32,
+    /// How many links logged in.
+    logged_in: u32,
+    /// How many lines came.
+    sent: u32,
+    /// The state of the last of them.
+    state: u32,
+    stopped: bool,
+}
+
+impl Model for Events {
+    ghost use Rattle.std.specs.Prelude.{◌≤◌, List};
+    ghost use Rattle.aprs_base.specs.declared.events.Event.{Event};
+
+    ghost Value = { List Event };
+
+    ghost use Rattle.drill_plan.specs.Left.{events_left};
+
+    ghost view = { events_left };
+
+    ghost invariant = { λ e. e.plan.links ≤ 1000 };
+}
+
 /// The coming of a link: the first to the full feed, the others to the igate port.
 fn opening(link: u32) -> Event
     ensures { result ≡ opening_of link }
@@ -41,64 +71,84 @@ fn opening(link: u32) -> Event
     }
 }
 
-fn append_openings(events: &mut Vec<Event>, links: u32) -> Result<(), Memory>
-    requires { links ≤ 1000 }
-    ensures { IfOk result (λ _. events.new.items ≡ events.old.items ++ map opening_of (range_with_len 1 links)) }
+/// The moment of the tick that comes after so many lines of all, where one does.
+fn tick_after(sent: u32, lines: u32) -> Option<u64>
+    requires { sent ≤ lines }
+    ensures { result ≡ tick_after sent (lines - sent) }
 {
-    for link in 1..=links {
-        events.push(opening(link))?;
+    if sent == lines || sent % LINES_A_SECOND == 0 {
+        Some(BEGIN + u64::from(sent.div_ceil(LINES_A_SECOND)))
+    } else {
+        None
     }
-    Ok(())
 }
 
-fn append_logins(events: &mut Vec<Event>, links: u32) -> Result<(), Memory>
-    requires { links ≤ 1000 }
-    ensures { IfOk result (λ _. events.new.items ≡ events.old.items ++ map login_of (range_with_len 1 links)) }
-{
-    for link in 1..=links {
-        events.push(Event::Bytes(link, login_text(link)))?;
+impl Events {
+    /// All events of a drill, whose links are 1,000 at most.
+    pub fn new(plan: Plan) -> Events
+        requires { plan.links ≤ 1000 }
+        ensures exact { result ≡ drill_events plan }
+        ensures numbered { IsTrue (are_numbered 0 result) }
+    {
+        Events {
+            plan,
+            tick: Some(BEGIN),
+            opened: 0,
+            logged_in: 0,
+            sent: 0,
+            state: plan.seed,
+            stopped: false,
+        }
     }
-    Ok(())
+
+    /// Whether no event is left.
+    pub fn is_over(&self) -> bool
+        ensures { IsTrue result ↔ (self.now ≡ []) }
+    {
+        copy_events(self).next().is_none()
+    }
 }
 
-/// Appends the lines of the next `count` states, and gives the last of these.
-fn append_lines(events: &mut Vec<Event>, state: u32, count: u32) -> Result<u32, Memory>
-    ensures events { IfOk result (λ _. events.new.items ≡ events.old.items ++ map line_of (states count state)) }
-    ensures last { IfOk result (λ last. last ≡ state_after count state) }
-{
-    let mut last = state;
-    for _ in 0..count {
-        last = next_state(last);
-        events.push(Event::Bytes(1, line_text(last)))?;
+impl Iterator for Events {
+    ghost use Rattle.std.specs.Iterator.{YieldsFirst, item_count};
+
+    type Item = Event;
+
+    ghost next_gives = { YieldsFirst (λ left. left) };
+
+    ghost remaining = { item_count (λ left. left) };
+
+    #[tactic(auto, using(crate::proofs::LeftLemmas::link_first))]
+    fn next(&mut self) -> Option<Event> {
+        if let Some(moment) = self.tick {
+            self.tick = None;
+            return Some(Event::Tick(moment));
+        }
+        if self.opened < self.plan.links {
+            self.opened += 1;
+            return Some(opening(self.opened));
+        }
+        if self.logged_in < self.plan.links {
+            self.logged_in += 1;
+            return Some(Event::Bytes(self.logged_in, login_text(self.logged_in)));
+        }
+        if self.sent < self.plan.lines {
+            self.sent += 1;
+            self.state = next_state(self.state);
+            self.tick = tick_after(self.sent, self.plan.lines);
+            return Some(Event::Bytes(1, line_text(self.state)));
+        }
+        if self.stopped {
+            return None;
+        }
+        self.stopped = true;
+        Some(Event::Stop)
     }
-    Ok(last)
 }
 
-/// Appends all lines, with a tick after each hundred and at the end.
-fn append_traffic(events: &mut Vec<Event>, seed: u32, lines: u32) -> Result<(), Memory>
-    ensures { IfOk result (λ _. events.new.items ≡ events.old.items ++ flat_map (hundred_of (states lines seed)) (range_with_len 0 (div_ceil lines 100))) }
+/// A copy of the events that are left, which takes no memory.
+pub fn copy_events(events: &Events) -> Events
+    ensures { result ≡ events.now }
 {
-    let mut state = seed;
-    for second in 0..lines.div_ceil(LINES_A_SECOND) {
-        let left = lines - second * LINES_A_SECOND;
-        state = append_lines(events, state, left.min(LINES_A_SECOND))?;
-        events.push(Event::Tick(BEGIN + 1 + u64::from(second)))?;
-    }
-    Ok(())
-}
-
-/// The events of a drill: a tick, the openings and the logins of the links, the lines with a tick after each hundred and
-/// after the last, and the stop. The links are 1,000 at most.
-pub fn events(alloc: Global, plan: Plan) -> Result<Vec<Event>, Memory>
-    requires { plan.links ≤ 1000 }
-    ensures exact { IfOk result (λ events. events.items ≡ drill_events plan) }
-    ensures numbered { IfOk result (λ events. IsTrue (are_numbered 0 events.items)) }
-{
-    let mut events = Vec::new(alloc);
-    events.push(Event::Tick(BEGIN))?;
-    append_openings(&mut events, plan.links)?;
-    append_logins(&mut events, plan.links)?;
-    append_traffic(&mut events, plan.seed, plan.lines)?;
-    events.push(Event::Stop)?;
-    Ok(events)
+    events.clone().unwrap()
 }

@@ -1,6 +1,6 @@
 //! Drills worked out by hand from the rules.
 use aprs_base::{Addr, Chunk, Event};
-use drill_plan::{Plan, events};
+use drill_plan::{Events, Plan, copy_events};
 use std::process::Abort;
 use std::test::Fail;
 
@@ -37,7 +37,8 @@ fn gives_a_whole_drill(rt: HostRuntime) -> Result<(), Fail> {
         Event::Tick(1_000_001),
         Event::Stop,
     ];
-    assert!(rt; events(rt.alloc(), plan)?.as_slice() == want.as_slice());
+    let events: Vec<Event> = Events::new(plan).collect(rt.alloc())?;
+    assert!(rt; events.as_slice() == want.as_slice());
     Ok(())
 }
 
@@ -60,7 +61,7 @@ fn ticks_after_each_hundred_lines_and_the_last(rt: HostRuntime) -> Result<(), Fa
             lines,
             links: 2,
         };
-        let events = events(rt.alloc(), plan)?;
+        let events: Vec<Event> = Events::new(plan).collect(rt.alloc())?;
         assert!(rt; events.len() == count);
         assert!(rt; events.last() == Some(&Event::Stop));
         for (place, moment) in ticks {
@@ -85,7 +86,7 @@ fn logs_in_with_filters_in_turn(rt: HostRuntime) -> Result<(), Fail> {
         sends(&rt, 5, b"user D5 pass 14295 filter p/S1/S2\r\n"),
         sends(&rt, 6, b"user D6 pass 14292 filter r/50/30/1500\r\n"),
     ];
-    let events = events(rt.alloc(), plan)?;
+    let events: Vec<Event> = Events::new(plan).collect(rt.alloc())?;
     assert!(rt; events.get(7..13) == Some(want.as_slice()));
     Ok(())
 }
@@ -110,8 +111,24 @@ fn makes_lines_of_each_kind(rt: HostRuntime) -> Result<(), Fail> {
             lines: 10,
             links: 2,
         };
-        let events = events(rt.alloc(), plan)?;
+        let events: Vec<Event> = Events::new(plan).collect(rt.alloc())?;
         assert!(rt; events.get(place) == Some(&sends(&rt, 1, text)));
     }
+    Ok(())
+}
+
+#[test]
+fn says_nothing_after_the_stop(rt: HostRuntime) -> Result<(), Fail> {
+    let mut events = Events::new(Plan {
+        seed: 1,
+        lines: 0,
+        links: 0,
+    });
+    assert!(rt; !events.is_over());
+    assert!(rt; events.next() == Some(Event::Tick(1_000_000)));
+    assert!(rt; copy_events(&events).next() == Some(Event::Stop));
+    assert!(rt; events.next() == Some(Event::Stop));
+    assert!(rt; events.is_over());
+    assert!(rt; events.next() == None);
     Ok(())
 }
