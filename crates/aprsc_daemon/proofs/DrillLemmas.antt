@@ -1,10 +1,13 @@
 -- A drill's wire gives the events of its plan in order, and takes every offer whole; so what it tells at last is a drill.
-use Rattle.std.proofs.Common.{◌≡◌, ℕ, zero, suc, ◌+◌, ◌-◌, false, List, [], ◌∷◌, ◌++◌, length, drop, refl, sym, ap, ◌∙◌, subst, arith, append-nil, append_assoc, codes, Some, None, Result, Ok, Err}
-use Rattle.std.specs.Prelude.{reverse}
+use Rattle.std.proofs.Common.{◌≡◌, ℕ, ◌+◌, ◌-◌, ◌<◌, false, true, List, [], ◌∷◌, ◌++◌, length, drop, length-drop, refl, sym, ap, ◌∙◌, subst, arith, append-nil, append_assoc, codes, Some, None, Result, Ok, Err}
+use Rattle.std.specs.Prelude.{◌==◌, ◌&&◌, reverse}
+use Rattle.std.proofs.lemmas.Bool.{and_parts}
+use Rattle.std.proofs.lemmas.Bool.Decides.{nat_tests}
 use Rattle.std.proofs.lemmas.List.{reverse-append, reverse-reverse}
-use Rattle.aprs_base.specs.Outside.{Told}
-use Rattle.aprs_base.specs.WireScript.{WireScript, after_act, after_listen, after_next, after_send, next_event, outcome_of, script_of}
+use Rattle.aprs_base.specs.Outside.{Told, are_numbered, new_link}
+use Rattle.aprs_base.specs.WireScript.{WireScript, links_after, after_act, after_listen, after_next, after_send, next_event, outcome_of}
 use Rattle.aprs_base.specs.declared.events.Event.{Event}
+use Rattle.aprs_base.specs.declared.events.Event.TheVariants as event
 use Rattle.aprs_base.specs.declared.events.Happening.{Happening}
 use Rattle.aprs_base.specs.declared.events.Happening.TheVariants as did
 use Rattle.aprs_base.specs.declared.events.Sent.{Sent}
@@ -20,7 +23,6 @@ use Rattle.aprs_history.specs.History.{History, trace_of}
 use Rattle.aprs_history.specs.Runs.{AppendsRun, told_after}
 use Rattle.aprs_history.specs.Setting.{Setting}
 use Rattle.aprs_history.specs.Stands.{StandsFor}
-use Rattle.drill_plan.specs.Drill.{drill_events}
 use Rattle.drill_plan.specs.declared.plan.Plan.{Plan}
 use Rattle.server_core.specs.Meaning.{CoreMeaning}
 use Rattle.aprsc_daemon.specs.Drill.{HasCounts, IsDriven, IsSummary, TakesAll, drill_setting, port}
@@ -44,14 +46,15 @@ told_in_order s told (x ∷ more) =
 -- ---- the wire goes on
 
 -- by an act
-driven_on : (plan : Plan) (wire new : WireScript) (left taken more : ℕ) (x : Happening) → new.told.done ≡ wire.told.done ++ x ∷ [] → new.left ≡ wire.left → new.takes ≡ [] → events_in (x ∷ []) ≡ []
-    → (TakesAll (reverse wire.told.done) → TakesAll (x ∷ reverse wire.told.done)) → taken_in (x ∷ reverse wire.told.done) ≡ taken_in (reverse wire.told.done) + more → IsDriven plan wire left taken → IsDriven plan new left (taken + more)
-driven_on plan wire new left taken more x tells leaves takes no_event whole takes_more driven = record {
+driven_on : (plan : Plan) (coming : List Event) (wire new : WireScript) (left taken more : ℕ) (x : Happening) → new.told.done ≡ wire.told.done ++ x ∷ [] → new.left ≡ wire.left → new.links ≡ wire.links → new.takes ≡ [] → events_in (x ∷ []) ≡ []
+    → (TakesAll (reverse wire.told.done) → TakesAll (x ∷ reverse wire.told.done)) → taken_in (x ∷ reverse wire.told.done) ≡ taken_in (reverse wire.told.done) + more → IsDriven plan coming wire left taken → IsDriven plan coming new left (taken + more)
+driven_on plan coming wire new left taken more x tells leaves brings takes no_event whole takes_more driven = record {
   events =
-      ap (λ events. events_in new.told.done ++ events) leaves
-      ∙ ap (λ done. events_in done ++ wire.left) tells
-      ∙ ap (λ events. events ++ wire.left) (events_join wire.told.done (x ∷ []) ∙ ap (λ events. events_in wire.told.done ++ events) no_event ∙ append-nil (events_in wire.told.done))
+      ap (λ events. events_in new.told.done ++ (events ++ coming)) leaves
+      ∙ ap (λ done. events_in done ++ (wire.left ++ coming)) tells
+      ∙ ap (λ events. events ++ (wire.left ++ coming)) (events_join wire.told.done (x ∷ []) ∙ ap (λ events. events_in wire.told.done ++ events) no_event ∙ append-nil (events_in wire.told.done))
       ∙ driven.events;
+  numbered = ap (λ events. are_numbered new.links (events ++ coming)) leaves ∙ ap (λ links. are_numbered links (wire.left ++ coming)) brings ∙ driven.numbered;
   count = ap length leaves ∙ driven.count;
   takes = takes;
   whole = subst TakesAll (sym (ap reverse tells ∙ newest_first wire.told.done x)) (whole driven.whole);
@@ -61,64 +64,63 @@ driven_on plan wire new left taken more x tells leaves takes no_event whole take
 no_more : (n : ℕ) → n ≡ n + 0
 no_more n = omega arith
 
-pub driven_listen : {T : Type 0} (plan : Plan) (wire : WireScript) (left taken n : ℕ) (spec : ListenSpec) (result : Result T WireError) → IsDriven plan wire left taken
-    → IsDriven plan (after_listen n spec wire result) left taken
-driven_listen plan wire left taken n spec (Ok x) driven =
-    subst (IsDriven plan (after_listen n spec wire (Ok x)) left) (sym (no_more taken))
-    (driven_on plan wire (after_listen n spec wire (Ok x)) left taken 0 (did.Listen n) refl refl driven.takes refl (λ all. all) (no_more (taken_in (reverse wire.told.done))) driven)
-driven_listen plan wire left taken n spec (Err wire_error.Failed) driven = record { events = driven.events; count = driven.count; takes = driven.takes; whole = driven.whole; bytes = driven.bytes }
-driven_listen plan wire left taken n spec (Err wire_error.Memory) driven = driven
+pub driven_listen : {T : Type 0} (plan : Plan) (coming : List Event) (wire : WireScript) (left taken n : ℕ) (spec : ListenSpec) (result : Result T WireError) → IsDriven plan coming wire left taken
+    → IsDriven plan coming (after_listen n spec wire result) left taken
+driven_listen plan coming wire left taken n spec (Ok x) driven =
+    subst (IsDriven plan coming (after_listen n spec wire (Ok x)) left) (sym (no_more taken))
+    (driven_on plan coming wire (after_listen n spec wire (Ok x)) left taken 0 (did.Listen n) refl refl refl driven.takes refl (λ all. all) (no_more (taken_in (reverse wire.told.done))) driven)
+driven_listen plan coming wire left taken n spec (Err wire_error.Failed) driven = record { events = driven.events; numbered = driven.numbered; count = driven.count; takes = driven.takes; whole = driven.whole; bytes = driven.bytes }
+driven_listen plan coming wire left taken n spec (Err wire_error.Memory) driven = driven
 
 -- by an act that tells this happening and perhaps more
-pub driven_act : {T E : Type 0} (plan : Plan) (wire : WireScript) (left taken : ℕ) (x : Happening) (change : Told → Told) (result : Result T E) → ((told : Told) → (change told).done ≡ told.done ++ x ∷ [])
-    → events_in (x ∷ []) ≡ [] → (TakesAll (reverse wire.told.done) → TakesAll (x ∷ reverse wire.told.done)) → taken_in (x ∷ reverse wire.told.done) ≡ taken_in (reverse wire.told.done) → IsDriven plan wire left taken → IsDriven plan (after_act {E = E} change wire result) left taken
-driven_act {E = E} plan wire left taken x change (Ok y) tells no_event whole takes_none driven =
-    subst (IsDriven plan (after_act {E = E} change wire (Ok y)) left) (sym (no_more taken))
-    (driven_on plan wire (after_act {E = E} change wire (Ok y)) left taken 0 x (tells wire.told) refl driven.takes no_event whole (takes_none ∙ no_more (taken_in (reverse wire.told.done))) driven)
-driven_act plan wire left taken x change (Err e) tells no_event whole takes_none driven = driven
+pub driven_act : {T E : Type 0} (plan : Plan) (coming : List Event) (wire : WireScript) (left taken : ℕ) (x : Happening) (change : Told → Told) (result : Result T E) → ((told : Told) → (change told).done ≡ told.done ++ x ∷ [])
+    → events_in (x ∷ []) ≡ [] → (TakesAll (reverse wire.told.done) → TakesAll (x ∷ reverse wire.told.done)) → taken_in (x ∷ reverse wire.told.done) ≡ taken_in (reverse wire.told.done) → IsDriven plan coming wire left taken → IsDriven plan coming (after_act {E = E} change wire result) left taken
+driven_act {E = E} plan coming wire left taken x change (Ok y) tells no_event whole takes_none driven =
+    subst (IsDriven plan coming (after_act {E = E} change wire (Ok y)) left) (sym (no_more taken))
+    (driven_on plan coming wire (after_act {E = E} change wire (Ok y)) left taken 0 x (tells wire.told) refl refl driven.takes no_event whole (takes_none ∙ no_more (taken_in (reverse wire.told.done))) driven)
+driven_act plan coming wire left taken x change (Err e) tells no_event whole takes_none driven = driven
 
 -- by an offer
-pub driven_send : (E : Type 0) (plan : Plan) (wire : WireScript) (left taken link : ℕ) (bytes : List ℕ) (outcome : Sent) → outcome ≡ outcome_of wire.takes bytes → IsDriven plan wire left taken
-    → IsDriven plan (after_send {E = E} link bytes wire (Ok outcome)) left (taken + length bytes)
-driven_send E plan wire left taken link bytes outcome is driven =
+pub driven_send : (E : Type 0) (plan : Plan) (coming : List Event) (wire : WireScript) (left taken link : ℕ) (bytes : List ℕ) (outcome : Sent) → outcome ≡ outcome_of wire.takes bytes → IsDriven plan coming wire left taken
+    → IsDriven plan coming (after_send {E = E} link bytes wire (Ok outcome)) left (taken + length bytes)
+driven_send E plan coming wire left taken link bytes outcome is driven =
     let whole : outcome ≡ sent.Took (length bytes) = is ∙ ap (λ takes. outcome_of takes bytes) driven.takes in
-    driven_on plan wire (after_send {E = E} link bytes wire (Ok outcome)) left taken (length bytes) (did.Sent link bytes outcome) refl refl (ap (drop 1) driven.takes) refl (λ all. (all, whole))
+    driven_on plan coming wire (after_send {E = E} link bytes wire (Ok outcome)) left taken (length bytes) (did.Sent link bytes outcome) refl refl refl (ap (drop 1) driven.takes) refl (λ all. (all, whole))
     (ap (λ s. taken_in (did.Sent link bytes s ∷ reverse wire.told.done)) whole) driven
 
--- by an event, which is the first that was left
-first_left : (events : List Event) (n : ℕ) → length events ≡ suc n → next_event events ∷ drop 1 events ≡ events
-first_left [] n is = absurd (omega (arith, is))
-first_left (e ∷ events) n is = refl
+-- what comes after an event is numbered after the link that it brings
+numbered_on : (n link : ℕ) (events : List Event) → ((link == n + 1) && are_numbered (n + 1) events) ≡ true → are_numbered link events ≡ true
+numbered_on n link events is =
+    let parts : ((link == n + 1) ≡ true) × (are_numbered (n + 1) events ≡ true) = and_parts _ _ is in
+    let same : link ≡ n + 1 = grind (arith, nat_tests, parts.0) in
+    rw same parts.1
 
-pub driven_next : (plan : Plan) (wire : WireScript) (left taken : ℕ) (e : Event) → (left ≡ 0 → ⊥) → e ≡ next_event wire.left → IsDriven plan wire left taken
-    → IsDriven plan (after_next wire (Ok e)) (left - 1) taken
-driven_next plan wire zero taken e some is driven = absurd (some refl)
-driven_next plan wire (suc left) taken e some is driven = record {
-  events =
-      ap (λ events. events ++ drop 1 wire.left) (events_join wire.told.done (did.Event e ∷ []))
-      ∙ append_assoc (events_in wire.told.done) (e ∷ []) (drop 1 wire.left)
-      ∙ ap (λ events. events_in wire.told.done ++ events) (ap (λ first. first ∷ drop 1 wire.left) is ∙ first_left wire.left left driven.count)
-      ∙ driven.events;
-  count = fewer wire.left left driven.count ∙ one_less left;
-  takes = driven.takes;
-  whole = subst TakesAll (sym (newest_first wire.told.done (did.Event e))) driven.whole;
-  bytes = driven.bytes ∙ ap taken_in (sym (newest_first wire.told.done (did.Event e)));
-}
+numbered_rest : (n : ℕ) (e : Event) (events : List Event) → are_numbered n (e ∷ events) ≡ true → are_numbered (links_after n (new_link e)) events ≡ true
+numbered_rest n (event.Opened listener link from) events is = numbered_on n link events is
+numbered_rest n (event.Joined uplink link at) events is = numbered_on n link events is
+numbered_rest n e events is = is
+
+-- by an event that came, which is the first of those that were made
+pub driven_next : (plan : Plan) (coming : List Event) (wire : WireScript) (left taken : ℕ) (e : Event) → 0 < left → e ≡ next_event wire.left → IsDriven plan coming wire left taken
+    → IsDriven plan coming (after_next wire (Ok e)) (left - 1) taken
+driven_next plan coming wire left taken e some is driven =
+    let first : wire.left ≡ e ∷ drop 1 wire.left = first_left wire.left left some driven.count ∙ ap (λ x. x ∷ drop 1 wire.left) (sym is) in
+    record {
+      events =
+          ap (λ events. events ++ (drop 1 wire.left ++ coming)) (events_join wire.told.done (did.Event e ∷ []))
+          ∙ append_assoc (events_in wire.told.done) (e ∷ []) (drop 1 wire.left ++ coming)
+          ∙ ap (λ events. events_in wire.told.done ++ (events ++ coming)) (sym first)
+          ∙ driven.events;
+      numbered = numbered_rest wire.links e (drop 1 wire.left ++ coming) (ap (λ events. are_numbered wire.links (events ++ coming)) (sym first) ∙ driven.numbered);
+      count = length-drop 1 wire.left ∙ ap (λ n. n - 1) driven.count;
+      takes = driven.takes;
+      whole = subst TakesAll (sym (newest_first wire.told.done (did.Event e))) driven.whole;
+      bytes = driven.bytes ∙ ap taken_in (sym (newest_first wire.told.done (did.Event e)));
+    }
   where
-    one_less : (n : ℕ) → n ≡ suc n - 1
-    one_less n = omega arith
-
-    fewer : (events : List Event) (n : ℕ) → length events ≡ suc n → length (drop 1 events) ≡ n
-    fewer [] n is = absurd (omega (arith, is))
-    fewer (x ∷ events) n is = omega (arith, is)
-
-pub driven_missed : (plan : Plan) (wire : WireScript) (left taken : ℕ) (error : WireError) → IsDriven plan wire left taken → IsDriven plan (after_next wire (Err error)) left taken
-driven_missed plan wire left taken wire_error.Failed driven = record { events = driven.events; count = driven.count; takes = driven.takes; whole = driven.whole; bytes = driven.bytes }
-driven_missed plan wire left taken wire_error.Memory driven = driven
-
--- a new wire
-pub driven_first : (plan : Plan) (events : List Event) → events ≡ drill_events plan → IsDriven plan (script_of events [] None None) (length events) 0
-driven_first plan events is = record { events = is; count = refl; takes = refl; whole = tt; bytes = refl }
+    first_left : (events : List Event) (n : ℕ) → 0 < n → length events ≡ n → events ≡ next_event events ∷ drop 1 events
+    first_left [] n some is = absurd (omega (arith, some, is))
+    first_left (x ∷ events) n some is = refl
 
 -- ---- what is told at last
 
@@ -126,7 +128,7 @@ none_left : (events : List Event) → length events ≡ 0 → events ≡ []
 none_left [] is = refl
 none_left (e ∷ events) is = absurd (omega (arith, is))
 
-pub counts_of_run : (plan : Plan) (wire : WireScript) (taken : ℕ) (core : CoreMeaning) (counts : Counts) → IsDriven plan wire 0 taken
+pub counts_of_run : (plan : Plan) (wire : WireScript) (taken : ℕ) (core : CoreMeaning) (counts : Counts) → IsDriven plan [] wire 0 taken
     → AppendsRun drill_setting (Some (record { done = []; listened = []; dialled = []; cast_to = [] })) (Some wire.told) (λ more. Finished drill_setting more × StandsFor drill_setting core.seen more)
     → ((h : History) → StandsFor drill_setting core.seen h → counts.totals ≡ totals_of drill_setting (trace_of drill_setting h)) → counts.taken ≡ taken → HasCounts plan counts
 counts_of_run plan wire taken core counts driven run totals taken_is =
@@ -141,7 +143,7 @@ counts_of_run plan wire taken core counts driven run totals taken_is =
         events =
             ap events_in (sym done)
             ∙ sym (append-nil (events_in wire.told.done))
-            ∙ ap (λ events. events_in wire.told.done ++ events) (sym (none_left wire.left driven.count))
+            ∙ ap (λ events. events_in wire.told.done ++ events) (sym (ap (λ left. left ++ []) (none_left wire.left driven.count)))
             ∙ driven.events;
         whole = subst TakesAll back driven.whole;
         finished = (let at = run.3 in at.0);

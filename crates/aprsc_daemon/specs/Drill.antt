@@ -1,6 +1,8 @@
 -- A drill: the run that the events of its plan make, over a wire that takes every offer whole, and what it counts.
-use Rattle.std.specs.Prelude.{◌≡◌, ℕ, List, [], ◌∷◌, ◌++◌, length, reverse, codes, ⊤}
+use Rattle.std.specs.Prelude.{◌≡◌, ℕ, List, [], ◌∷◌, ◌++◌, length, reverse, codes, true, ⊤}
+use Rattle.aprs_base.specs.Outside.{are_numbered}
 use Rattle.aprs_base.specs.WireScript.{WireScript}
+use Rattle.aprs_base.specs.declared.events.Event.{Event}
 use Rattle.aprs_base.specs.declared.events.Happening.TheVariants as did
 use Rattle.aprs_base.specs.declared.events.Sent.TheVariants as sent
 use Rattle.aprs_base.specs.declared.packets.ListenSpec.{ListenSpec}
@@ -60,9 +62,11 @@ pub record IsSummary (plan : Plan) (text : List ℕ) : Type 0 where
 
 -- ---- the wire
 
--- the first events of the plan came, and the rest are left; every offer was taken whole, and these are the bytes taken
-pub record IsDriven (plan : Plan) (wire : WireScript) (left taken : ℕ) : Type 0 where
-  pub events : events_in wire.told.done ++ wire.left ≡ drill_events plan
+-- the first events of the plan came, so many were made, and the rest is still to be; every offer was taken whole, and these are
+-- the bytes taken
+pub record IsDriven (plan : Plan) (coming : List Event) (wire : WireScript) (left taken : ℕ) : Type 0 where
+  pub events : events_in wire.told.done ++ (wire.left ++ coming) ≡ drill_events plan
+  pub numbered : are_numbered wire.links (wire.left ++ coming) ≡ true
   pub count : length wire.left ≡ left
   pub takes : wire.takes ≡ []
   pub whole : TakesAll (reverse wire.told.done)
@@ -71,6 +75,7 @@ pub record IsDriven (plan : Plan) (wire : WireScript) (left taken : ℕ) : Type 
 -- a drill's wire as contracts see it
 pub record DrillWireSeen : Type 0 where
   pub plan : Plan
+  pub events : List Event
   pub wire : WireScript
   pub left : ℕ
   pub taken : ℕ

@@ -1,5 +1,5 @@
 //! The drill: a run of the server over the events of a plan, and what it counts.
-ghost use Rattle.std.specs.Prelude.{◌≡◌, ◌≤◌, [], Some, IfOk, IfSome};
+ghost use Rattle.std.specs.Prelude.{◌≡◌, ◌<◌, ◌≤◌, [], Some, IfOk, IfSome, OnOk};
 ghost use Rattle.aprs_base.specs.WireScript.{shown_by};
 ghost use Rattle.aprs_conf.specs.Sound.{IsSound};
 ghost use Rattle.server_core.specs.Meaning.{setting_of};
@@ -12,7 +12,7 @@ use aprs_base::{
     Addr, Event, ListenSpec, MemWire, Memory, Sent, Totals, UplinkSpec, Wire, WireError,
 };
 use aprs_conf::Conf;
-use drill_plan::{Plan, events};
+use drill_plan::{Events, Plan, copy_events};
 use std::alloc::Global;
 use std::hash::RandomState;
 use std::marker::{Model, Sync};
@@ -35,8 +35,10 @@ pub(crate) struct Counts {
 #[derive(Drop)]
 struct DrillWire {
     plan: Plan,
+    /// The events that are still to be made.
+    events: Events,
     wire: MemWire,
-    /// How many events are left.
+    /// How many events were made and didn't come yet.
     left: usize,
     /// The bytes that all links took.
     taken: u64,
@@ -47,9 +49,9 @@ impl Model for DrillWire {
 
     ghost Value = { DrillWireSeen };
 
-    ghost view = { λ w. record { plan = w.plan; wire = w.wire; left = w.left; taken = w.taken } };
+    ghost view = { λ w. record { plan = w.plan; events = w.events; wire = w.wire; left = w.left; taken = w.taken } };
 
-    ghost invariant = { λ w. IsDriven w.plan w.wire w.left w.taken };
+    ghost invariant = { λ w. IsDriven w.plan w.events w.wire w.left w.taken };
 }
 
 impl DrillWire {
@@ -57,13 +59,12 @@ impl DrillWire {
         requires { plan.links ≤ 1000 }
         ensures { IfOk result (λ w. (shown_by w.wire).told ≡ Some (record { done = []; listened = []; dialled = []; cast_to = [] })) }
     {
-        let listed = events(alloc, plan)?;
-        let left = listed.len();
-        match MemWire::new(alloc, listed, Vec::new(alloc), None, None) {
+        match MemWire::new(alloc, Vec::new(alloc), Vec::new(alloc), None, None) {
             Ok(wire) => Ok(DrillWire {
                 plan,
+                events: Events::new(plan),
                 wire,
-                left,
+                left: 0,
                 taken: 0,
             }),
             Err(_) => Err(Memory),
@@ -72,13 +73,31 @@ impl DrillWire {
 
     /// The bytes that all links took, where all events of this plan came.
     fn taken_by(&self, plan: Plan) -> Option<u64>
-        ensures { IfSome result (λ taken. IsDriven plan self.now.wire 0 taken) }
+        ensures { IfSome result (λ taken. IsDriven plan [] self.now.wire 0 taken) }
     {
-        if self.plan == plan && self.left == 0 {
+        if self.plan == plan && self.left == 0 && self.events.is_over() {
             Some(self.taken)
         } else {
             None
         }
+    }
+
+    /// Makes the next event, where all that were made came.
+    fn make_next(&mut self) -> Result<(), Memory>
+        ensures shown { shown_by self.new.wire ≡ shown_by self.old.wire }
+        ensures made { OnOk result (0 < self.new.left) }
+    {
+        if self.left > 0 {
+            return Ok(());
+        }
+        let mut later = copy_events(&self.events);
+        let Some(event) = later.next() else {
+            return Err(Memory);
+        };
+        self.wire.give(event)?;
+        self.events = later;
+        self.left = 1;
+        Ok(())
     }
 }
 
@@ -90,9 +109,7 @@ impl Wire for DrillWire {
     }
 
     fn next(&mut self) -> Result<Event, WireError> {
-        if self.left == 0 {
-            return Err(WireError::Memory);
-        }
+        self.make_next()?;
         let event = self.wire.next()?;
         self.left -= 1;
         Ok(event)
