@@ -1,5 +1,5 @@
 -- What it is that a core stands for a history.
-use Rattle.std.specs.Prelude.{◌≡◌, ℕ, ◌≤◌, Bool, List, length, map, Option, None, if◌then◌else◌}
+use Rattle.std.specs.Prelude.{◌≡◌, ℕ, ◌≤◌, Bool, List, [], length, map, Option, None, if◌then◌else◌}
 use Rattle.aprs_base.specs.Held.{Held, held_after}
 use Rattle.aprs_base.specs.PacketSeen.{PacketSeen}
 use Rattle.aprs_base.specs.declared.totals.Totals.{Totals}
@@ -63,6 +63,13 @@ pub record CoreSeen : Type 0 where
   -- what it has counted
   pub totals : Totals
 
+-- what still counts of places for a link: nothing where it is overfull, since it takes no packet any more
+abbrev pub friends_kept : Bool → List (Option Seen) → List (Option Seen)
+friends_kept over friends = if over then [] else friends
+
+abbrev pub place_kept : Bool → Option Seen → Option Seen
+place_kept over place = if over then None else place
+
 -- what there is to keep of a link: its opening, its last bytes' moment, the rest of its bytes, its login, its filter with where
 -- the calls that it names were last seen, where its own login was, the lines that it hasn't wholly taken, and whether it is
 -- overfull, is blocked or was found gone
@@ -74,8 +81,8 @@ link_seen setting trace link = record {
   held = held_after (brought_by trace link);
   session = session_of trace link;
   filter = filter_of trace link;
-  friends = friends_of trace link;
-  mine = own_place trace link;
+  friends = friends_kept (text_to setting trace link).over (friends_of trace link);
+  mine = place_kept (text_to setting trace link).over (own_place trace link);
   queue = queued (lines_of setting trace link) (taken_by trace link);
   over = (text_to setting trace link).over;
   blocked = is_blocked trace link;

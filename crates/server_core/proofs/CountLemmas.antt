@@ -23,7 +23,7 @@ use Rattle.aprs_history.specs.Texts.{Text, TextLine, added_by, filter_reply, log
 use Rattle.aprs_history.specs.Counts.{capped, counted, is_accepted, is_duplicate, is_duplicate_refusal, is_other_refusal, is_packet_line, is_refused, packet_lines, put_in, put_to, put_to_all, totals_of}
 use Rattle.aprs_history.specs.Stands.{LinkSeen, link_seen}
 use Rattle.server_core.specs.LinkSteps.{answer_counted, is_shown_at, more, takes_packet, takes_shown, wants_packet, with_accepted, with_duplicate, with_refused}
-use Rattle.server_core.proofs.FollowLemmas.{shows_seen, source_in, wants_seen}
+use Rattle.server_core.proofs.FollowLemmas.{copies_seen, shows_seen, source_in}
 
 -- ---- counters
 
@@ -213,8 +213,7 @@ module _ (s : Setting) (t : Trace) (from : Source) (cut : Cut) where
     accepted_puts hearers owed heard due =
         let packet = packet_of from (moment_of t) parts line in
         tested_puts (Accepted parts line) (takes_packet packet (source_in t from parts) hearers owed) [] (live_links t)
-        (λ j live. ap (λ b. packet_lines (with_text_lines (taken_by t j) (if b then relayed packet ∷ [] else []) (text_to s t j)) - packet_lines (text_to s t j))
-        (wants_seen s t from parts line hearers owed j live (heard j live) (due j live))
+        (λ j live. ap (λ text. packet_lines text - packet_lines (text_to s t j)) (copies_seen s t from parts line hearers owed j live (heard j live) (due j live) (relayed packet))
         ∙ wanted_put (taken_by t j) (relayed packet) (text_to s t j) refl (wants_packet packet (source_in t from parts) hearers owed (link_seen s t j)))
 
     pub accepted_totals : with_accepted (put_to_all s (Said from cut (Accepted parts line)) t (live_links t)) (totals_of s t) ≡ totals_of s (after (Accepted parts line))

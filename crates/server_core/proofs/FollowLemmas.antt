@@ -7,7 +7,7 @@ use Rattle.std.proofs.lemmas.List.Concat.{flat_map-append}
 use Rattle.std.proofs.lemmas.List.{map-append}
 use Rattle.aprs_base.specs.PacketSeen.{PacketSeen}
 use Rattle.filter_lang.specs.Terms.{TermSeen}
-use Rattle.filter_eval.specs.Passes.{fresh}
+use Rattle.filter_eval.specs.Passes.{fresh, passes_of}
 use Rattle.filter_eval.specs.declared.seen.Seen.{Seen}
 use Rattle.station_table.specs.Stations.{seen_in}
 use Rattle.aprs_history.specs.declared.verdicts.FilterAnswer.{FilterAnswer}
@@ -37,10 +37,10 @@ use Rattle.link_queue.specs.Lines.{Queued, queued, text_bytes, ended_line}
 use Rattle.link_queue.specs.Queues.{QueueSeen}
 use Rattle.link_queue.specs.Queues.{with_line as pushed}
 use Rattle.aprs_history.specs.Texts.{Text, TextLine, comment_line, first_line, is_shown, most_waiting, lines_of, opening_wants, plain, plain_line, refused_lines, relayed, reply_of, shown, shows_duplicates, text_to, waiting_lines, with_text_line, with_text_lines, wants, filter_reply, login_filter_reply, login_reply, refusal_reply, reply_lines}
-use Rattle.aprs_history.specs.Stands.{LinkSeen, link_seen, TookNoMore}
+use Rattle.aprs_history.specs.Stands.{LinkSeen, link_seen, TookNoMore, friends_kept, place_kept}
 use Rattle.server_core.specs.Pending.{with_line, pending_bytes}
 use Rattle.server_core.specs.declared.link.SourcePlace.{SourcePlace}
-use Rattle.server_core.specs.LinkSteps.{has_room, is_shown_at, wants_packet, picked_at, at_link, at_moment, with_answer, with_room, when_gone, with_taken, with_bytes, with_text, with_session, with_date, with_packet, with_places, with_shown, new_link_seen}
+use Rattle.server_core.specs.LinkSteps.{has_room, is_shown_at, passes_packet, wants_packet, picked_at, at_link, at_moment, with_answer, with_room, when_gone, with_taken, with_bytes, with_text, with_session, with_date, with_packet, with_places, with_seen, with_shown, new_link_seen}
 use Rattle.server_core.proofs.SightLemmas.{friends_later, login_later, places_kept, told_at}
 
 -- where a packet's source was last seen, whether it is a gate, and whether the packet was submitted here
@@ -146,10 +146,21 @@ abbrev keeping : LinkSeen → List PacketSeen → ℕ → Option Session → Lis
 keeping base accepted now session terms text taken = record base {
   session = session;
   filter = terms;
-  friends = map (friend_in accepted now) terms;
-  mine = login_in accepted now session;
+  friends = friends_kept text.over (map (friend_in accepted now) terms);
+  mine = place_kept text.over (login_in accepted now session);
   queue = queued (plain text.lines) taken;
   over = text.over;
+}
+
+-- the same where it isn't overfull
+abbrev open_keeping : LinkSeen → List PacketSeen → ℕ → Option Session → List TermSeen → Queued → LinkSeen
+open_keeping base accepted now session terms queue = record base {
+  session = session;
+  filter = terms;
+  friends = map (friend_in accepted now) terms;
+  mine = login_in accepted now session;
+  queue = queue;
+  over = false;
 }
 
 -- a line more in a text is a line more in the queue
@@ -163,8 +174,8 @@ queue_grows base accepted now session terms text taken le line =
     ⊎_elim
     (λ (full : (waiting_lines text taken == most_waiting) ≡ true). rw (open', full) refl)
     (λ (room : (waiting_lines text taken == most_waiting) ≡ false). rw (open', room)
-    (ap (λ lines. record (keeping base accepted now session terms text taken) { queue = queued lines taken; over = false }) (map-append plain_line text.lines (line ∷ []))
-    ∙ ap (λ (q : Queued). record (keeping base accepted now session terms text taken) { queue = q; over = false }) (queued-push (plain text.lines) line.line taken le)))
+    (ap (λ lines. open_keeping base accepted now session terms (queued lines taken)) (map-append plain_line text.lines (line ∷ []))
+    ∙ ap (open_keeping base accepted now session terms) (queued-push (plain text.lines) line.line taken le)))
     (cases_Bool (waiting_lines text taken == most_waiting)))
     (cases_Bool text.over)
 
@@ -192,7 +203,7 @@ pub text_after : (line : List ℕ) (link : LinkSeen) → link.over ≡ true → 
 unfolding with_text
 text_after line link over = rw over refl
 
-pub text_over : (line : List ℕ) (link : LinkSeen) → link.over ≡ false → length link.queue.lines ≡ most_waiting → record link { over = true } ≡ with_text line link
+pub text_over : (line : List ℕ) (link : LinkSeen) → link.over ≡ false → length link.queue.lines ≡ most_waiting → record link { over = true; friends = []; mine = None } ≡ with_text line link
 unfolding with_text
 text_over line link open' full =
     let is_full : (length link.queue.lines == most_waiting) ≡ true = eq-eqb (length link.queue.lines) most_waiting full in
@@ -214,12 +225,17 @@ pushed_fits line link now before after is queue pushed open' room =
     ∙ ap (with_text line) is
 
 pub pushed_over : (line : List ℕ) (link now : LinkSeen) (before after : QueueSeen) → link ≡ now → plain_queue before ≡ link.queue → after ≡ before → link.over ≡ false
-    → length before.lines ≡ most_waiting → record link { queue = plain_queue after; over = true } ≡ with_text line now
+    → length before.lines ≡ most_waiting → record link { queue = plain_queue after; over = true; friends = []; mine = None } ≡ with_text line now
 pushed_over line link now before after is queue same open' full =
-    ap (λ (q : QueueSeen). record link { queue = plain_queue q; over = true }) same
-    ∙ ap (λ (q : Queued). record link { queue = q; over = true }) queue
+    ap (λ (q : QueueSeen). record link { queue = plain_queue q; over = true; friends = []; mine = None }) same
+    ∙ ap (λ (q : Queued). record link { queue = q; over = true; friends = []; mine = None }) queue
     ∙ text_over line link open' (sym (ap (λ (q : Queued). length q.lines) queue) ∙ full)
     ∙ ap (with_text line) is
+
+-- an overfull link takes no copy
+pub copy_over : (line : List ℕ) (link : LinkSeen) (wanted : Bool) → link.over ≡ true → link ≡ (if wanted then with_text line link else link)
+copy_over line link true over = text_after line link over
+copy_over line link false over = refl
 
 -- whether a line fits, by the queue that it goes into
 pub fits_not_after : (link : LinkSeen) → link.over ≡ true → false ≡ has_room link
@@ -240,13 +256,37 @@ fits_not_full link now before is queue open' full =
 
 -- another filter and a line more, in either order
 filter_then_text : (terms : List TermSeen) (friends : List (Option Seen)) (line : List ℕ) (link : LinkSeen)
-    → record (with_text line link) { filter = terms; friends = friends } ≡ with_text line (record link { filter = terms; friends = friends })
+    → record (with_text line link) { filter = terms; friends = friends_kept (with_text line link).over friends }
+    ≡ with_text line (record link { filter = terms; friends = friends_kept link.over friends })
 unfolding with_text
 filter_then_text terms friends line link =
     ⊎_elim
     (λ (over : link.over ≡ true). rw over refl)
     (λ (open' : link.over ≡ false). ⊎_elim (λ (full : (length link.queue.lines == most_waiting) ≡ true). rw (open', full) refl) (λ (room : (length link.queue.lines == most_waiting) ≡ false). rw (open', room) refl) (cases_Bool (length link.queue.lines == most_waiting)))
     (cases_Bool link.over)
+
+-- an overfull link sees nothing
+over_unseen : (call : List ℕ) (told : Option Seen) (link : LinkSeen) → link.over ≡ true → link ≡ with_seen call told link
+over_unseen call None link over = refl
+over_unseen call (Some seen) link over = rw over refl
+
+-- what a packet tells of places
+places_shape : (base : LinkSeen) (accepted : List PacketSeen) (now : ℕ) (session : Option Session) (terms : List TermSeen) (text : Text) (taken : ℕ) (packet : PacketSeen) → packet.moment ≡ now
+    → keeping base (accepted ++ packet ∷ []) now session terms text taken ≡ with_places packet (keeping base accepted now session terms text taken)
+places_shape base accepted now session terms text taken packet at =
+    let kept = keeping base accepted now session terms text taken in
+    let with_kept : Bool → List (Option Seen) → Option Seen → LinkSeen = λ over friends mine. record kept { friends = friends_kept over friends; mine = place_kept over mine } in
+    let friends = map (friend_in (accepted ++ packet ∷ []) now) terms in
+    let mine = login_in (accepted ++ packet ∷ []) now session in
+    ⊎_elim
+    (λ (over : text.over ≡ true).
+    ap (λ b. with_kept b friends mine) over ∙ sym (ap (λ b. with_kept b (map (friend_in accepted now) terms) (login_in accepted now session)) over)
+    ∙ over_unseen packet.parts.source (seen_in packet) kept over)
+    (λ (open' : text.over ≡ false).
+    ap (λ b. with_kept b friends mine) open'
+    ∙ places_kept accepted now packet (seen_in packet) refl (λ seen is. told_at packet seen is ∙ at) kept open'
+    (ap (λ b. friends_kept b (map (friend_in accepted now) terms)) open') (ap (λ b. place_kept b (login_in accepted now session)) open'))
+    (cases_Bool text.over)
 
 module _ (base : LinkSeen) (accepted : List PacketSeen) (now : ℕ) (session : Option Session) (terms : List TermSeen) (text : Text) (taken : ℕ) where
   abbrev kept : LinkSeen
@@ -309,7 +349,7 @@ module _ (base : LinkSeen) (accepted : List PacketSeen) (now : ℕ) (session : O
     wanted_shape : (packet : PacketSeen) → packet.moment ≡ now
         → keeping base (accepted ++ packet ∷ []) now session terms (with_text_line taken (relayed packet) text) taken ≡ with_places packet (with_text packet.line kept)
     wanted_shape packet at =
-        places_kept accepted now packet (seen_in packet) refl (λ seen is. told_at packet seen is ∙ at) (keeping base accepted now session terms (with_text_line taken (relayed packet) text) taken) refl refl
+        places_shape base accepted now session terms (with_text_line taken (relayed packet) text) taken packet at
         ∙ ap (with_places packet) (queue_grows base accepted now session terms text taken le (relayed packet))
 
     -- a duplicate that is refused, which the link is shown or not
@@ -331,8 +371,8 @@ module _ (base : LinkSeen) (accepted : List PacketSeen) (now : ℕ) (session : O
         ≡ with_places packet (if wanted then with_text packet.line kept else kept)
     packet_shape packet true true at = wanted_shape packet at
     packet_shape packet false true at = wanted_shape packet at
-    packet_shape packet true false at = places_kept accepted now packet (seen_in packet) refl (λ seen is. told_at packet seen is ∙ at) kept refl refl
-    packet_shape packet false false at = places_kept accepted now packet (seen_in packet) refl (λ seen is. told_at packet seen is ∙ at) kept refl refl
+    packet_shape packet true false at = places_shape base accepted now session terms text taken packet at
+    packet_shape packet false false at = places_shape base accepted now session terms text taken packet at
 
 -- ---- what there is to keep of each link, one entry later
 
@@ -362,16 +402,30 @@ module _ (s : Setting) where
       (λ other. rw other refl) (cases_Bool (j == k))
 
   -- time goes on
+  fresh_friends_kept : (now : ℕ) (over : Bool) (friends : List (Option Seen)) → map (fresh now) (friends_kept over friends) ≡ friends_kept over (map (fresh now) friends)
+  fresh_friends_kept now true friends = refl
+  fresh_friends_kept now false friends = refl
+
+  fresh_place_kept : (now : ℕ) (over : Bool) (place : Option Seen) → fresh now (place_kept over place) ≡ place_kept over (fresh now place)
+  fresh_place_kept now true place = refl
+  fresh_place_kept now false place = refl
+
   pub ticked_seen : (t : Trace) (m j : ℕ) → link_seen s (Ticked m ∷ t) j ≡ at_moment (moment_of (Ticked m ∷ t)) (link_seen s t j)
   unfolding link_seen
   ticked_seen t m j =
       let later : moment_of t ≤ moment_of (Ticked m ∷ t) = le-max_right (min m last_moment) (moment_of t) in
-      ap (λ friends. record (link_seen s t j) { friends = friends; mine = own_place (Ticked m ∷ t) j }) (sym (friends_later (accepted_of t) (moment_of t) (moment_of (Ticked m ∷ t)) later (filter_of t j)))
-      ∙ ap (λ place. record (link_seen s t j) { friends = map (fresh (moment_of (Ticked m ∷ t))) (friends_of t j); mine = place }) (sym (login_later (accepted_of t) (moment_of t) (moment_of (Ticked m ∷ t)) later (session_of t j)))
+      let over = (text_to s t j).over in
+      ap (λ friends. record (link_seen s t j) { friends = friends; mine = place_kept over (own_place (Ticked m ∷ t) j) })
+      (sym (fresh_friends_kept (moment_of (Ticked m ∷ t)) over (friends_of t j) ∙ ap (friends_kept over) (friends_later (accepted_of t) (moment_of t) (moment_of (Ticked m ∷ t)) later (filter_of t j))))
+      ∙ ap (λ place. record (link_seen s t j) { friends = map (fresh (moment_of (Ticked m ∷ t))) (friends_kept over (friends_of t j)); mine = place })
+      (sym (fresh_place_kept (moment_of (Ticked m ∷ t)) over (own_place t j) ∙ ap (place_kept over) (login_later (accepted_of t) (moment_of t) (moment_of (Ticked m ∷ t)) later (session_of t j))))
 
   pub stayed_seen : (t : Trace) (m j : ℕ) → moment_of (Ticked m ∷ t) ≡ moment_of t → link_seen s (Ticked m ∷ t) j ≡ link_seen s t j
   unfolding link_seen
-  stayed_seen t m j same = ap (λ now. record (link_seen s t j) { friends = map (friend_in (accepted_of t) now) (filter_of t j); mine = login_in (accepted_of t) now (session_of t j) }) same
+  stayed_seen t m j same = ap (λ now. record (link_seen s t j) {
+        friends = friends_kept (text_to s t j).over (map (friend_in (accepted_of t) now) (filter_of t j));
+        mine = place_kept (text_to s t j).over (login_in (accepted_of t) now (session_of t j));
+      }) same
 
   -- a line that is refused without a reply, and one with a reply
   pub refused_seen : (t : Trace) (from : Source) (cut : Cut) (why : Refusal) (j : ℕ) → refused_lines t from why j ≡ (if is_from j from then reply_lines (refusal_reply why) else []) → None ≡ refusal_reply why
@@ -438,22 +492,46 @@ module _ (s : Setting) where
       by (Uplink number) is = rw is refl
 
   -- an accepted packet, at a link that lives
-  pub wants_seen : (t : Trace) (from : Source) (parts : Parts) (line : List ℕ) (hearers owed : List ℕ) (j : ℕ) → is_live t j ≡ true
+  wants_seen : (t : Trace) (from : Source) (parts : Parts) (line : List ℕ) (hearers owed : List ℕ) (j : ℕ) → is_live t j ≡ true → (text_to s t j).over ≡ false
       → (is_client_link (opening_of t j) ≡ true → is_among j hearers ≡ is_to_heard t (packet_of from (moment_of t) parts line) j) → is_among j owed ≡ is_owed t (packet_of from (moment_of t) parts line) j
       → wants t (packet_of from (moment_of t) parts line) j ≡ wants_packet (packet_of from (moment_of t) parts line) (source_in t from parts) hearers owed (link_seen s t j)
   unfolding link_seen
-  wants_seen t from parts line hearers owed j live heard due =
+  wants_seen t from parts line hearers owed j live open' heard due =
       let packet = packet_of from (moment_of t) parts line in
+      let source = source_in t from parts in
+      let asked_for = is_to_login packet (session_of t j) || is_among j hearers || is_among j owed in
+      let passes : filter_passes t packet j ≡ passes_packet packet source (link_seen s t j) =
+      sym (ap (λ over. passes_of (filter_of t j) packet (friends_kept over (friends_of t j)) (place_kept over (own_place t j)) source.place source.gate) open') in
+      let known = ap (λ b. not (is_from j from) && opening_wants (opening_of t j) (is_some (session_of t j)) (is_submitted t from) (b || asked_for)) passes in
       let wanted : Bool → Bool = λ asked. opening_wants (opening_of t j) (is_some (session_of t j)) (is_submitted t from) (filter_passes t packet j || asked) in
       let asked : Bool → Bool → Bool = λ by_hearing by_courtesy. not (is_from j from) && wanted (is_to_login packet (session_of t j) || by_hearing || by_courtesy) in
       let lives : wants t packet j ≡ asked (is_to_heard t packet j) (is_owed t packet j) =
       ap (λ b. not (is_from j from) && b && wanted (is_asked t packet j)) live ∙ and_true (not (is_from j from)) (wanted (is_asked t packet j)) in
       ⊎_elim
-      (λ client. lives ∙ ap (λ b. asked b (is_owed t packet j)) (sym (heard client)) ∙ ap (asked (is_among j hearers)) (sym due))
+      (λ client. lives ∙ ap (λ b. asked b (is_owed t packet j)) (sym (heard client)) ∙ ap (asked (is_among j hearers)) (sym due) ∙ known)
       (λ uplink. lives ∙ ap (λ b. not (is_from j from) && b) (unasked_same (opening_of t j) (is_some (session_of t j)) (is_submitted t from)
       (filter_passes t packet j || (is_to_login packet (session_of t j) || is_to_heard t packet j || is_owed t packet j))
-      (filter_passes t packet j || (is_to_login packet (session_of t j) || is_among j hearers || is_among j owed)) uplink))
+      (filter_passes t packet j || (is_to_login packet (session_of t j) || is_among j hearers || is_among j owed)) uplink) ∙ known)
       (cases_Bool (is_client_link (opening_of t j)))
+
+  -- a text that is overfull takes no line, wanted or not
+  untaken_lines : (taken : ℕ) (line : TextLine) (text : Text) (wanted : Bool) → text.over ≡ true → with_text_lines taken (if wanted then line ∷ [] else []) text ≡ text
+  untaken_lines taken line text true over = rw over refl
+  untaken_lines taken line text false over = refl
+
+  -- the text that a link has after a packet
+  pub copies_seen : (t : Trace) (from : Source) (parts : Parts) (line : List ℕ) (hearers owed : List ℕ) (j : ℕ) → is_live t j ≡ true
+      → (is_client_link (opening_of t j) ≡ true → is_among j hearers ≡ is_to_heard t (packet_of from (moment_of t) parts line) j) → is_among j owed ≡ is_owed t (packet_of from (moment_of t) parts line) j
+      → (added : TextLine)
+      → with_text_lines (taken_by t j) (if wants t (packet_of from (moment_of t) parts line) j then added ∷ [] else []) (text_to s t j)
+      ≡ with_text_lines (taken_by t j) (if wants_packet (packet_of from (moment_of t) parts line) (source_in t from parts) hearers owed (link_seen s t j) then added ∷ [] else []) (text_to s t j)
+  copies_seen t from parts line hearers owed j live heard due added =
+      let packet = packet_of from (moment_of t) parts line in
+      ⊎_elim
+      (λ (over : (text_to s t j).over ≡ true). untaken_lines (taken_by t j) added (text_to s t j) (wants t packet j) over
+      ∙ sym (untaken_lines (taken_by t j) added (text_to s t j) (wants_packet packet (source_in t from parts) hearers owed (link_seen s t j)) over))
+      (λ (open' : (text_to s t j).over ≡ false). ap (λ b. with_text_lines (taken_by t j) (if b then added ∷ [] else []) (text_to s t j)) (wants_seen t from parts line hearers owed j live open' heard due))
+      (cases_Bool (text_to s t j).over)
 
   pub accepted_seen : (t : Trace) → TookNoMore s t → (from : Source) (cut : Cut) (parts : Parts) (line : List ℕ) (hearers owed : List ℕ) (j : ℕ) → is_live t j ≡ true
       → (is_client_link (opening_of t j) ≡ true → is_among j hearers ≡ is_to_heard t (packet_of from (moment_of t) parts line) j) → is_among j owed ≡ is_owed t (packet_of from (moment_of t) parts line) j
@@ -463,8 +541,8 @@ module _ (s : Setting) where
       let base = link_seen s t j in
       let packet = packet_of from (moment_of t) parts line in
       let asked = wants_packet packet (source_in t from parts) hearers owed base in
-      ap (λ b. keeping base (accepted_of t ++ packet ∷ []) (moment_of t) (if is_from j from then session_of t j else session_of t j) (if is_from j from then filter_of t j else filter_of t j)
-      (with_text_lines (taken_by t j) (if b then relayed packet ∷ [] else []) (text_to s t j)) (taken_by t j)) (wants_seen t from parts line hearers owed j live heard due)
+      ap (λ text. keeping base (accepted_of t ++ packet ∷ []) (moment_of t) (if is_from j from then session_of t j else session_of t j) (if is_from j from then filter_of t j else filter_of t j)
+      text (taken_by t j)) (copies_seen t from parts line hearers owed j live heard due (relayed packet))
       ∙ packet_shape base (accepted_of t) (moment_of t) (session_of t j) (filter_of t j) (text_to s t j) (taken_by t j) (took j) packet (is_from j from) asked refl
 
   -- a round begins

@@ -117,18 +117,21 @@ module _ (accepted : List PacketSeen) (now : ℕ) (packet : PacketSeen) where
 
   -- what there is to keep of a link after a packet, whatever it tells
   pub places_kept : (told : Option Seen) → told ≡ seen_in packet → ((seen : Seen) → Some seen ≡ seen_in packet → seen.moment ≡ now)
-      → (link : LinkSeen) → link.friends ≡ map (friend_in accepted now) link.filter → link.mine ≡ login_in accepted now link.session
+      → (link : LinkSeen) → link.over ≡ false → link.friends ≡ map (friend_in accepted now) link.filter → link.mine ≡ login_in accepted now link.session
       → record link { friends = map (friend_in (accepted ++ packet ∷ []) now) link.filter; mine = login_in (accepted ++ packet ∷ []) now link.session }
       ≡ with_seen packet.parts.source told link
-  places_kept None none at link friends mine =
+  places_kept None none at link open' friends mine =
       ap (λ fs. record link { friends = fs; mine = login_in (accepted ++ packet ∷ []) now link.session })
       (map_same (friend_in (accepted ++ packet ∷ []) now) (friend_in accepted now) (λ term. unseen_friend none (named_call term.what)) link.filter ∙ sym friends)
       ∙ ap (λ seen. record link { mine = seen }) (unseen_login none link.session ∙ sym mine)
-  places_kept (Some seen) some at link friends mine =
-      ap (λ fs. record link { friends = fs; mine = login_in (accepted ++ packet ∷ []) now link.session })
+  places_kept (Some seen) some at link open' friends mine =
+      let places : List (Option Seen) → Option Seen → LinkSeen = λ fs place. record link { friends = fs; mine = place } in
+      let friends_after = map (friend_seen packet.parts.source seen) (zip link.filter link.friends) in
+      let mine_after = login_seen packet.parts.source seen link.session link.mine in
+      ap (λ fs. places fs (login_in (accepted ++ packet ∷ []) now link.session))
       (sym (seen_friends seen some (at seen some) link.filter) ∙ ap (λ fs. map (friend_seen packet.parts.source seen) (zip link.filter fs)) (sym friends))
-      ∙ ap (λ place. record link { friends = map (friend_seen packet.parts.source seen) (zip link.filter link.friends); mine = place })
-      (sym (seen_login seen some (at seen some) link.session) ∙ ap (login_seen packet.parts.source seen link.session) (sym mine))
+      ∙ ap (places friends_after) (sym (seen_login seen some (at seen some) link.session) ∙ ap (login_seen packet.parts.source seen link.session) (sym mine))
+      ∙ sym (ap (λ over. if over then link else places friends_after mine_after) open')
 
 -- a packet tells what it was accepted with
 told_by : (position : Bool) (place : Option Place) (moment : ℕ) (seen : Seen) → Some seen ≡ cond position (option_map (seen_at moment) place) None → seen.moment ≡ moment

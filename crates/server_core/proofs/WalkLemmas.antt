@@ -35,7 +35,7 @@ use Rattle.aprs_history.specs.Sights.{friend_in, is_gate_at, sighting}
 use Rattle.link_queue.specs.Lines.{text_bytes}
 use Rattle.aprs_history.specs.Texts.{comment_line, first_line, lines_of, over_links, refused_lines, reply_lines, text_to, added_by, login_reply, refusal_reply}
 use Rattle.aprs_history.specs.Counts.{is_duplicate_refusal, is_other_refusal, put_to_all, totals_of}
-use Rattle.aprs_history.specs.Stands.{LinkSeen, CoreSeen, ReachSeen, link_seen, reach_of, TookNoMore, Follows, Keeps, Remembers, kept_hearing, kept_promise, window_of}
+use Rattle.aprs_history.specs.Stands.{LinkSeen, CoreSeen, ReachSeen, link_seen, place_kept, reach_of, TookNoMore, Follows, Keeps, Remembers, kept_hearing, kept_promise, window_of}
 use Rattle.aprs_history.specs.Dates.{comment_text}
 use Rattle.aprs_history.specs.History.{end_all, end_each, end_gone, refused_links, refused_reason}
 use Rattle.server_core.specs.LinkSteps.{answer_counted, refusal_counted, takes_packet, takes_shown, with_accepted, with_duplicate, with_refused, at_source, client_at, client_kept, ended_all, submitted_from, with_date, with_refusal, with_shown, filters_at, filters_kept, forgotten_all, hearers_of, is_lost, owed_in, receiver_of, after_answer, after_login, after_login_answer, after_packet, after_verdict, found_in, has_that, with_answer, with_reply, at_link, at_moment, with_room, when_gone, with_taken, with_bytes, with_text, with_session, with_packet, new_link_seen, numbers, is_there, is_another, is_in_time, is_late_link, is_none_of, is_overfull, Rises, passed}
@@ -449,7 +449,7 @@ module _ (s : Setting) (core : CoreSeen) (t : Trace) (follows : Follows s core t
       ap (λ place. at_source from (with_answer (found_in core.moment core.stations) answer) (at_source from (with_session session place reply) core.links))
       (sighting_found core (accepted_of t) (moment_of t) follows.moment follows.tables.stations session.call)
       ∙ answers_agree from answer (at_source from logged core.links)
-      ∙ at_source_twice from answered logged (λ link. text_number reply (record link { session = Some session; mine = sighting (accepted_of t) (moment_of t) session.call })) core.links
+      ∙ at_source_twice from answered logged (λ link. text_number reply (record link { session = Some session; mine = place_kept link.over (sighting (accepted_of t) (moment_of t) session.call) })) core.links
 
   follows_login : (from : Source) (cut : Cut) (session : Session) (answer : Option FilterAnswer)
       → Follows s (after_login_answer from answer (after_login s.server from session core)) (Said from cut (LoggedIn session answer) ∷ t)

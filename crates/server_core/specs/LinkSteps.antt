@@ -17,7 +17,7 @@ use Rattle.dupe_window.specs.Windows.{expired, with_key}
 use Rattle.aprs_history.specs.declared.verdicts.FilterAnswer.{FilterAnswer}
 use Rattle.aprs_history.specs.declared.verdicts.FilterAnswer.TheVariants.{Active, Denied}
 use Rattle.aprs_history.specs.declared.verdicts.Session.{Session}
-use Rattle.aprs_history.specs.Stands.{LinkSeen, CoreSeen}
+use Rattle.aprs_history.specs.Stands.{LinkSeen, CoreSeen, friends_kept, place_kept}
 use Rattle.aprs_history.specs.Trace.{is_from, is_member}
 use Rattle.aprs_history.specs.Links.{Opening, has_filters, is_client_link, login_seconds, opened_at}
 use Rattle.aprs_history.specs.declared.verdicts.Verdict.{Verdict}
@@ -67,15 +67,15 @@ with_bytes moment held link = record link { last = moment; held = held }
 abbrev pub has_room : LinkSeen → Bool
 has_room link = not link.over && not (length link.queue.lines == most_waiting)
 
--- a line more to take, where it fits; from the first on that doesn't, none is added
+-- a line more to take, where it fits; from the first on that doesn't, none is added, and places don't count any more
 unfoldable pub with_text : List ℕ → LinkSeen → LinkSeen
 with_text line link =
     if link.over then link
-    else if length link.queue.lines == most_waiting then record link { over = true }
+    else if length link.queue.lines == most_waiting then record link { over = true; friends = []; mine = None }
     else record link { queue = with_line link.queue line }
 
 abbrev pub with_session : Session → Option Seen → List ℕ → LinkSeen → LinkSeen
-with_session session mine reply link = with_text reply (record link { session = Some session; mine = mine })
+with_session session mine reply link = with_text reply (record link { session = Some session; mine = place_kept link.over mine })
 
 -- where a call was last seen, by a table
 abbrev pub place_young : ℕ → StationsSeen → List ℕ → Option Seen
@@ -86,7 +86,7 @@ abbrev pub found_in : ℕ → StationsSeen → TermSeen → Option Seen
 found_in now stations term = option_and_then (place_young now stations) (named_call term.what)
 
 abbrev pub with_filter : List TermSeen → List (Option Seen) → List ℕ → LinkSeen → LinkSeen
-with_filter terms friends reply link = with_text reply (record link { filter = terms; friends = friends })
+with_filter terms friends reply link = with_text reply (record link { filter = terms; friends = friends_kept link.over friends })
 
 -- after an answer to a filter, where the calls that its terms name are found so
 abbrev pub with_answer : (TermSeen → Option Seen) → FilterAnswer → LinkSeen → LinkSeen
@@ -110,7 +110,8 @@ login_seen call seen (Some session) before = if is_text session.call call then S
 abbrev pub with_seen : List ℕ → Option Seen → LinkSeen → LinkSeen
 with_seen call None link = link
 with_seen call (Some seen) link =
-    record link { friends = map (friend_seen call seen) (zip link.filter link.friends); mine = login_seen call seen link.session link.mine }
+    if link.over then link
+    else record link { friends = map (friend_seen call seen) (zip link.filter link.friends); mine = login_seen call seen link.session link.mine }
 
 -- what an accepted packet says of where its source is
 abbrev pub with_places : PacketSeen → LinkSeen → LinkSeen

@@ -3,7 +3,7 @@ ghost use Rattle.std.specs.Prelude.{◌≡◌, ◌||◌, IsTrue, IfSome, is_some
 ghost use Rattle.std.specs.Arc.{arc_value};
 ghost use Rattle.std.specs.List.Sorted.{IsStrictlyIncreasing};
 ghost use Rattle.aprs_base.specs.Held.{held_after};
-ghost use Rattle.server_core.specs.LinkSteps.{at_moment, client_kept, has_room, is_asked_at, is_login, is_shown_at, speaker_kept, timeout_for, is_in_time, is_late_link, is_none_of, is_lost, is_nameless_link, is_ready, list_of, new_link_seen, number_of, passes_packet, takes_packet, takes_shown, wants_packet, when_gone, with_bytes, with_copy, with_date, with_filter, with_packet, with_room, with_seen, with_session, with_shown, with_taken, with_text};
+ghost use Rattle.server_core.specs.LinkSteps.{at_moment, client_kept, has_room, is_asked_at, is_login, is_shown_at, speaker_kept, timeout_for, is_in_time, is_late_link, is_none_of, is_lost, is_nameless_link, is_ready, list_of, new_link_seen, number_of, passes_packet, takes_packet, takes_shown, wants_packet, when_gone, with_bytes, with_copy, with_date, with_filter, with_packet, with_places, with_room, with_seen, with_session, with_shown, with_taken, with_text};
 ghost use Rattle.aprs_base.specs.Bytes.{is_station};
 ghost use Rattle.aprs_history.specs.Links.{has_filters};
 ghost use Rattle.aprs_history.specs.Setting.{is_filter_kind, is_only_kind};
@@ -79,7 +79,7 @@ pub(crate) struct Link {
 impl Model for Link {
     ghost use Rattle.std.specs.Prelude.{Some};
     ghost use Rattle.std.specs.Prelude.{◌≡◌, IsTrue, length};
-    ghost use Rattle.aprs_history.specs.Stands.{LinkSeen};
+    ghost use Rattle.aprs_history.specs.Stands.{LinkSeen, friends_kept, place_kept};
     ghost use Rattle.aprs_history.specs.Texts.{most_waiting};
     ghost use Rattle.server_core.specs.LinkSteps.{is_login};
 
@@ -92,8 +92,8 @@ impl Model for Link {
       held = l.cutter;
       session = l.session;
       filter = l.filter;
-      friends = l.friends;
-      mine = l.mine;
+      friends = friends_kept l.over l.friends;
+      mine = place_kept l.over l.mine;
       queue = record { lines = l.queue.lines; offset = l.queue.offset };
       over = l.over;
       blocked = l.blocked;
@@ -231,6 +231,7 @@ impl Link {
 
     /// Whether its filter passes a packet.
     fn passes(&self, packet: &Packet, source: &SourcePlace) -> bool
+        requires { self.now.over ≡ false }
         ensures { result ≡ passes_packet packet.now source.now self.now }
     {
         passes(
@@ -271,6 +272,7 @@ impl Link {
         hearers: &[u32],
         owed: &[u32],
     ) -> bool
+        requires open { self.now.over ≡ false }
         requires hearers { IsStrictlyIncreasing hearers.now }
         requires owed { IsStrictlyIncreasing owed.now }
         ensures { result ≡ opening_wants self.now.opening (is_some self.now.session) source.now.submitted (passes_packet packet.now source.now self.now || is_asked_at packet.now hearers.now owed.now self.now) }
@@ -287,13 +289,14 @@ impl Link {
     }
 
     /// Whether it is sent a packet.
-    pub fn wants(
+    fn wants(
         &self,
         packet: &Packet,
         source: &SourcePlace,
         hearers: &[u32],
         owed: &[u32],
     ) -> bool
+        requires open { self.now.over ≡ false }
         requires hearers { IsStrictlyIncreasing hearers.now }
         requires owed { IsStrictlyIncreasing owed.now }
         ensures { result ≡ wants_packet packet.now source.now hearers.now owed.now self.now }
@@ -315,6 +318,9 @@ impl Link {
         ensures ok { OnOk result (self.new ≡ with_copy packet.now source.now hearers.now owed.now self.old) }
         ensures took { IfOk result (λ took. took ≡ takes_packet packet.now source.now hearers.now owed.now self.old) }
     {
+        if self.over {
+            return Ok(false);
+        }
         if self.wants(packet, source, hearers, owed) {
             Ok(self.push(packet.line.clone()?))
         } else {
@@ -355,6 +361,7 @@ impl Link {
 
     /// A station was seen there.
     fn see(&mut self, call: &Call, seen: Seen)
+        requires { self.old.over ≡ false }
         ensures { self.new ≡ with_seen call.now (Some seen) self.old }
     {
         see_friend(call, seen, &self.filter, &mut self.friends);
@@ -363,7 +370,20 @@ impl Link {
         }
     }
 
-    /// Hears of an accepted packet: it takes it, where it wants it, and sees where its source is. Says whether it took it.
+    /// Sees where a packet's source is.
+    fn see_source(&mut self, packet: &Packet)
+        ensures { self.new ≡ with_places packet.now self.old }
+    {
+        if self.over {
+            return;
+        }
+        if let Some(seen) = seen_in(packet) {
+            self.see(&packet.parts.source, seen);
+        }
+    }
+
+    /// Hears of an accepted packet: it takes it, where it wants it, and sees where its source is; an overfull link does neither.
+    /// Says whether it took it.
     pub fn hear(
         &mut self,
         packet: &Packet,
@@ -378,9 +398,7 @@ impl Link {
         ensures took { IfOk result (λ took. took ≡ takes_packet packet.now source.now hearers.now owed.now self.old) }
     {
         let took = self.take_copy(packet, source, hearers, owed)?;
-        if let Some(seen) = seen_in(packet) {
-            self.see(&packet.parts.source, seen);
-        }
+        self.see_source(packet);
         Ok(took)
     }
 
