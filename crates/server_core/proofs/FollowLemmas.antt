@@ -266,7 +266,7 @@ filter_then_text terms friends line link =
     (cases_Bool link.over)
 
 -- an overfull link sees nothing
-over_unseen : (call : List ℕ) (told : Option Seen) (link : LinkSeen) → link.over ≡ true → link ≡ with_seen call told link
+pub over_unseen : (call : List ℕ) (told : Option Seen) (link : LinkSeen) → link.over ≡ true → link ≡ with_seen call told link
 over_unseen call None link over = refl
 over_unseen call (Some seen) link over = rw over refl
 
@@ -423,9 +423,9 @@ module _ (s : Setting) where
   pub stayed_seen : (t : Trace) (m j : ℕ) → moment_of (Ticked m ∷ t) ≡ moment_of t → link_seen s (Ticked m ∷ t) j ≡ link_seen s t j
   unfolding link_seen
   stayed_seen t m j same = ap (λ now. record (link_seen s t j) {
-        friends = friends_kept (text_to s t j).over (map (friend_in (accepted_of t) now) (filter_of t j));
-        mine = place_kept (text_to s t j).over (login_in (accepted_of t) now (session_of t j));
-      }) same
+    friends = friends_kept (text_to s t j).over (map (friend_in (accepted_of t) now) (filter_of t j));
+    mine = place_kept (text_to s t j).over (login_in (accepted_of t) now (session_of t j));
+  }) same
 
   -- a line that is refused without a reply, and one with a reply
   pub refused_seen : (t : Trace) (from : Source) (cut : Cut) (why : Refusal) (j : ℕ) → refused_lines t from why j ≡ (if is_from j from then reply_lines (refusal_reply why) else []) → None ≡ refusal_reply why

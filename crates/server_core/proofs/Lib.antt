@@ -1,5 +1,7 @@
+pub mod AskedLemmas
 pub mod CoreLemmas
 pub mod CountLemmas
+pub mod FedLemmas
 pub mod FollowLemmas
 pub mod HeardLemmas
 pub mod LinkLemmas

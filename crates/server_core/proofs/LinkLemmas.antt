@@ -101,7 +101,7 @@ mapped_at f [] i new d lt is = absurd (omega arith)
 mapped_at f (x ∷ xs) zero new d lt is = ap (λ y. y ∷ xs) is
 mapped_at f (x ∷ xs) (suc i) new d lt is = ap (λ ys. f x ∷ ys) (mapped_at f xs i new d (omega arith) is)
 
-get_mapped : {X : Type 0} (f : X → X) (xs : List X) (i : ℕ) (d : X) → i < length xs → get_or (map f (take i xs) ++ drop i xs) i d ≡ get_or xs i d
+pub get_mapped : {X : Type 0} (f : X → X) (xs : List X) (i : ℕ) (d : X) → i < length xs → get_or (map f (take i xs) ++ drop i xs) i d ≡ get_or xs i d
 get_mapped f [] i d lt = absurd (omega arith)
 get_mapped f (x ∷ xs) zero d lt = refl
 get_mapped f (x ∷ xs) (suc i) d lt = get_mapped f xs i d (omega arith)

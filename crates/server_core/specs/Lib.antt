@@ -1,3 +1,4 @@
+pub mod Fed
 pub mod ActsSeen
 pub mod Kept
 pub mod LinkSteps

@@ -1,11 +1,20 @@
 //! What the core keeps of a link.
-ghost use Rattle.std.specs.Prelude.{◌≡◌, ◌||◌, IsTrue, IfSome, is_some, ℕ, ◌≤◌, ◌<◌, List, ◌++◌, Some, None, OnOk, IfOk, length, min, take, option_map, true, false};
+ghost use Rattle.std.specs.Prelude.{◌≡◌, ◌||◌, IsTrue, IfSome, is_some, ℕ, ◌≤◌, ◌<◌, List, ◌++◌, Some, None, OnOk, IfOk, length, min, take, option_map, true, false, nat_lt, Option};
 ghost use Rattle.std.specs.Arc.{arc_value};
 ghost use Rattle.std.specs.List.Sorted.{IsStrictlyIncreasing};
 ghost use Rattle.aprs_base.specs.Held.{held_after};
 ghost use Rattle.server_core.specs.LinkSteps.{at_moment, client_kept, has_room, is_asked_at, is_login, is_shown_at, speaker_kept, timeout_for, is_in_time, is_late_link, is_none_of, is_lost, is_nameless_link, is_ready, list_of, new_link_seen, number_of, passes_packet, takes_packet, takes_shown, wants_packet, when_gone, with_bytes, with_copy, with_date, with_filter, with_packet, with_places, with_room, with_seen, with_session, with_shown, with_taken, with_text};
 ghost use Rattle.aprs_base.specs.Bytes.{is_station};
-ghost use Rattle.aprs_history.specs.Links.{has_filters};
+ghost use Rattle.aprs_history.specs.Links.{has_filters, is_client_of};
+ghost use Rattle.aprs_base.specs.PacketSeen.{PacketSeen};
+ghost use Rattle.aprs_history.specs.declared.verdicts.LinkKind.{LinkKind};
+ghost use Rattle.aprs_history.specs.declared.verdicts.Session.{Session};
+ghost use Rattle.filter_lang.specs.Terms.{TermSeen};
+ghost use Rattle.heard_routing.specs.Heard.{is_among};
+ghost use Rattle.server_core.specs.Fed.{IsOffer, Matches, SessionHalf, feed_of, offer_of, port_feed, seen_with};
+ghost use Rattle.worker_match.specs.Items.{item_seen};
+ghost use Rattle.worker_match.specs.Seen.{Came};
+ghost use Rattle.worker_match.specs.Walk.{after};
 ghost use Rattle.aprs_history.specs.Setting.{is_filter_kind, is_only_kind};
 ghost use Rattle.line_verdict.specs.Voices.{HasStation, visitor_voice, voice_of};
 ghost use Rattle.aprs_history.specs.Trace.{is_from, is_member};
@@ -20,19 +29,19 @@ ghost use Rattle.server_core.specs.Pending.{pending_bytes};
 ghost use Rattle.server_core.specs.Telling.{late_reason_kept};
 
 use crate::messages::{is_among, is_message_to};
-use crate::places::{forget_friends, see_friend, still_seen};
+use crate::places::{forget_friends, still_seen};
 use aprs_base::{Addr, Call, Cut, Cutter, Line, Memory, Packet, PortKind, Source, copy_call};
 use aprs_history::{EndReason, LinkKind, Session};
 use arrayvec::ArrayVec;
-use filter_eval::{Friends, Seen, passes};
+use filter_eval::{Friends, Seen};
 use filter_lang::FilterSet;
 use line_verdict::Voice;
 use link_queue::{Overfull, Queue};
 use q_construct::Origin;
-use station_table::seen_in;
 use std::alloc::Global;
 use std::marker::Model;
 use std::sync::Arc;
+use worker_match::{Feed, Item, LinkState};
 
 /// The most lines that a link hasn't wholly taken.
 const MOST_LINES: usize = 1000;
@@ -65,42 +74,66 @@ pub(crate) struct Link {
     pub last: u64,
     pub cutter: Cutter,
     pub session: Option<Session>,
-    pub filter: FilterSet,
-    /// Where the calls of the filter's terms were last seen, and its own login.
-    pub friends: Friends,
-    pub mine: Option<Seen>,
-    pub queue: Queue,
-    /// A line didn't fit into the queue: the link takes none any more, and ends with the round.
-    pub over: bool,
+    pub filter: Option<Arc<FilterSet>>,
     pub blocked: bool,
     pub gone: bool,
+    /// What it is fed, and its queue. Where a line didn't fit it is over: it takes none any more, and ends with the round.
+    pub state: LinkState,
 }
 
 impl Model for Link {
-    ghost use Rattle.std.specs.Prelude.{Some};
-    ghost use Rattle.std.specs.Prelude.{◌≡◌, IsTrue, length};
-    ghost use Rattle.aprs_history.specs.Stands.{LinkSeen, friends_kept, place_kept};
-    ghost use Rattle.aprs_history.specs.Texts.{most_waiting};
+    ghost use Rattle.std.specs.Prelude.{Some, ◌≡◌, IsTrue, option_map};
+    ghost use Rattle.std.specs.Arc.{arc_value};
+    ghost use Rattle.aprs_history.specs.Stands.{LinkSeen};
+    ghost use Rattle.server_core.specs.Fed.{Matches, seen_with};
     ghost use Rattle.server_core.specs.LinkSteps.{is_login};
 
     ghost Value = { LinkSeen };
 
-    ghost view = { λ l. record {
-      link = l.number;
+    ghost view = { λ l. seen_with (record {
       opening = Some (record { kind = l.kind; from = l.from; moment = l.opened });
       last = l.last;
       held = l.cutter;
       session = l.session;
-      filter = l.filter;
-      friends = friends_kept l.over l.friends;
-      mine = place_kept l.over l.mine;
-      queue = record { lines = l.queue.lines; offset = l.queue.offset };
-      over = l.over;
+      filter = option_map arc_value l.filter;
       blocked = l.blocked;
       gone = l.gone;
-    } };
+    }) l.state };
 
-    ghost invariant = { λ l. IsTrue (is_login l.session) × (length l.friends ≡ length l.filter) × (l.queue.limit ≡ most_waiting) };
+    ghost invariant = { λ l. IsTrue (is_login l.session) × (l.state.link ≡ l.number) × Matches l.kind l.session (option_map arc_value l.filter) l.state };
+}
+
+/// Whether a link of that kind was opened from the other side.
+fn is_inbound(kind: LinkKind) -> bool
+    ensures { result ≡ is_client_of kind }
+{
+    match kind {
+        LinkKind::Client(_) => true,
+        LinkKind::Uplink(_) => false,
+    }
+}
+
+/// What a client of a port is fed once it has logged in.
+fn port_feed(kind: PortKind) -> Feed
+    ensures { result ≡ port_feed kind }
+{
+    match kind {
+        PortKind::Full => Feed::Full,
+        PortKind::Igate | PortKind::Only => Feed::Filter,
+        PortKind::Dupe => Feed::Dupe,
+        PortKind::Submit | PortKind::Core => Feed::Nothing,
+    }
+}
+
+/// What a link is fed, logged in or not.
+fn feed_of(kind: LinkKind, session: &Option<Session>) -> Feed
+    ensures { result ≡ feed_of kind session.now }
+{
+    match kind {
+        LinkKind::Client(_) if session.is_none() => Feed::Nothing,
+        LinkKind::Client(port) => port_feed(port),
+        LinkKind::Uplink(_) => Feed::Up,
+    }
 }
 
 impl Link {
@@ -117,6 +150,21 @@ impl Link {
     {
         let mut queue = Queue::with_limit(alloc, MOST_LINES)?;
         queue.push(Arc::new(alloc, first)?).unwrap();
+        let state = LinkState {
+            link: number,
+            feed: feed_of(kind, &None),
+            inbound: is_inbound(kind),
+            alive: true,
+            over: false,
+            me: None,
+            filter: None,
+            friends: Friends {
+                at: ArrayVec::new(),
+            },
+            mine: None,
+            queue,
+            put: 0,
+        };
         Ok(Link {
             number,
             kind,
@@ -125,17 +173,10 @@ impl Link {
             last: moment,
             cutter: Cutter::new(),
             session: None,
-            filter: FilterSet {
-                terms: Vec::new(alloc),
-            },
-            friends: Friends {
-                at: ArrayVec::new(),
-            },
-            mine: None,
-            queue,
-            over: false,
+            filter: None,
             blocked: false,
             gone: false,
+            state,
         })
     }
 
@@ -162,20 +203,30 @@ impl Link {
         ensures number { self.new.link ≡ self.old.link }
         ensures exact { self.new ≡ with_session session mine (arc_value reply) self.old }
     {
+        self.state.me = Some(copy_call(&session.call));
         self.session = Some(session);
-        self.mine = mine;
+        self.state.feed = feed_of(self.kind, &self.session);
+        self.state.mine = mine;
         self.push(reply);
     }
 
     /// The link has another filter, and is told so. The calls of its terms were last seen there.
-    pub fn set_filter(&mut self, filter: FilterSet, friends: Friends, reply: Arc<Line>)
-        requires { length friends ≡ length filter }
+    pub fn set_filter(
+        &mut self,
+        filter: Arc<FilterSet>,
+        friends: Friends,
+        reply: Arc<Line>,
+    ) -> Result<(), Memory>
+        requires { length friends ≡ length (arc_value filter) }
         ensures number { self.new.link ≡ self.old.link }
-        ensures exact { self.new ≡ with_filter filter friends (arc_value reply) self.old }
+        ensures exact { OnOk result (self.new ≡ with_filter (arc_value filter) friends (arc_value reply) self.old) }
     {
-        self.filter = filter;
-        self.friends = friends;
+        let fed = filter.clone()?;
+        self.filter = Some(filter);
+        self.state.filter = Some(fed);
+        self.state.friends = friends;
         self.push(reply);
+        Ok(())
     }
 
     /// Whether its port has filters.
@@ -192,10 +243,7 @@ impl Link {
     pub fn is_client(&self) -> bool
         ensures { result ≡ client_kept self.now }
     {
-        match self.kind {
-            LinkKind::Client(_) => true,
-            LinkKind::Uplink(_) => false,
-        }
+        is_inbound(self.kind)
     }
 
     /// Who speaks on it.
@@ -229,21 +277,6 @@ impl Link {
         }
     }
 
-    /// Whether its filter passes a packet.
-    fn passes(&self, packet: &Packet, source: &SourcePlace) -> bool
-        requires { self.now.over ≡ false }
-        ensures { result ≡ passes_packet packet.now source.now self.now }
-    {
-        passes(
-            &self.filter,
-            packet,
-            &self.friends,
-            self.mine,
-            source.place,
-            source.gate,
-        )
-    }
-
     /// Whether the packet is a message to its own login.
     fn is_receiver(&self, packet: &Packet) -> bool
         ensures { result ≡ is_to_login packet.now self.now.session }
@@ -255,77 +288,12 @@ impl Link {
     }
 
     /// Whether the message rule asks for a packet, where these links heard its receiver and are owed it.
-    fn is_asked(&self, packet: &Packet, hearers: &[u32], owed: &[u32]) -> bool
+    pub fn is_asked(&self, packet: &Packet, hearers: &[u32], owed: &[u32]) -> bool
         requires hearers { IsStrictlyIncreasing hearers.now }
         requires owed { IsStrictlyIncreasing owed.now }
         ensures { result ≡ is_asked_at packet.now hearers.now owed.now self.now }
     {
         self.is_receiver(packet) || is_among(self.number, hearers) || is_among(self.number, owed)
-    }
-
-    /// Whether its port or the message rule asks for a packet that came from elsewhere, or it is an uplink and the packet was
-    /// submitted here.
-    fn opening_wants(
-        &self,
-        packet: &Packet,
-        source: &SourcePlace,
-        hearers: &[u32],
-        owed: &[u32],
-    ) -> bool
-        requires open { self.now.over ≡ false }
-        requires hearers { IsStrictlyIncreasing hearers.now }
-        requires owed { IsStrictlyIncreasing owed.now }
-        ensures { result ≡ opening_wants self.now.opening (is_some self.now.session) source.now.submitted (passes_packet packet.now source.now self.now || is_asked_at packet.now hearers.now owed.now self.now) }
-    {
-        match self.kind {
-            LinkKind::Client(PortKind::Full) => self.session.is_some(),
-            LinkKind::Client(PortKind::Igate | PortKind::Only) => {
-                self.session.is_some()
-                    && (self.passes(packet, source) || self.is_asked(packet, hearers, owed))
-            }
-            LinkKind::Client(PortKind::Dupe | PortKind::Submit | PortKind::Core) => false,
-            LinkKind::Uplink(_) => source.submitted,
-        }
-    }
-
-    /// Whether it is sent a packet.
-    fn wants(
-        &self,
-        packet: &Packet,
-        source: &SourcePlace,
-        hearers: &[u32],
-        owed: &[u32],
-    ) -> bool
-        requires open { self.now.over ≡ false }
-        requires hearers { IsStrictlyIncreasing hearers.now }
-        requires owed { IsStrictlyIncreasing owed.now }
-        ensures { result ≡ wants_packet packet.now source.now hearers.now owed.now self.now }
-    {
-        !is_from(self.number, &packet.from) && self.opening_wants(packet, source, hearers, owed)
-    }
-
-    /// Takes a packet, where it wants it, and says whether it did and the packet fitted.
-    fn take_copy(
-        &mut self,
-        packet: &Packet,
-        source: &SourcePlace,
-        hearers: &[u32],
-        owed: &[u32],
-    ) -> Result<bool, Memory>
-        requires hearers { IsStrictlyIncreasing hearers.now }
-        requires owed { IsStrictlyIncreasing owed.now }
-        ensures number { self.new.link ≡ self.old.link }
-        ensures ok { OnOk result (self.new ≡ with_copy packet.now source.now hearers.now owed.now self.old) }
-        ensures took { IfOk result (λ took. took ≡ takes_packet packet.now source.now hearers.now owed.now self.old) }
-    {
-        if self.over {
-            return Ok(false);
-        }
-        if self.wants(packet, source, hearers, owed) {
-            Ok(self.push(packet.line.clone()?))
-        } else {
-            Ok(false)
-        }
     }
 
     /// Whether it is shown a duplicate that is refused there.
@@ -359,65 +327,25 @@ impl Link {
         Ok(())
     }
 
-    /// A station was seen there.
-    fn see(&mut self, call: &Call, seen: Seen)
-        requires { self.old.over ≡ false }
-        ensures { self.new ≡ with_seen call.now (Some seen) self.old }
-    {
-        see_friend(call, seen, &self.filter, &mut self.friends);
-        if self.is_login(call) {
-            self.mine = Some(seen);
-        }
-    }
-
-    /// Sees where a packet's source is.
-    fn see_source(&mut self, packet: &Packet)
-        ensures { self.new ≡ with_places packet.now self.old }
-    {
-        if self.over {
-            return;
-        }
-        if let Some(seen) = seen_in(packet) {
-            self.see(&packet.parts.source, seen);
-        }
-    }
-
-    /// Hears of an accepted packet: it takes it, where it wants it, and sees where its source is; an overfull link does neither.
-    /// Says whether it took it.
-    pub fn hear(
-        &mut self,
-        packet: &Packet,
-        source: &SourcePlace,
-        hearers: &[u32],
-        owed: &[u32],
-    ) -> Result<bool, Memory>
-        requires hearers { IsStrictlyIncreasing hearers.now }
-        requires owed { IsStrictlyIncreasing owed.now }
+    /// Hears of an accepted packet, as it is offered to all links: it takes it, where it wants it, and sees where its source is;
+    /// an overfull link does neither. Says whether it took it.
+    pub fn hear(&mut self, item: &Item) -> Result<bool, Memory>
+        requires { IsOffer (item_seen item.now) }
         ensures number { self.new.link ≡ self.old.link }
-        ensures ok { OnOk result (self.new ≡ with_packet packet.now source.now hearers.now owed.now self.old) }
-        ensures took { IfOk result (λ took. took ≡ takes_packet packet.now source.now hearers.now owed.now self.old) }
+        ensures ok { (packet : PacketSeen) (source : SourcePlace) (hearers owed : List ℕ) (extra : List ℕ) → item_seen item.now ≡ Came (offer_of packet source extra)
+            → is_among self.old.link extra ≡ is_asked_at packet hearers owed self.old → OnOk result (self.new ≡ with_packet packet source hearers owed self.old) }
+        ensures took { (packet : PacketSeen) (source : SourcePlace) (hearers owed : List ℕ) (extra : List ℕ) → item_seen item.now ≡ Came (offer_of packet source extra)
+            → is_among self.old.link extra ≡ is_asked_at packet hearers owed self.old → IfOk result (λ took. took ≡ takes_packet packet source hearers owed self.old) }
     {
-        let took = self.take_copy(packet, source, hearers, owed)?;
-        self.see_source(packet);
-        Ok(took)
+        give(&mut self.state, item)
     }
 
     /// Lets go of positions that count no more.
     pub fn forget(&mut self, now: u64)
         ensures { self.new ≡ at_moment now self.old }
     {
-        forget_friends(now, &mut self.friends);
-        self.mine = still_seen(now, self.mine);
-    }
-
-    /// Whether it has logged in with this call.
-    fn is_login(&self, call: &Call) -> bool
-        ensures { result ≡ is_some_and (λ session. is_text session.call call.now) self.now.session }
-    {
-        match &self.session {
-            Some(session) => session.call == *call,
-            None => false,
-        }
+        forget_friends(now, &mut self.state.friends);
+        self.state.mine = still_seen(now, self.state.mine);
     }
 
     pub fn number(&self) -> u32
@@ -431,7 +359,7 @@ impl Link {
         ensures count { result ≡ min (length out.old) (length (pending_bytes self.now.queue)) }
         ensures bytes { take result out.new ≡ take (length out.old) (pending_bytes self.now.queue) }
     {
-        self.queue.front_bytes(out)
+        self.state.queue.front_bytes(out)
     }
 
     /// Takes a line, which it is sent after those before, and says whether it fitted. Where it doesn't the link is overfull,
@@ -441,16 +369,7 @@ impl Link {
         ensures exact { self.new ≡ with_text (arc_value line) self.old }
         ensures fitted { result ≡ has_room self.old }
     {
-        if self.over {
-            return false;
-        }
-        match self.queue.push(line) {
-            Ok(()) => true,
-            Err(Overfull) => {
-                self.over = true;
-                false
-            }
-        }
+        put(&mut self.state, line)
     }
 
     /// Whether it has not logged in for half a minute, or has brought no bytes for too long.
@@ -519,7 +438,7 @@ impl Link {
         requires pending { count ≤ length (pending_bytes self.old.queue) }
         ensures { self.new ≡ with_taken offered count self.old }
     {
-        self.queue.taken(count);
+        self.state.queue.taken(count);
         self.blocked = count < offered;
     }
 
@@ -534,8 +453,40 @@ impl Link {
     pub fn is_ready(&self) -> bool
         ensures { result ≡ is_ready self.now }
     {
-        !self.blocked && self.queue.pending() > 0
+        !self.blocked && self.state.queue.pending() > 0
     }
+}
+
+/// Puts a line into the queue, and says whether it fitted. Where it doesn't the link is over.
+fn put(state: &mut LinkState, line: Arc<Line>) -> bool
+    ensures number { state.new.link ≡ state.old.link }
+    ensures matches { (kind : LinkKind) (session : Option Session) (terms : Option (List TermSeen)) → Matches kind session terms state.old → Matches kind session terms state.new }
+    ensures exact { (half : SessionHalf) → state.old.queue.limit ≡ most_waiting → seen_with half state.new ≡ with_text (arc_value line) (seen_with half state.old) }
+    ensures fitted { (half : SessionHalf) → state.old.queue.limit ≡ most_waiting → result ≡ has_room (seen_with half state.old) }
+{
+    if state.over {
+        return false;
+    }
+    match state.queue.push(line) {
+        Ok(()) => true,
+        Err(Overfull) => {
+            state.over = true;
+            false
+        }
+    }
+}
+
+/// Offers a packet to what a link is fed, and says whether it was put into the queue.
+fn give(state: &mut LinkState, item: &Item) -> Result<bool, Memory>
+    requires { IsOffer (item_seen item.now) }
+    ensures number { state.new.link ≡ state.old.link }
+    ensures matches { (kind : LinkKind) (session : Option Session) (terms : Option (List TermSeen)) → Matches kind session terms state.old → Matches kind session terms state.new }
+    ensures ok { OnOk result (state.new ≡ after (record state.old { put = 0 }) (item_seen item.now)) }
+    ensures took { IfOk result (λ took. took ≡ nat_lt 0 (after (record state.old { put = 0 }) (item_seen item.now)).put) }
+{
+    state.put = 0;
+    state.take(item)?;
+    Ok(state.put > 0)
 }
 
 pub(crate) fn has_member(numbers: &[u32], number: u32) -> bool

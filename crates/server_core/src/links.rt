@@ -3,21 +3,27 @@ ghost use Rattle.std.specs.Prelude.{◌≡◌, ℕ, ◌≤◌, ◌<◌, ◌^◌,
 ghost use Rattle.std.specs.List.{prefix_len};
 ghost use Rattle.std.specs.List.Sorted.{IsStrictlyIncreasing};
 ghost use Rattle.std.specs.Arc.{arc_value};
-ghost use Rattle.server_core.specs.LinkSteps.{Rises, at_link, at_moment, client_at, clients_in, filters_at, has_number, list_of, login_kept, logins_at, other_login, others_at, number_of, has_that, held_at, is_another, is_in_time, is_late_link, is_none_of, is_overfull, is_ready, is_there, numbers, pending_at, speaker_at, submitted_from, takes_packet, takes_shown, when_gone, with_bytes, with_date, with_filter, with_packet, with_room, with_session, with_shown, with_taken, with_text};
+ghost use Rattle.server_core.specs.LinkSteps.{Rises, at_link, at_moment, client_at, clients_in, filters_at, has_number, list_of, login_kept, logins_at, other_login, others_at, number_of, has_that, held_at, is_another, is_asked_at, is_in_time, is_late_link, is_none_of, is_overfull, is_ready, is_there, numbers, pending_at, speaker_at, submitted_from, takes_packet, takes_shown, when_gone, with_bytes, with_date, with_filter, with_packet, with_room, with_session, with_shown, with_taken, with_text};
 ghost use Rattle.line_verdict.specs.Voices.{HasStation, voice_of};
 ghost use Rattle.aprs_base.specs.Bytes.{is_station};
 ghost use Rattle.aprs_base.specs.Cuts.{cuts_by};
 ghost use Rattle.aprs_base.specs.Held.{held_after};
 ghost use Rattle.aprs_history.specs.Trace.{placed, placed_all};
+ghost use Rattle.aprs_history.specs.Stands.{LinkSeen};
+ghost use Rattle.server_core.specs.Fed.{IsOffer, offer_of};
+ghost use Rattle.worker_match.specs.Items.{item_seen};
+ghost use Rattle.worker_match.specs.Seen.{Came};
 
 use crate::link::{Link, SourcePlace, Timeouts};
-use aprs_base::{Call, Cut, Line, Memory, Packet, Source};
+use crate::messages::is_message;
+use aprs_base::{Call, Cut, Line, Memory, Packet, Shared, Source};
 use aprs_history::Session;
 use filter_eval::{Friends, Seen};
 use filter_lang::FilterSet;
 use line_verdict::Voice;
 use std::alloc::Global;
 use std::sync::Arc;
+use worker_match::Item;
 
 /// Where the link of that number stands.
 pub(crate) fn place_of(links: &[Link], number: u32) -> Option<usize>
@@ -73,24 +79,99 @@ pub(crate) fn offer(links: &[Link], number: u32, out: &mut [u8]) -> usize
     }
 }
 
-/// All links hear of an accepted packet: those that want it take it. The message rule asks for it at `hearers` and `owed`.
+/// Whether the message rule can ask for the packet nowhere: it is no message, and nobody heard its receiver or is owed it.
+fn asks_nobody(packet: &Packet, hearers: &[u32], owed: &[u32]) -> bool
+    ensures { IsTrue result → (links : List LinkSeen) → filter (is_asked_at packet.now hearers.now owed.now) links ≡ [] }
+{
+    if is_message(packet) || !hearers.is_empty() {
+        return false;
+    }
+    owed.is_empty()
+}
+
+/// The numbers of the links that the message rule asks for, where these links heard the packet's receiver and are owed it.
+fn asked(
+    alloc: Global,
+    links: &[Link],
+    packet: &Packet,
+    hearers: &[u32],
+    owed: &[u32],
+) -> Result<Vec<u32>, Memory>
+    requires hearers { IsStrictlyIncreasing hearers.now }
+    requires owed { IsStrictlyIncreasing owed.now }
+    ensures { IfOk result (λ v. v.items ≡ numbers (filter (is_asked_at packet.now hearers.now owed.now) links.now)) }
+{
+    let mut numbers = Vec::new(alloc);
+    if asks_nobody(packet, hearers, owed) {
+        return Ok(numbers);
+    }
+    for link in links {
+        if link.is_asked(packet, hearers, owed) {
+            numbers.push(link.number())?;
+        }
+    }
+    Ok(numbers)
+}
+
+/// An accepted packet as it is offered to all links.
+fn offered(
+    alloc: Global,
+    links: &[Link],
+    packet: &Packet,
+    shared: &Shared,
+    source: &SourcePlace,
+    hearers: &[u32],
+    owed: &[u32],
+) -> Result<Item, Memory>
+    requires hearers { IsStrictlyIncreasing hearers.now }
+    requires owed { IsStrictlyIncreasing owed.now }
+    requires rises { Rises 0 (numbers links.now) (2 ^ 32) }
+    requires same { arc_value shared.now ≡ packet.now }
+    ensures exact { IfOk result (λ item. item_seen item ≡ Came (offer_of packet.now source.now (numbers (filter (is_asked_at packet.now hearers.now owed.now) links.now)))) }
+    ensures offer { IfOk result (λ item. IsOffer (item_seen item)) }
+{
+    let extra = asked(alloc, links, packet, hearers, owed)?;
+    Ok(Item::Packet {
+        packet: shared.clone()?,
+        dupe: false,
+        submitted: source.submitted,
+        known: source.place,
+        gate: source.gate,
+        extra,
+    })
+}
+
+/// All links hear of an accepted packet, which is shared: those that want it take it. The message rule asks for it at `hearers` and `owed`.
 /// Says how many took it.
 pub(crate) fn share(
+    alloc: Global,
     links: &mut Vec<Link>,
     packet: &Packet,
+    shared: &Shared,
     source: &SourcePlace,
     hearers: &[u32],
     owed: &[u32],
 ) -> Result<usize, Memory>
     requires hearers { IsStrictlyIncreasing hearers.now }
     requires owed { IsStrictlyIncreasing owed.now }
+    requires rises { Rises 0 (numbers links.old.items) (2 ^ 32) }
+    requires same { arc_value shared.now ≡ packet.now }
     ensures numbers { numbers links.new.items ≡ numbers links.old.items }
     ensures ok { OnOk result (links.new.items ≡ map (with_packet packet.now source.now hearers.now owed.now) links.old.items) }
     ensures took { IfOk result (λ count. count ≡ length (filter (takes_packet packet.now source.now hearers.now owed.now) links.old.items)) }
 {
+    let item = &offered(
+        alloc,
+        links.as_slice(),
+        packet,
+        shared,
+        source,
+        hearers,
+        owed,
+    )?;
     let mut count = 0;
     for link in links.iter_mut() {
-        let took = link.hear(packet, source, hearers, owed)?;
+        let took = link.hear(item)?;
         count += usize::from(took);
     }
     Ok(count)
@@ -192,7 +273,7 @@ pub(crate) fn overfull(alloc: Global, links: &[Link]) -> Result<Vec<u32>, Memory
 {
     let mut numbers = Vec::new(alloc);
     for link in links {
-        if link.over {
+        if link.state.over {
             numbers.push(link.number())?;
         }
     }
@@ -323,7 +404,7 @@ fn other_call(link: &Link, number: u32) -> Option<Call>
 pub(crate) fn others(alloc: Global, links: &[Link], number: u32) -> Result<Vec<Call>, Memory>
     ensures { IfOk result (λ calls. calls.items ≡ others_at number links.now) }
 {
-    let mut calls = Vec::new(alloc);
+    let mut calls = Vec::with_capacity(alloc, links.len())?;
     for link in links {
         if let Some(call) = other_call(link, number) {
             calls.push(call)?;
@@ -336,7 +417,7 @@ pub(crate) fn others(alloc: Global, links: &[Link], number: u32) -> Result<Vec<C
 pub(crate) fn logins(alloc: Global, links: &[Link]) -> Result<Vec<Call>, Memory>
     ensures { IfOk result (λ calls. calls.items ≡ logins_at links.now) }
 {
-    let mut calls = Vec::new(alloc);
+    let mut calls = Vec::with_capacity(alloc, links.len())?;
     for link in links {
         if let Some(call) = link.verified_call() {
             calls.push(call)?;
@@ -384,20 +465,18 @@ pub(crate) fn log_in(
 pub(crate) fn set_filter(
     links: &mut Vec<Link>,
     number: u32,
-    filter: FilterSet,
+    filter: Arc<FilterSet>,
     friends: Friends,
     reply: Arc<Line>,
-)
+) -> Result<(), Memory>
     requires rises { Rises 0 (numbers links.old.items) (2 ^ 32) }
-    requires many { length friends ≡ length filter }
+    requires many { length friends ≡ length (arc_value filter) }
     ensures numbers { numbers links.new.items ≡ numbers links.old.items }
-    ensures exact { links.new.items ≡ map (at_link number (with_filter filter friends (arc_value reply))) links.old.items }
+    ensures exact { OnOk result (links.new.items ≡ map (at_link number (with_filter (arc_value filter) friends (arc_value reply))) links.old.items) }
 {
     match place_of(links.as_slice(), number) {
-        Some(place) => {
-            links[place].set_filter(filter, friends, reply);
-        }
-        None => {}
+        Some(place) => links[place].set_filter(filter, friends, reply),
+        None => Ok(()),
     }
 }
 

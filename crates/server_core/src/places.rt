@@ -36,53 +36,6 @@ pub(crate) fn friends_found(stations: &Stations, now: u64, filter: &FilterSet) -
     Friends { at }
 }
 
-/// Whether the term names the call.
-fn is_named(call: &Call, term: &Term) -> bool
-    ensures { result ≡ is_named call.now term.now }
-{
-    match &term.what {
-        What::Friend { call: named, .. } => named == call,
-        What::ClassNear { call: named, .. } => named == call,
-        _ => false,
-    }
-}
-
-/// Where a term's call was last seen, once a station was seen.
-fn friend_seen(call: &Call, seen: Seen, term: &Term, friend: Option<Seen>) -> Option<Seen>
-    ensures { result ≡ friend_seen call.now seen (term.now, friend) }
-{
-    if is_named(call, term) {
-        Some(seen)
-    } else {
-        friend
-    }
-}
-
-/// The same for all terms.
-fn friends_seen(call: &Call, seen: Seen, terms: &[Term], friends: &mut [Option<Seen>])
-    requires { length friends.old ≡ length terms.now }
-    ensures seen { friends.new ≡ map (friend_seen call.now seen) (zip terms.now friends.old) }
-    ensures many { length friends.new ≡ length friends.old }
-{
-    for place in 0..terms.len() {
-        friends[place] = friend_seen(call, seen, &terms[place], friends[place]);
-    }
-}
-
-/// A station was seen there: so was a friend, where a term of the filter names it.
-pub(crate) fn see_friend(call: &Call, seen: Seen, filter: &FilterSet, friends: &mut Friends)
-    requires { length friends.old ≡ length filter.now }
-    ensures seen { friends.new ≡ map (friend_seen call.now seen) (zip filter.now friends.old) }
-    ensures many { length friends.new ≡ length friends.old }
-{
-    friends_seen(
-        call,
-        seen,
-        filter.terms.as_slice(),
-        friends.at.as_mut_slice(),
-    );
-}
-
 /// What still counts at `now`.
 pub(crate) fn still_seen(now: u64, seen: Option<Seen>) -> Option<Seen>
     ensures { result ≡ fresh now seen }

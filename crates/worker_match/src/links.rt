@@ -1,11 +1,11 @@
 //! A link, and what each item leaves of it.
-ghost use Rattle.std.specs.Prelude.{◌≡◌, if◌then◌else◌, IfOk, OnOk, Some, option_map};
+ghost use Rattle.std.specs.Prelude.{◌≡◌, if◌then◌else◌, IfOk, OnErr, OnOk, Some, option_map};
 ghost use Rattle.std.specs.Arc.{arc_value};
 ghost use Rattle.std.specs.List.Sorted.{IsStrictlyIncreasing};
 ghost use Rattle.filter_eval.specs.Passes.{passes_of};
 ghost use Rattle.worker_match.specs.Items.{item_seen};
 ghost use Rattle.worker_match.specs.Seen.{Became, Came, Ended};
-ghost use Rattle.worker_match.specs.Walk.{IsOrdered, feed_wants, is_chosen, is_open, met, terms_of, wants, with_copy, with_packet, with_seen, with_text};
+ghost use Rattle.worker_match.specs.Walk.{IsOrdered, after, feed_wants, is_chosen, is_open, met, terms_of, wants, with_copy, with_packet, with_seen, with_text};
 
 use crate::friends::{copy_friends, see_friends, see_mine};
 use crate::items::Item;
@@ -149,7 +149,8 @@ impl LinkState {
     /// Takes the packet's line, where it wants it.
     fn take_copy(&mut self, offer: &Offer) -> Result<(), Memory>
         requires { IsStrictlyIncreasing offer.now.extra }
-        ensures { OnOk result (self.new ≡ with_packet offer.now self.old) }
+        ensures ok { OnOk result (self.new ≡ with_packet offer.now self.old) }
+        ensures err { OnErr result (self.new ≡ self.old) }
     {
         if self.wants(offer) {
             let packet = offer.packet;
@@ -171,7 +172,8 @@ impl LinkState {
     /// Meets a packet: takes its line, where it wants it, and sees where its source is.
     fn meet_packet(&mut self, offer: &Offer) -> Result<(), Memory>
         requires { IsStrictlyIncreasing offer.now.extra }
-        ensures { OnOk result (self.new ≡ met (Came offer.now) self.old) }
+        ensures ok { OnOk result (self.new ≡ met (Came offer.now) self.old) }
+        ensures err { OnErr result (self.new ≡ self.old) }
     {
         self.take_copy(offer)?;
         if let Some(seen) = offer.told() {
@@ -183,7 +185,8 @@ impl LinkState {
 
     /// Takes a line, where it is for it.
     fn take_text(&mut self, is_for: bool, line: &Arc<Line>) -> Result<(), Memory>
-        ensures { OnOk result (self.new ≡ (if is_for then with_text (arc_value line.now) self.old else self.old)) }
+        ensures ok { OnOk result (self.new ≡ (if is_for then with_text (arc_value line.now) self.old else self.old)) }
+        ensures err { OnErr result (self.new ≡ self.old) }
     {
         if is_for {
             self.push(line.clone()?);
@@ -210,7 +213,8 @@ impl LinkState {
         friends: &Friends,
         mine: Option<Seen>,
     ) -> Result<(), Memory>
-        ensures { OnOk result (self.new ≡ met (Became (record { link = link; feed = feed; me = me.now; filter = option_map arc_value filter.now; friends = friends.now; mine = mine })) self.old) }
+        ensures ok { OnOk result (self.new ≡ met (Became (record { link = link; feed = feed; me = me.now; filter = option_map arc_value filter.now; friends = friends.now; mine = mine })) self.old) }
+        ensures err { OnErr result (self.new ≡ self.old) }
     {
         if self.link == link {
             self.filter = copy_filter(filter)?;
@@ -222,10 +226,24 @@ impl LinkState {
         Ok(())
     }
 
-    /// What an item leaves of it, where it lives and isn't over.
+    /// What an item leaves of it. `Memory` changes nothing.
+    pub fn take(&mut self, item: &Item) -> Result<(), Memory>
+        requires { IsOrdered (item_seen item.now) }
+        ensures ok { OnOk result (self.new ≡ after self.old (item_seen item.now)) }
+        ensures err { OnErr result (self.new ≡ self.old) }
+    {
+        if self.is_open() {
+            self.meet(item)
+        } else {
+            Ok(())
+        }
+    }
+
+    /// The same, where it lives and isn't over.
     pub(crate) fn meet(&mut self, item: &Item) -> Result<(), Memory>
         requires { IsOrdered (item_seen item.now) }
-        ensures { OnOk result (self.new ≡ met (item_seen item.now) self.old) }
+        ensures ok { OnOk result (self.new ≡ met (item_seen item.now) self.old) }
+        ensures err { OnErr result (self.new ≡ self.old) }
     {
         match item {
             Item::Text { link, line } => self.take_text(self.link == *link, line),

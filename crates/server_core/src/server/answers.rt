@@ -102,8 +102,8 @@ impl Core {
     {
         let friends = friends_found(&self.stations, self.moment, &filter);
         let line = Arc::new(alloc, line)?;
-        set_filter(&mut self.links, number, filter, friends, line);
-        Ok(())
+        let filter = Arc::new(alloc, filter)?;
+        set_filter(&mut self.links, number, filter, friends, line)
     }
 
     /// The answer to a filter.

@@ -14,7 +14,7 @@ use crate::conf::peers_of;
 use crate::link::SourcePlace;
 use crate::links::{is_submitted, share};
 use crate::messages::{hearers_of, is_position, note_from, owed_to, promise_all, receiver_of};
-use aprs_base::{Line, Memory, Packet, Parts, Source};
+use aprs_base::{Line, Memory, Packet, Parts, Shared, Source};
 use aprs_body::classify;
 use aprs_history::Verdict;
 use dupe_window::Key;
@@ -103,28 +103,32 @@ impl Core {
         Ok(())
     }
 
-    /// An accepted packet goes to the links that want it and to the peers, tells where its source is, is counted, and is kept.
-    fn keep(&mut self, alloc: Global, packet: Packet) -> Result<(), Memory>
-        requires now { packet.moment ≡ self.old.seen.moment }
-        requires new { has_copy self.old.seen.moment self.old.seen.window packet.parts ≡ false }
-        ensures { OnOk result (self.new ≡ record self.old { seen = after_packet (map peer_of self.old.conf.peers) packet self.old.seen }) }
+    /// An accepted packet, which is shared, goes to the links that want it and to the peers, tells where its source is, is
+    /// counted, and is kept.
+    fn keep(&mut self, alloc: Global, packet: &Packet, shared: &Shared) -> Result<(), Memory>
+        requires same { arc_value shared.now ≡ packet.now }
+        requires now { packet.now.moment ≡ self.old.seen.moment }
+        requires new { has_copy self.old.seen.moment self.old.seen.window packet.now.parts ≡ false }
+        ensures { OnOk result (self.new ≡ record self.old { seen = after_packet (map peer_of self.old.conf.peers) packet.now self.old.seen }) }
     {
-        let source = self.source_of(&packet);
-        let to = receiver_of(&packet);
+        let source = self.source_of(packet);
+        let to = receiver_of(packet);
         let hearers = hearers_of(alloc, &self.heard, self.moment, &to)?;
-        let owed = self.spend(alloc, &packet)?;
-        self.promise(alloc, &packet, hearers.as_slice())?;
-        self.cast(&packet, source.submitted)?;
+        let owed = self.spend(alloc, packet)?;
+        self.promise(alloc, packet, hearers.as_slice())?;
+        self.cast(packet, source.submitted)?;
         let takers = share(
+            alloc,
             &mut self.links,
-            &packet,
+            packet,
+            shared,
             &source,
             hearers.as_slice(),
             owed.as_slice(),
         )?;
         self.totals.accepted = raised(self.totals.accepted, 1);
         self.totals.queued = raised(self.totals.queued, takers);
-        self.stations.note(alloc, &packet)?;
+        self.stations.note(alloc, packet)?;
         self.window.insert(Key::of(&packet.parts), packet.moment)?;
         Ok(())
     }
@@ -142,6 +146,7 @@ impl Core {
     {
         let line = Arc::new(alloc, line)?;
         let packet = packet_from(from, self.moment, parts, line);
-        self.keep(alloc, packet)
+        let shared = Arc::new(alloc, packet)?;
+        self.keep(alloc, &shared, &shared)
     }
 }

@@ -1,4 +1,5 @@
 use Rattle.std.proofs.Common.{◌^◌, ap, ◌∙◌}
+use Rattle.std.proofs.lemmas.Result.{on_ok_weaker}
 use Rattle.std.proofs.Math.Seq.{map-set_same}
 use Rattle.std.specs.Arc.{arc_value}
 use Rattle.std.specs.List.{position}
@@ -15,8 +16,10 @@ returns-in-Some-clause-numbers c = map-set_same number_of c.args.links.now.items
 pub returns-in-Some-clause-exact : goal.returns-in-Some-clause-exact
 returns-in-Some-clause-exact c =
     let found = c.in-Some.ensures ∙ ap (position (has_that c.args.number)) c.as_slice.ensures.value in
-    changed_by c.args.number (with_filter c.args.filter c.args.friends (arc_value c.args.reply)) (2 ^ 32) c.args.links.now.items c.in-Some.place c.index_mut.result.now c.set_filter.new.self c.requires.rises
-    found c.index_mut.ensures.value c.set_filter.ensures.exact
+    on_ok_weaker c.set_filter.result
+    (changed_by c.args.number (with_filter (arc_value c.args.filter) c.args.friends (arc_value c.args.reply)) (2 ^ 32) c.args.links.now.items c.in-Some.place c.index_mut.result.now c.set_filter.new.self c.requires.rises
+    found c.index_mut.ensures.value)
+    c.set_filter.ensures.exact
 
 pub returns-in-None-clause-exact : goal.returns-in-None-clause-exact
-returns-in-None-clause-exact c = changed_nowhere c.args.number (with_filter c.args.filter c.args.friends (arc_value c.args.reply)) c.args.links.now.items (c.in-None.ensures ∙ ap (position (has_that c.args.number)) c.as_slice.ensures.value)
+returns-in-None-clause-exact c = changed_nowhere c.args.number (with_filter (arc_value c.args.filter) c.args.friends (arc_value c.args.reply)) c.args.links.now.items (c.in-None.ensures ∙ ap (position (has_that c.args.number)) c.as_slice.ensures.value)

@@ -1,18 +1,22 @@
-use Rattle.std.proofs.Common.{◌≡◌, ◌∙◌, ap, false, subst, sym}
+use Rattle.std.proofs.Common.{◌≡◌, ◌∙◌, ◌^◌, ap, arith, false, subst, sym}
 use Rattle.aprs_base.specs.PacketSeen.{PacketSeen}
 use Rattle.dupe_window.specs.Keys.{key_of}
-use Rattle.dupe_window.specs.Windows.{WindowSeen, has_copy, kept_at, with_key}
+use Rattle.dupe_window.specs.Windows.{has_copy, kept_at, with_key}
 use Rattle.server_core.specs.Kept.{IsCurrent}
 use Rattle.server_core.specs.LinkSteps.{Rises}
 use Rattle.server_core.specs.Meaning.{CoreMeaning}
+use Rattle.server_core.proofs.LinkLemmas.{rises_to}
 use Rattle.server_core.proofs.WindowLemmas.{current_with, not_kept}
 use Rattle.server_core.proofs.server.Core.keep.Goals as goal
+
+pub share-requires-clause-rises : goal.share-requires-clause-rises
+share-requires-clause-rises c = rises_to 0 c.self-2.inside.greatest (2 ^ 32) _ c.self-2.invariant.rising (let small = c.self-2.invariant.small in omega arith)
 
 pub insert-requires-clause-new : goal.insert-requires-clause-new
 insert-requires-clause-new c =
     let now = c.self-2.inside.moment in
     let window = c.self-2.inside.window in
-    let parts = c.args.packet.parts in
+    let parts = c.args.packet.now.parts in
     let moments = λ (core : CoreMeaning). core.seen.moment in
     let windows = λ (core : CoreMeaning). core.seen.window in
     let at : now ≡ c.args.self.now.seen.moment = ap moments c.self-2.view_is ∙ ap moments c.in_ok-cast.ensures ∙ ap moments c.in_ok-promise.ensures ∙ ap moments c.in_ok-owed.ensures.spent in

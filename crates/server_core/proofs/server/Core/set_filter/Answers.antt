@@ -1,4 +1,5 @@
 use Rattle.std.proofs.Common.{◌^◌, ◌∙◌, ap, arith, map}
+use Rattle.std.proofs.lemmas.Result.{on_ok_weaker}
 use Rattle.aprs_base.specs.declared.packets.Source.TheVariants as source
 use Rattle.std.specs.Arc.{arc_value}
 use Rattle.aprs_history.specs.declared.verdicts.FilterAnswer.TheVariants.{Active}
@@ -17,7 +18,10 @@ pub returns : goal.returns
 returns c =
     let i = c.self.inside in
     let core : CoreMeaning = record { conf = i.conf; seen = record { moment = i.moment; links = i.links.items; turned = i.turned.items; closing = i.closing.items; window = i.window; stations = i.stations; heard = i.heard; reach = i.reach; greatest = i.greatest; stopped = i.stopped; totals = i.totals } } in
-    ap (λ links. relinked links core) (c.set_filter.ensures.exact
+    on_ok_weaker c.set_filter.result
+    (λ exact. ap (λ links. relinked links core) (exact
+    ∙ ap (λ terms. map (at_link c.args.number (with_filter terms c.friends_found-friends.result (arc_value c.in_ok-line.line))) i.links.items) c.in_ok-filter.ensures.ok
     ∙ ap (λ friends. map (at_link c.args.number (with_filter c.args.filter friends (arc_value c.in_ok-line.line))) i.links.items) c.friends_found-friends.ensures
     ∙ ap (λ line. map (at_link c.args.number (with_filter c.args.filter (map (found_in i.moment i.stations) c.args.filter) line)) i.links.items) c.in_ok-line.ensures.ok)
-    ∙ ap (with_verdict (source.Link c.args.number) (Filtered (Active c.args.filter c.args.line))) c.self.view_is
+    ∙ ap (with_verdict (source.Link c.args.number) (Filtered (Active c.args.filter c.args.line))) c.self.view_is)
+    c.set_filter.ensures.exact
