@@ -1,0 +1,8 @@
+//! What the links of a server are fed: their queues, and what came to them since it was last matched.
+#![tactic(auto)]
+
+mod feeds;
+#[cfg(test)]
+mod tests;
+
+pub use feeds::Feeds;

@@ -1,0 +1,79 @@
+//! Links that are fed, by hand.
+use crate::Feeds;
+use aprs_base::{Line, OpenGate};
+use std::alloc::Global;
+use std::process::Abort;
+use std::sync::Arc;
+use std::test::Fail;
+use worker_match::Item;
+
+fn line<R: Abort>(rt: &R, alloc: Global, text: &[u8]) -> Result<Arc<Line>, Fail> {
+    Ok(Arc::new(alloc, Line::new(text).expect(rt, "a line"))?)
+}
+
+/// Two clients and an uplink, each with its first line.
+fn three<R: Abort>(rt: &R, alloc: Global) -> Result<Feeds, Fail> {
+    let mut feeds = Feeds::new(alloc);
+    feeds.open(alloc, 3, true, line(rt, alloc, b"# a")?)?;
+    feeds.open(alloc, 5, true, line(rt, alloc, b"# b")?)?;
+    feeds.open(alloc, 9, false, line(rt, alloc, b"user T2TEST")?)?;
+    Ok(feeds)
+}
+
+/// What the link at that place has to take is this.
+fn has(feeds: &Feeds, place: usize, want: &[u8]) -> bool {
+    let mut out = [0u8; 64];
+    let count = feeds.front_bytes(place, &mut out);
+    feeds.pending(place) == want.len() && out.get(..count) == Some(want)
+}
+
+#[test]
+fn takes_its_first_line_and_what_comes(rt: HostRuntime) -> Result<(), Fail> {
+    let alloc = rt.alloc();
+    for workers in [1, 2, 64] {
+        let mut feeds = three(&rt, alloc)?;
+        assert!(rt; has(&feeds, 0, b"# a\r\n"));
+        feeds.bring(Item::Text {
+            link: 5,
+            line: line(&rt, alloc, b"one")?,
+        })?;
+        feeds.bring(Item::All {
+            line: line(&rt, alloc, b"all")?,
+        })?;
+        feeds.bring(Item::Text {
+            link: 3,
+            line: line(&rt, alloc, b"two")?,
+        })?;
+        feeds.settle(&rt, workers, &OpenGate)?;
+        assert!(rt; has(&feeds, 0, b"# a\r\nall\r\ntwo\r\n"));
+        assert!(rt; has(&feeds, 1, b"# b\r\none\r\nall\r\n"));
+        assert!(rt; has(&feeds, 2, b"user T2TEST\r\n"));
+        feeds.taken(0, 7);
+        assert!(rt; has(&feeds, 0, b"l\r\ntwo\r\n"));
+        feeds.settle(&rt, workers, &OpenGate)?;
+        assert!(rt; has(&feeds, 1, b"# b\r\none\r\nall\r\n"));
+    }
+    Ok(())
+}
+
+#[test]
+fn is_over_where_a_thousand_lines_wait(rt: HostRuntime) -> Result<(), Fail> {
+    let alloc = rt.alloc();
+    let mut feeds = three(&rt, alloc)?;
+    for _ in 0..999 {
+        feeds.bring(Item::Text {
+            link: 3,
+            line: line(&rt, alloc, b"x")?,
+        })?;
+    }
+    feeds.settle(&rt, 4, &OpenGate)?;
+    assert!(rt; !feeds.is_over(0));
+    feeds.bring(Item::Text {
+        link: 3,
+        line: line(&rt, alloc, b"y")?,
+    })?;
+    feeds.settle(&rt, 4, &OpenGate)?;
+    assert!(rt; feeds.is_over(0) && !feeds.is_over(1));
+    assert!(rt; feeds.pending(0) == 5 + 999 * 3);
+    Ok(())
+}
