@@ -69,6 +69,20 @@ impl Feeds {
         }
     }
 
+    /// How many links there are.
+    pub fn len(&self) -> usize
+        ensures { result ≡ length self.now.links }
+    {
+        self.states.len()
+    }
+
+    /// Whether all that came is matched.
+    pub fn is_settled(&self) -> bool
+        ensures { result ≡ self.now.settled }
+    {
+        self.items.is_empty()
+    }
+
     /// A link comes, which is fed nothing yet and has this line to take first. What came before must have been matched.
     /// `Memory` changes nothing.
     pub fn open(
