@@ -142,6 +142,33 @@ fn tries(alloc: Global) -> Result<Vec<Event>, Fail> {
     Ok(events.to_vec(alloc)?)
 }
 
+/// These events came.
+fn all_came(alloc: Global, events: &[Event], happenings: &mut Vec<Happening>) -> Result<(), Fail> {
+    for event in events {
+        happenings.push(came(alloc, event)?)?;
+    }
+    Ok(())
+}
+
+/// What happens after the listeners.
+fn dialled_in_turn(alloc: Global) -> Result<Vec<Happening>, Fail> {
+    let mut all = Vec::new(alloc);
+    all_came(alloc, &[Event::Tick(1000)], &mut all)?;
+    all.push(Happening::Dialled(0))?;
+    let later = [Event::Unjoined(0), Event::Tick(1009), Event::Tick(1010)];
+    all_came(alloc, &later, &mut all)?;
+    all.push(Happening::Dialled(1))?;
+    all_came(alloc, &[joined_up(1, 1), Event::Tick(1010)], &mut all)?;
+    let login = Text::copied(alloc, UPLINK_LOGIN)?;
+    all.push(Happening::Sent(1, login, Sent::Took(38)))?;
+    all_came(alloc, &[Event::Tick(1025)], &mut all)?;
+    all.push(Happening::Closed(1))?;
+    all_came(alloc, &[Event::Tick(1035)], &mut all)?;
+    all.push(Happening::Dialled(0))?;
+    all_came(alloc, &[Event::Stop], &mut all)?;
+    Ok(all)
+}
+
 #[test]
 fn dials_its_uplinks_in_turn(rt: HostRuntime) -> Result<(), Fail> {
     let alloc = rt.alloc();
@@ -153,22 +180,7 @@ fn dials_its_uplinks_in_turn(rt: HostRuntime) -> Result<(), Fail> {
         tries(alloc)?,
         Outside::well(alloc),
     )?;
-    let want = [
-        came(alloc, &Event::Tick(1000))?,
-        Happening::Dialled(0),
-        came(alloc, &Event::Unjoined(0))?,
-        came(alloc, &Event::Tick(1009))?,
-        came(alloc, &Event::Tick(1010))?,
-        Happening::Dialled(1),
-        came(alloc, &joined_up(1, 1))?,
-        came(alloc, &Event::Tick(1010))?,
-        Happening::Sent(1, Text::copied(alloc, UPLINK_LOGIN)?, Sent::Took(38)),
-        came(alloc, &Event::Tick(1025))?,
-        Happening::Closed(1),
-        came(alloc, &Event::Tick(1035))?,
-        Happening::Dialled(0),
-        came(alloc, &Event::Stop)?,
-    ];
+    let want = dialled_in_turn(alloc)?;
     assert!(rt; left.done.as_slice().get(5..) == Some(want.as_slice()));
     let hosts: [(&[u8], u16); 3] = [
         (b"10.0.0.9", 10152),
