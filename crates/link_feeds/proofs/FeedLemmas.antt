@@ -1,7 +1,11 @@
 -- What comes to links, matched at once or later.
-use Rattle.std.proofs.Common.{◌≡◌, ℕ, true, false, List, [], ◌∷◌, ◌++◌, length, map, refl, sym, ap, ◌∙◌, subst, take, drop, take_all, append-nil, arith, slice_set}
+use Rattle.std.proofs.Common.{◌≡◌, ℕ, ◌+◌, ◌-◌, ◌^◌, ◌<◌, ◌≤◌, true, false, List, [], ◌∷◌, ◌++◌, length, map, refl, sym, ap, ◌∙◌, subst, take, drop, take_all, append-nil, arith, slice_set, slice_get, get_or, Some, min, nat_le, ⊎_elim}
+use Rattle.std.specs.List.{sum_by}
+use Rattle.std.proofs.Math.Nat.{min-eq_left, min-eq_right}
+use Rattle.std.proofs.lemmas.Option.{get_or_from_slice_get}
+use Rattle.std.proofs.lemmas.List.Sums.{sum_by_more}
 use Rattle.std.specs.List.{All}
-use Rattle.std.proofs.lemmas.Bool.{true≢false}
+use Rattle.std.proofs.lemmas.Bool.{cases_Bool, leb-true, leb-false, true≢false}
 use Rattle.std.proofs.lemmas.List.{drop_all, map-append}
 use Rattle.std.proofs.lemmas.List.Elements.{All-append, All-cons, All-nil}
 use Rattle.std.proofs.lemmas.List.Sums.{fold-append}
@@ -10,7 +14,8 @@ use Rattle.worker_match.specs.Items.{item_seen, items_seen}
 use Rattle.worker_match.specs.declared.items.Item.{Item}
 use Rattle.worker_match.specs.Seen.{LinkSeen, ItemSeen}
 use Rattle.worker_match.specs.Walk.{IsOrdered, after, walked}
-use Rattle.link_feeds.specs.Feeds.{is_nothing, met_by, seen_after, with_taken}
+use Rattle.worker_match.proofs.WalkLemmas.{get_mapped}
+use Rattle.link_feeds.specs.Feeds.{FeedsSeen, is_nothing, met_by, put_in, put_of, seen_after, with_taken}
 
 -- all items that came are in order, and so are they with one more
 pub one_ordered : (item : Item) → IsOrdered (item_seen item) → All IsOrdered (items_seen (item ∷ []))
@@ -61,8 +66,56 @@ standing (item ∷ items) links nothing = absurd (true≢false (sym nothing))
 pub queue_taken : (inside link : LinkSeen) (n : ℕ) (queue : QueueSeen) → inside ≡ link → queue ≡ without_bytes n inside.queue → record inside { queue = queue } ≡ with_taken n link
 queue_taken inside link n queue is taken = ap (λ (q : QueueSeen). record inside { queue = q }) taken ∙ ap (with_taken n) is
 
-pub taken_at : (items : List ItemSeen) (states : List LinkSeen) (place : ℕ) (new changed : LinkSeen) → is_nothing items ≡ true → new ≡ changed
-    → seen_after (slice_set states place new) items ≡ record { links = slice_set states place changed; settled = true }
-taken_at items states place new changed nothing is =
-    ap (λ (links : List LinkSeen). record { links = links; settled = is_nothing items }) (standing items (slice_set states place new) nothing ∙ ap (slice_set states place) is)
-    ∙ ap (λ b. record { links = slice_set states place changed; settled = b }) nothing
+module _ (items : List ItemSeen) (states : List LinkSeen) (seen : FeedsSeen) (is : seen_after states items ≡ seen) (settled : seen.settled ≡ true) where
+  pub nothing_left : is_nothing items ≡ true
+  nothing_left = ap (λ (feeds : FeedsSeen). feeds.settled) is ∙ settled
+
+  -- all that came is matched: links are seen as they stand
+  pub seen_standing : seen.links ≡ states
+  seen_standing = ap (λ (feeds : FeedsSeen). feeds.links) (sym is) ∙ standing items states nothing_left
+
+  -- and so they are once they were written
+  pub written : (f : List LinkSeen → List LinkSeen) (new : List LinkSeen) → new ≡ f states → seen_after new items ≡ record seen { links = f seen.links }
+  written f new changed =
+      ap (λ (links : List LinkSeen). record { links = links; settled = is_nothing items }) (standing items new nothing_left ∙ changed ∙ ap f (sym seen_standing))
+      ∙ ap (λ b. record { links = f seen.links; settled = b }) (nothing_left ∙ sym settled)
+
+  -- the same, where all of them were written through a slice
+  pub all_changed : (f : List LinkSeen → List LinkSeen) (size : ℕ) (new old : List LinkSeen) → length new ≡ length states → size ≡ length states → old ≡ states → new ≡ f old
+      → seen_after (take size (new ++ drop (length new) states)) items ≡ record seen { links = f seen.links }
+  all_changed f size new old many whole at changed = written f (take size (new ++ drop (length new) states)) (all_written size new states many whole ∙ changed ∙ ap f at)
+
+  -- and where one was
+  pub written_at : (place : ℕ) (changed new : LinkSeen) → new ≡ changed → seen_after (slice_set states place new) items ≡ record seen { links = slice_set seen.links place changed }
+  written_at place changed new is = written (λ links. slice_set links place changed) (slice_set states place new) (ap (slice_set states place) is)
+
+  pub changed_there : (f : LinkSeen → LinkSeen) (place : ℕ) (link old new : LinkSeen) → slice_get seen.links place ≡ Some link → old ≡ get_or states place old → new ≡ f old
+      → seen_after (slice_set states place new) items ≡ record seen { links = slice_set seen.links place (f link) }
+  changed_there f place link old new there at changed =
+      let same : old ≡ link = at ∙ get_or_from_slice_get states place link old (ap (λ links. slice_get links place) (sym seen_standing) ∙ there) in
+      written_at place (f link) new (changed ∙ ap f same)
+
+-- ---- what was put
+
+-- a sum that stays at a counter's last value
+pub capped : (a b m : ℕ) → min (min a m + b) m ≡ min (a + b) m
+capped a b m =
+    ⊎_elim
+    (λ (le : nat_le a m ≡ true). ap (λ n. min (n + b) m) (min-eq_left (leb-true a m le)))
+    (λ (gt : nat_le a m ≡ false).
+    let above : m ≤ a = let lt = leb-false a m gt in omega arith in
+    ap (λ n. min (n + b) m) (min-eq_right above)
+    ∙ min-eq_right (let here : m ≤ m + b = omega arith in here)
+    ∙ sym (min-eq_right (let here : m ≤ a + b = omega arith in here)))
+    (cases_Bool (nat_le a m))
+
+pub put_more : (links : List LinkSeen) (i : ℕ) (d : LinkSeen) (sum put new : ℕ) → i < length links → sum ≡ put_in (take i links) → put ≡ put_of (get_or links i d) → new ≡ min (sum + put) (2 ^ 64 - 1)
+    → new ≡ put_in (take (i + 1) links)
+put_more links i d sum put new lt so_far at is =
+    is ∙ ap (λ n. min (n + put) (2 ^ 64 - 1)) so_far ∙ capped (sum_by put_of (take i links)) put (2 ^ 64 - 1)
+    ∙ ap (λ n. min (sum_by put_of (take i links) + n) (2 ^ 64 - 1)) at
+    ∙ ap (λ n. min n (2 ^ 64 - 1)) (sym (sum_by_more put_of links i d lt))
+
+-- what is left of a list that a loop changes from the front is as it was
+pub at_old : (f : LinkSeen → LinkSeen) (xs ys : List LinkSeen) (i : ℕ) (d : LinkSeen) → i < length xs → ys ≡ map f (take i xs) ++ drop i xs → get_or ys i d ≡ get_or xs i d
+at_old f xs ys i d lt is = ap (λ zs. get_or zs i d) is ∙ get_mapped f xs i d lt

@@ -1,9 +1,13 @@
 -- The links with all that came to them, whether it was matched yet or not.
-use Rattle.std.specs.Prelude.{ℕ, Bool, true, false, List, [], ◌∷◌, map, None}
+use Rattle.std.specs.Prelude.{ℕ, ◌^◌, ◌-◌, ◌==◌, Bool, true, false, not, min, List, [], ◌∷◌, map, Option, Some, None}
+use Rattle.std.specs.List.{list_any, sum_by}
+use Rattle.filter_lang.specs.Terms.{TermSeen}
+use Rattle.filter_eval.specs.Passes.{fresh}
+use Rattle.filter_eval.specs.declared.seen.Seen.{Seen}
 use Rattle.link_queue.specs.Queues.{without_bytes}
-use Rattle.worker_match.specs.Seen.{LinkSeen, ItemSeen}
+use Rattle.worker_match.specs.Seen.{LinkSeen, ItemSeen, Told}
 use Rattle.worker_match.specs.Walk.{after, walked}
-use Rattle.worker_match.specs.declared.links.Feed.TheVariants as feed
+use Rattle.worker_match.specs.declared.links.Feed.{Feed}
 
 -- the links as what came leaves them, and whether all of it was matched
 pub record FeedsSeen : Type 0 where
@@ -21,11 +25,11 @@ seen_after links items = record { links = map (walked items) links; settled = is
 abbrev pub met_by : ItemSeen → List LinkSeen → List LinkSeen
 met_by item links = map (λ link. after link item) links
 
--- a link that has just come: it is fed nothing yet, and has its first line to take
-abbrev pub new_feed : ℕ → Bool → List ℕ → LinkSeen
-new_feed number inbound first = record {
+-- a link that has just come: it is fed so, and has its first line to take
+abbrev pub new_feed : ℕ → Feed → Bool → List ℕ → LinkSeen
+new_feed number feed inbound first = record {
   link = number;
-  feed = feed.Nothing;
+  feed = feed;
   inbound = inbound;
   alive = true;
   over = false;
@@ -40,3 +44,40 @@ new_feed number inbound first = record {
 -- so many bytes were taken of its queue
 abbrev pub with_taken : ℕ → LinkSeen → LinkSeen
 with_taken n link = record link { queue = without_bytes n link.queue }
+
+-- a line for it alone
+abbrev pub told : List ℕ → LinkSeen → LinkSeen
+told line link = after link (Told link.link line)
+
+-- it has logged in: it is fed so, and its login was last seen there
+abbrev pub with_login : Feed → List ℕ → Option Seen → LinkSeen → LinkSeen
+with_login feed call mine link = record link { feed = feed; me = Some call; mine = mine }
+
+-- it has another filter, and the calls of its terms were last seen there
+abbrev pub with_terms : List TermSeen → List (Option Seen) → LinkSeen → LinkSeen
+with_terms terms friends link = record link { filter = Some terms; friends = friends }
+
+-- positions that count no more are let go
+abbrev pub forgotten : ℕ → LinkSeen → LinkSeen
+forgotten now link = record link { friends = map (fresh now) link.friends; mine = fresh now link.mine }
+
+-- what was put is counted, and counts from now on anew
+abbrev pub counted : LinkSeen → LinkSeen
+counted link = record link { put = 0 }
+
+abbrev pub put_of : LinkSeen → ℕ
+put_of link = link.put
+
+-- how many packet lines were put into the queues, up to a counter's last value
+abbrev pub put_in : List LinkSeen → ℕ
+put_in links = min (sum_by put_of links) (2 ^ 64 - 1)
+
+-- its number is none of these
+abbrev pub is_other : List ℕ → LinkSeen → Bool
+is_other numbers link = not (list_any (λ n. n == link.link) numbers)
+
+abbrev pub is_over : LinkSeen → Bool
+is_over link = link.over
+
+abbrev pub link_of : LinkSeen → ℕ
+link_of link = link.link

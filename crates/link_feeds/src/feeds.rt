@@ -1,24 +1,21 @@
 //! The links, and what came to them since it was last matched.
-ghost use Rattle.std.specs.Prelude.{◌≡◌, ◌++◌, ◌∷◌, ◌≤◌, ◌<◌, [], IfOk, OnErr, OnOk, Some, false, true, length, map, min, slice_get, slice_set, take};
+ghost use Rattle.std.specs.Prelude.{◌≡◌, ◌++◌, ◌∷◌, ◌≤◌, ◌<◌, [], IfOk, OnErr, OnOk, Some, false, true, filter, length, map, min, slice_get, slice_set, take};
 ghost use Rattle.std.specs.Arc.{arc_value};
 ghost use Rattle.link_queue.specs.Queues.{pending_bytes};
-ghost use Rattle.link_feeds.specs.Feeds.{met_by, new_feed, with_taken};
+ghost use Rattle.link_feeds.specs.Feeds.{counted, forgotten, is_other, is_over, link_of, met_by, new_feed, put_in, told, with_login, with_taken, with_terms};
 ghost use Rattle.worker_match.specs.Items.{item_seen};
 ghost use Rattle.worker_match.specs.Seen.{LinkSeen};
 ghost use Rattle.worker_match.specs.Walk.{IsOrdered};
 
-use aprs_base::{Gate, Line, Memory};
-use arrayvec::ArrayVec;
-use filter_eval::Friends;
-use link_queue::Queue;
+use crate::states::{count_each, drop_each, forget_each, log_in, opened, overfull, set_filter};
+use aprs_base::{Call, Gate, Line, Memory};
+use filter_eval::{Friends, Seen};
+use filter_lang::FilterSet;
 use std::alloc::Global;
 use std::marker::{Model, Sync};
 use std::sync::Arc;
 use std::thread::Threads;
-use worker_match::{Feed, Item, LinkState, spread};
-
-/// The most lines that a link hasn't wholly taken.
-const MOST_LINES: usize = 1000;
+use worker_match::{Feed, Item, LinkState, spread, walk};
 
 /// A part with fewer meetings of a link and an item costs more than it saves.
 const MEETINGS: usize = 4096;
@@ -83,20 +80,22 @@ impl Feeds {
         self.items.is_empty()
     }
 
-    /// A link comes, which is fed nothing yet and has this line to take first. What came before must have been matched.
-    /// `Memory` changes nothing.
+    /// A link comes, which is fed so and has this line to take first. What came before must have been matched. `Memory` changes
+    /// nothing.
     pub fn open(
         &mut self,
         alloc: Global,
         link: u32,
+        feed: Feed,
         inbound: bool,
         first: Arc<Line>,
     ) -> Result<(), Memory>
         requires { self.old.settled ≡ true }
-        ensures ok { OnOk result (self.new ≡ record self.old { links = self.old.links ++ new_feed link inbound (arc_value first) ∷ [] }) }
+        ensures ok { OnOk result (self.new ≡ record self.old { links = self.old.links ++ new_feed link feed inbound (arc_value first) ∷ [] }) }
         ensures err { OnErr result (self.new ≡ self.old) }
     {
-        self.states.push(opened(alloc, link, inbound, first)?)?;
+        self.states
+            .push(opened(alloc, link, feed, inbound, first)?)?;
         Ok(())
     }
 
@@ -136,6 +135,101 @@ impl Feeds {
         Ok(())
     }
 
+    /// The same, by this thread alone.
+    pub fn settle_here(&mut self) -> Result<(), Memory>
+        ensures { OnOk result (self.new ≡ record self.old { settled = true }) }
+    {
+        walk(self.states.as_mut_slice(), self.items.as_slice())?;
+        self.items.clear();
+        Ok(())
+    }
+
+    /// How many packet lines were put into the queues since this was last asked, at most the greatest u64. What came must have
+    /// been matched.
+    pub fn count_put(&mut self) -> u64
+        requires { self.old.settled ≡ true }
+        ensures count { result ≡ put_in self.old.links }
+        ensures counted { self.new ≡ record self.old { links = map counted self.old.links } }
+    {
+        count_each(self.states.as_mut_slice())
+    }
+
+    /// Positions that are too old at that moment, in seconds, are let go. What came must have been matched.
+    pub fn forget(&mut self, now: u64)
+        requires { self.old.settled ≡ true }
+        ensures { self.new ≡ record self.old { links = map (forgotten now) self.old.links } }
+    {
+        forget_each(self.states.as_mut_slice(), now);
+    }
+
+    /// The links of these numbers leave. What came must have been matched.
+    pub fn drop_these(&mut self, numbers: &[u32])
+        requires { self.old.settled ≡ true }
+        ensures { self.new ≡ record self.old { links = filter (is_other numbers.now) self.old.links } }
+    {
+        drop_each(&mut self.states, numbers);
+    }
+
+    /// All links leave, and nothing waits to be matched.
+    pub fn clear(&mut self)
+        ensures { self.new ≡ record { links = []; settled = true } }
+    {
+        self.states.clear();
+        self.items.clear();
+    }
+
+    /// The numbers of the links that had no room for a line, in the order in which they came. What came must have been matched.
+    pub fn overfull(&self, alloc: Global) -> Result<Vec<u32>, Memory>
+        requires { self.now.settled ≡ true }
+        ensures { IfOk result (λ numbers. numbers.items ≡ map link_of (filter is_over self.now.links)) }
+    {
+        overfull(alloc, self.states.as_slice())
+    }
+
+    /// The link at that place has logged in, and is told so: it is fed so, and its login was last seen there. What came must have
+    /// been matched.
+    pub fn log_in(
+        &mut self,
+        place: usize,
+        feed: Feed,
+        call: Call,
+        mine: Option<Seen>,
+        reply: Arc<Line>,
+    )
+        requires settled { self.old.settled ≡ true }
+        requires within { place < length self.old.links }
+        ensures { (link : LinkSeen) → slice_get self.old.links place ≡ Some link
+            → self.new ≡ record self.old { links = slice_set self.old.links place (told (arc_value reply) (with_login feed call mine link)) } }
+    {
+        log_in(&mut self.states[place], feed, call, mine, reply);
+    }
+
+    /// The link at that place has another filter, and is told so. The calls of its terms were last seen there. What came must
+    /// have been matched.
+    pub fn set_filter(
+        &mut self,
+        place: usize,
+        filter: Arc<FilterSet>,
+        friends: Friends,
+        reply: Arc<Line>,
+    )
+        requires settled { self.old.settled ≡ true }
+        requires within { place < length self.old.links }
+        ensures { (link : LinkSeen) → slice_get self.old.links place ≡ Some link
+            → self.new ≡ record self.old { links = slice_set self.old.links place (told (arc_value reply) (with_terms (arc_value filter) friends link)) } }
+    {
+        set_filter(&mut self.states[place], filter, friends, reply);
+    }
+
+    /// A line for the link at that place alone. What came must have been matched.
+    pub fn tell(&mut self, place: usize, line: Arc<Line>)
+        requires settled { self.old.settled ≡ true }
+        requires within { place < length self.old.links }
+        ensures { (link : LinkSeen) → slice_get self.old.links place ≡ Some link → self.new ≡ record self.old { links = slice_set self.old.links place (told (arc_value line) link) } }
+    {
+        self.states[place].tell(line);
+    }
+
     /// Writes the next bytes of the link at that place, as many as there are and as fit, and says how many. What came must have
     /// been matched.
     pub fn front_bytes(&self, place: usize, out: &mut [u8]) -> usize
@@ -156,15 +250,6 @@ impl Feeds {
         self.states[place].queue.pending()
     }
 
-    /// Whether the link at that place had no room for a line. What came must have been matched.
-    pub fn is_over(&self, place: usize) -> bool
-        requires settled { self.now.settled ≡ true }
-        requires within { place < length self.now.links }
-        ensures { (link : LinkSeen) → slice_get self.now.links place ≡ Some link → result ≡ link.over }
-    {
-        self.states[place].over
-    }
-
     /// The link at that place took the first `n` bytes. What came must have been matched.
     pub fn taken(&mut self, place: usize, n: usize)
         requires settled { self.old.settled ≡ true }
@@ -174,27 +259,4 @@ impl Feeds {
     {
         self.states[place].queue.taken(n);
     }
-}
-
-/// A link that has just come.
-fn opened(alloc: Global, link: u32, inbound: bool, first: Arc<Line>) -> Result<LinkState, Memory>
-    ensures { IfOk result (λ state. state ≡ new_feed link inbound (arc_value first)) }
-{
-    let mut queue = Queue::with_limit(alloc, MOST_LINES)?;
-    queue.push(first).unwrap();
-    Ok(LinkState {
-        link,
-        feed: Feed::Nothing,
-        inbound,
-        alive: true,
-        over: false,
-        me: None,
-        filter: None,
-        friends: Friends {
-            at: ArrayVec::new(),
-        },
-        mine: None,
-        queue,
-        put: 0,
-    })
 }

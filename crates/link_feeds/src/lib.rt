@@ -2,6 +2,8 @@
 #![tactic(auto)]
 
 mod feeds;
+mod places;
+mod states;
 #[cfg(test)]
 mod tests;
 

@@ -1,11 +1,11 @@
 //! Links that are fed, by hand.
 use crate::Feeds;
-use aprs_base::{Line, OpenGate};
+use aprs_base::{Line, Memory, OpenGate};
 use std::alloc::Global;
 use std::process::Abort;
 use std::sync::Arc;
 use std::test::Fail;
-use worker_match::Item;
+use worker_match::{Feed, Item};
 
 fn line<R: Abort>(rt: &R, alloc: Global, text: &[u8]) -> Result<Arc<Line>, Fail> {
     Ok(Arc::new(alloc, Line::new(text).expect(rt, "a line"))?)
@@ -14,9 +14,9 @@ fn line<R: Abort>(rt: &R, alloc: Global, text: &[u8]) -> Result<Arc<Line>, Fail>
 /// Two clients and an uplink, each with its first line.
 fn three<R: Abort>(rt: &R, alloc: Global) -> Result<Feeds, Fail> {
     let mut feeds = Feeds::new(alloc);
-    feeds.open(alloc, 3, true, line(rt, alloc, b"# a")?)?;
-    feeds.open(alloc, 5, true, line(rt, alloc, b"# b")?)?;
-    feeds.open(alloc, 9, false, line(rt, alloc, b"user T2TEST")?)?;
+    feeds.open(alloc, 3, Feed::Nothing, true, line(rt, alloc, b"# a")?)?;
+    feeds.open(alloc, 5, Feed::Nothing, true, line(rt, alloc, b"# b")?)?;
+    feeds.open(alloc, 9, Feed::Up, false, line(rt, alloc, b"user T2TEST")?)?;
     Ok(feeds)
 }
 
@@ -37,8 +37,33 @@ fn take(feeds: &mut Feeds, place: usize, n: usize) {
     }
 }
 
-fn is_over(feeds: &Feeds, place: usize) -> bool {
-    feeds.is_settled() && place < feeds.len() && feeds.is_over(place)
+/// Whether these links are over, and no others.
+fn are_over(feeds: &Feeds, alloc: Global, want: &[u32]) -> Result<bool, Memory> {
+    if !feeds.is_settled() {
+        return Ok(false);
+    }
+    let numbers = feeds.overfull(alloc)?;
+    Ok(numbers.as_slice() == want)
+}
+
+/// All that came is matched, by this thread alone: how many packet lines were put into queues.
+fn settle_here(feeds: &mut Feeds) -> Result<u64, Memory> {
+    feeds.settle_here()?;
+    Ok(feeds.count_put())
+}
+
+/// A line for the link at that place alone.
+fn tell(feeds: &mut Feeds, place: usize, line: Arc<Line>) {
+    if feeds.is_settled() && place < feeds.len() {
+        feeds.tell(place, line);
+    }
+}
+
+/// These links leave.
+fn drop_these(feeds: &mut Feeds, numbers: &[u32]) {
+    if feeds.is_settled() {
+        feeds.drop_these(numbers);
+    }
 }
 
 #[test]
@@ -81,12 +106,30 @@ fn is_over_where_a_thousand_lines_wait(rt: HostRuntime) -> Result<(), Fail> {
         })?;
     }
     feeds.settle(&rt, 4, &OpenGate)?;
-    assert!(rt; !is_over(&feeds, 0));
+    assert!(rt; are_over(&feeds, alloc, &[])?);
     feeds.bring(Item::Text {
         link: 3,
         line: line(&rt, alloc, b"y")?,
     })?;
     feeds.settle(&rt, 4, &OpenGate)?;
-    assert!(rt; is_over(&feeds, 0) && !is_over(&feeds, 1));
+    assert!(rt; are_over(&feeds, alloc, &[3])?);
+    Ok(())
+}
+
+#[test]
+fn leaves_with_what_is_left(rt: HostRuntime) -> Result<(), Fail> {
+    let alloc = rt.alloc();
+    let mut feeds = three(&rt, alloc)?;
+    feeds.bring(Item::All {
+        line: line(&rt, alloc, b"all")?,
+    })?;
+    assert_eq!(rt; settle_here(&mut feeds)?, 0);
+    tell(&mut feeds, 1, line(&rt, alloc, b"two")?);
+    drop_these(&mut feeds, &[1, 3, 4]);
+    assert_eq!(rt; feeds.len(), 2);
+    assert!(rt; has(&feeds, 0, b"# b\r\nall\r\ntwo\r\n"));
+    assert!(rt; has(&feeds, 1, b"user T2TEST\r\n"));
+    feeds.clear();
+    assert_eq!(rt; feeds.len(), 0);
     Ok(())
 }

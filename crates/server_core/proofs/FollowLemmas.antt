@@ -215,23 +215,6 @@ text_fits line link open' room =
     let has_room : (length link.queue.lines == most_waiting) ≡ false = false_from_ne_true _ (λ full. room (eqb-true (length link.queue.lines) most_waiting full)) in
     rw (open', has_room) refl
 
--- a link takes a line into its queue, where it fits, and else is overfull
-pub pushed_fits : (line : List ℕ) (link now : LinkSeen) (before after : QueueSeen) → link ≡ now → plain_queue before ≡ link.queue → after ≡ pushed line before → link.over ≡ false
-    → (length before.lines ≡ most_waiting → ⊥) → record link { queue = plain_queue after } ≡ with_text line now
-pushed_fits line link now before after is queue pushed open' room =
-    ap (λ (q : QueueSeen). record link { queue = plain_queue q }) pushed
-    ∙ ap (λ (q : Queued). record link { queue = with_line q line }) queue
-    ∙ text_fits line link open' (λ full. room (ap (λ (q : Queued). length q.lines) queue ∙ full))
-    ∙ ap (with_text line) is
-
-pub pushed_over : (line : List ℕ) (link now : LinkSeen) (before after : QueueSeen) → link ≡ now → plain_queue before ≡ link.queue → after ≡ before → link.over ≡ false
-    → length before.lines ≡ most_waiting → record link { queue = plain_queue after; over = true; friends = []; mine = None } ≡ with_text line now
-pushed_over line link now before after is queue same open' full =
-    ap (λ (q : QueueSeen). record link { queue = plain_queue q; over = true; friends = []; mine = None }) same
-    ∙ ap (λ (q : Queued). record link { queue = q; over = true; friends = []; mine = None }) queue
-    ∙ text_over line link open' (sym (ap (λ (q : Queued). length q.lines) queue) ∙ full)
-    ∙ ap (with_text line) is
-
 -- an overfull link takes no copy
 pub copy_over : (line : List ℕ) (link : LinkSeen) (wanted : Bool) → link.over ≡ true → link ≡ (if wanted then with_text line link else link)
 copy_over line link true over = text_after line link over
@@ -240,19 +223,6 @@ copy_over line link false over = refl
 -- whether a line fits, by the queue that it goes into
 pub fits_not_after : (link : LinkSeen) → link.over ≡ true → false ≡ has_room link
 fits_not_after link over = rw over refl
-
-pub fits_open : (link now : LinkSeen) (before : QueueSeen) → link ≡ now → plain_queue before ≡ link.queue → link.over ≡ false → (length before.lines ≡ most_waiting → ⊥) → true ≡ has_room now
-fits_open link now before is queue open' room =
-    let not_full : (length link.queue.lines == most_waiting) ≡ false =
-    false_from_ne_true _ (λ full. room (ap (λ (q : Queued). length q.lines) queue ∙ eqb-true (length link.queue.lines) most_waiting full)) in
-    let here : true ≡ has_room link = rw (open', not_full) refl in
-    here ∙ ap has_room is
-
-pub fits_not_full : (link now : LinkSeen) (before : QueueSeen) → link ≡ now → plain_queue before ≡ link.queue → link.over ≡ false → length before.lines ≡ most_waiting → false ≡ has_room now
-fits_not_full link now before is queue open' full =
-    let is_full : (length link.queue.lines == most_waiting) ≡ true = eq-eqb (length link.queue.lines) most_waiting (sym (ap (λ (q : Queued). length q.lines) queue) ∙ full) in
-    let here : false ≡ has_room link = rw (open', is_full) refl in
-    here ∙ ap has_room is
 
 -- another filter and a line more, in either order
 filter_then_text : (terms : List TermSeen) (friends : List (Option Seen)) (line : List ℕ) (link : LinkSeen)

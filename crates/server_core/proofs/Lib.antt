@@ -4,11 +4,14 @@ pub mod CountLemmas
 pub mod FedLemmas
 pub mod FollowLemmas
 pub mod HeardLemmas
+pub mod LeftLemmas
 pub mod LinkLemmas
 pub mod MemberLemmas
 pub mod PlaceLemmas
 pub mod RoundLemmas
 pub mod SendLemmas
+pub mod ServedLemmas
+pub mod ServedSteps
 pub mod SightLemmas
 pub mod TellingLemmas
 pub mod TurnedLemmas

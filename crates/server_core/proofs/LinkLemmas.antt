@@ -94,76 +94,6 @@ changed_by number step high links place link new rises found at is =
 pub changed_nowhere : (number : ℕ) (step : LinkSeen → LinkSeen) (links : List LinkSeen) → None ≡ position (has_that number) links → links ≡ map (at_link number step) links
 changed_nowhere number step links none = sym (changed_none number step links (position_none (has_that number) links none))
 
--- a map that a loop has done up to a place, and there
-mapped_at : {X : Type 0} (f : X → X) (xs : List X) (i : ℕ) (new d : X) → i < length xs → new ≡ f (get_or xs i d)
-    → slice_set (map f (take i xs) ++ drop i xs) i new ≡ map f (take (suc i) xs) ++ drop (suc i) xs
-mapped_at f [] i new d lt is = absurd (omega arith)
-mapped_at f (x ∷ xs) zero new d lt is = ap (λ y. y ∷ xs) is
-mapped_at f (x ∷ xs) (suc i) new d lt is = ap (λ ys. f x ∷ ys) (mapped_at f xs i new d (omega arith) is)
-
-pub get_mapped : {X : Type 0} (f : X → X) (xs : List X) (i : ℕ) (d : X) → i < length xs → get_or (map f (take i xs) ++ drop i xs) i d ≡ get_or xs i d
-get_mapped f [] i d lt = absurd (omega arith)
-get_mapped f (x ∷ xs) zero d lt = refl
-get_mapped f (x ∷ xs) (suc i) d lt = get_mapped f xs i d (omega arith)
-
-pub mapped_more : {X : Type 0} (f : X → X) (xs ys : List X) (i : ℕ) (new d : X) → i < length xs → ys ≡ map f (take i xs) ++ drop i xs → new ≡ f (get_or ys i d)
-    → slice_set ys i new ≡ map f (take (i + 1) xs) ++ drop (i + 1) xs
-mapped_more f xs ys i new d lt so_far is =
-    rw add-one (ap (λ zs. slice_set zs i new) so_far
-    ∙ mapped_at f xs i new d lt (is ∙ ap f (ap (λ zs. get_or zs i d) so_far ∙ get_mapped f xs i d lt)))
-
-pub one_at_most : (b : Bool) (n i : ℕ) → n ≤ i → n + from_bool b ≤ i + 1
-one_at_most true n i le = omega arith
-one_at_most false n i le = omega arith
-
-bool_counts : (b : Bool) → from_bool b ≡ cond b 1 0
-bool_counts true = refl
-bool_counts false = refl
-
--- one more of those that pass a test, where a list is changed from the front
-pub counted_more : {X : Type 0} (p : X → Bool) (f : X → X) (xs ys : List X) (i n : ℕ) (b : Bool) (d : X) → i < length xs → ys ≡ map f (take i xs) ++ drop i xs → n ≡ length (filter p (take i xs)) → b ≡ p (get_or ys i d)
-    → n + from_bool b ≡ length (filter p (take (i + 1) xs))
-counted_more p f xs ys i n b d lt so_far count is =
-    ap (λ m. n + m) (bool_counts b)
-    ∙ ap (λ m. m + cond b 1 0) count
-    ∙ ap (λ c. length (filter p (take i xs)) + cond c 1 0) (is ∙ ap p (ap (λ zs. get_or zs i d) so_far ∙ get_mapped f xs i d lt))
-    ∙ sym (length-filter_more p xs i d lt)
-
--- the same for two lists side by side, of which the second is changed
-zipped_at : {X Y : Type 0} (f : X × Y → Y) (xs : List X) (ys : List Y) (i : ℕ) (x : X) (y new : Y) → i < length xs → length ys ≡ length xs → new ≡ f (get_or xs i x, get_or ys i y)
-    → slice_set (map f (zip (take i xs) (take i ys)) ++ drop i ys) i new ≡ map f (zip (take (suc i) xs) (take (suc i) ys)) ++ drop (suc i) ys
-zipped_at f [] ys i x y new lt same is = absurd (omega arith)
-zipped_at f (a ∷ xs) [] i x y new lt same is = absurd (omega (arith, same))
-zipped_at f (a ∷ xs) (b ∷ ys) zero x y new lt same is = ap (λ z. z ∷ ys) is
-zipped_at f (a ∷ xs) (b ∷ ys) (suc i) x y new lt same is = ap (λ zs. f (a, b) ∷ zs) (zipped_at f xs ys i x y new (omega arith) (omega (arith, same)) is)
-
-get_zipped : {X Y : Type 0} (f : X × Y → Y) (xs : List X) (ys : List Y) (i : ℕ) (d : Y) → i < length xs → length ys ≡ length xs
-    → get_or (map f (zip (take i xs) (take i ys)) ++ drop i ys) i d ≡ get_or ys i d
-get_zipped f [] ys i d lt same = absurd (omega arith)
-get_zipped f (a ∷ xs) [] i d lt same = absurd (omega (arith, same))
-get_zipped f (a ∷ xs) (b ∷ ys) zero d lt same = refl
-get_zipped f (a ∷ xs) (b ∷ ys) (suc i) d lt same = get_zipped f xs ys i d (omega arith) (omega (arith, same))
-
-pub zipped_more : {X Y : Type 0} (f : X × Y → Y) (xs : List X) (ys zs : List Y) (i : ℕ) (x : X) (y new : Y) → i < length xs → length ys ≡ length xs
-    → zs ≡ map f (zip (take i xs) (take i ys)) ++ drop i ys → x ≡ get_or xs i x → y ≡ get_or zs i y → new ≡ f (x, y)
-    → slice_set zs i new ≡ map f (zip (take (i + 1) xs) (take (i + 1) ys)) ++ drop (i + 1) ys
-zipped_more f xs ys zs i x y new lt same so_far at_x at_y is =
-    let there : y ≡ get_or ys i y = at_y ∙ ap (λ rest. get_or rest i y) so_far ∙ get_zipped f xs ys i y lt same in
-    rw add-one (ap (λ rest. slice_set rest i new) so_far
-    ∙ zipped_at f xs ys i x y new lt same (is ∙ ap (λ z. f (x, z)) there ∙ ap (λ a. f (a, get_or ys i y)) at_x))
-
--- and when the loops are done
-pub mapped_all : {X : Type 0} (f : X → X) (xs ys : List X) (i : ℕ) → length xs ≤ i → ys ≡ map f (take i xs) ++ drop i xs → ys ≡ map f xs
-mapped_all f xs ys i past is =
-    is ∙ ap (λ rest. map f (take i xs) ++ rest) (drop_all i xs past) ∙ append-nil (map f (take i xs)) ∙ ap (map f) (take_all i xs past)
-
-pub zipped_all : {X Y : Type 0} (f : X × Y → Y) (xs : List X) (ys zs : List Y) (i : ℕ) → length xs ≤ i → length ys ≡ length xs
-    → zs ≡ map f (zip (take i xs) (take i ys)) ++ drop i ys → zs ≡ map f (zip xs ys)
-zipped_all f xs ys zs i past same is =
-    let over : length ys ≤ i = omega (arith, same) in
-    is ∙ ap (λ rest. map f (zip (take i xs) (take i ys)) ++ rest) (drop_all i ys over) ∙ append-nil (map f (zip (take i xs) (take i ys)))
-    ∙ ap (λ firsts. map f (zip firsts (take i ys))) (take_all i xs past) ∙ ap (λ seconds. map f (zip xs seconds)) (take_all i ys over)
-
 -- what is picked at the place where the link of a number stands, and where it is nowhere
 module _ {X : Type 0} (pick : LinkSeen → X) (none : X) (number : ℕ) where
   picked_here : (links : List LinkSeen) (place : ℕ) (d : LinkSeen) → place < length links → position_or_len (has_that number) links ≡ place
@@ -234,12 +164,6 @@ pub rises_at : (number : ℕ) (step : LinkSeen → LinkSeen) → ((link : LinkSe
     → new ≡ map (at_link number step) links → Rises 0 (numbers links) high → Rises 0 (numbers new) high
 rises_at number step same high links new is rises =
     subst (λ ns. Rises 0 ns high) (sym (ap numbers is ∙ numbers_kept (at_link number step) (at_keeps number step same) links)) rises
-
--- what a vector holds after its slice was written
-pub written_back : {X : Type 0} (n : ℕ) (new old : List X) → length new ≡ length old → n ≡ length old → take n (new ++ drop (length new) old) ≡ new
-written_back n new old same len =
-    let none : drop (length new) old ≡ [] = drop_all (length new) old (omega arith) in
-    ap (λ more. take n (new ++ more)) none ∙ ap (take n) (append-nil new) ∙ take_all n new (omega arith)
 
 -- the numbers of links are served, also where only some of them are taken
 pub served_filter : (p : LinkSeen → Bool) (links : List LinkSeen) → AreServed (numbers (filter p links)) links

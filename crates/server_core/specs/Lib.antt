@@ -1,4 +1,5 @@
 pub mod Fed
+pub mod Halves
 pub mod ActsSeen
 pub mod Kept
 pub mod LinkSteps

@@ -8,6 +8,7 @@ mod links;
 mod messages;
 mod places;
 mod reach;
+mod served;
 mod server;
 mod telling;
 

@@ -1,28 +1,25 @@
 //! The links of the core, in the order of their numbers.
-ghost use Rattle.std.specs.Prelude.{◌≡◌, ℕ, ◌≤◌, ◌<◌, ◌^◌, ◌++◌, [], IsTrue, List, None, Some, OnOk, IfOk, min, take, IfSome, length, map, position, filter, nat_le};
-ghost use Rattle.std.specs.List.{prefix_len};
-ghost use Rattle.std.specs.List.Sorted.{IsStrictlyIncreasing};
+ghost use Rattle.std.specs.Prelude.{◌≡◌, ◌++◌, ◌^◌, ℕ, [], IfOk, IsTrue, List, None, OnOk, Some, filter, map, nat_le, position};
 ghost use Rattle.std.specs.Arc.{arc_value};
-ghost use Rattle.server_core.specs.LinkSteps.{Rises, at_link, at_moment, client_at, clients_in, filters_at, has_number, list_of, login_kept, logins_at, other_login, others_at, number_of, has_that, held_at, is_another, is_asked_at, is_in_time, is_late_link, is_none_of, is_overfull, is_ready, is_there, numbers, pending_at, speaker_at, submitted_from, takes_packet, takes_shown, when_gone, with_bytes, with_date, with_filter, with_packet, with_room, with_session, with_shown, with_taken, with_text};
-ghost use Rattle.line_verdict.specs.Voices.{HasStation, voice_of};
-ghost use Rattle.aprs_base.specs.Bytes.{is_station};
+ghost use Rattle.std.specs.List.{list_any, prefix_len};
+ghost use Rattle.std.specs.List.Sorted.{IsStrictlyIncreasing};
 ghost use Rattle.aprs_base.specs.Cuts.{cuts_by};
 ghost use Rattle.aprs_base.specs.Held.{held_after};
-ghost use Rattle.aprs_history.specs.Trace.{placed, placed_all};
 ghost use Rattle.aprs_history.specs.Stands.{LinkSeen};
-ghost use Rattle.server_core.specs.Fed.{IsOffer, offer_of};
+ghost use Rattle.aprs_history.specs.Trace.{placed, placed_all};
+ghost use Rattle.line_verdict.specs.Voices.{HasStation, voice_of};
+ghost use Rattle.server_core.specs.Fed.{AllMatch, offer_of, shows_kept};
+ghost use Rattle.server_core.specs.LinkSteps.{Rises, at_link, client_at, clients_in, filters_at, has_number, has_that, held_at, is_asked_at, is_late_link, is_lost, is_none_of, list_of, logins_at, numbers, other_login, others_at, speaker_at, submitted_from, when_gone, with_bytes, with_room};
 ghost use Rattle.worker_match.specs.Items.{item_seen};
 ghost use Rattle.worker_match.specs.Seen.{Came};
+ghost use Rattle.worker_match.specs.Seen as worker;
+ghost use Rattle.worker_match.specs.Walk.{IsOrdered};
 
 use crate::link::{Link, SourcePlace, Timeouts};
 use crate::messages::is_message;
-use aprs_base::{Call, Cut, Line, Memory, Packet, Shared, Source};
-use aprs_history::Session;
-use filter_eval::{Friends, Seen};
-use filter_lang::FilterSet;
+use aprs_base::{Call, Cut, Memory, Packet, Shared, Source};
 use line_verdict::Voice;
 use std::alloc::Global;
-use std::sync::Arc;
 use worker_match::Item;
 
 /// Where the link of that number stands.
@@ -52,30 +49,6 @@ pub(crate) fn lose(links: &mut Vec<Link>, number: u32)
     match place_of(links.as_slice(), number) {
         Some(place) => links[place].lose(),
         None => {}
-    }
-}
-
-/// The link took the first `count` bytes of an offer.
-pub(crate) fn take(links: &mut Vec<Link>, number: u32, offered: usize, count: usize)
-    requires rises { Rises 0 (numbers links.old.items) (2 ^ 32) }
-    requires pending { count ≤ length (pending_at number links.old.items) }
-    ensures { links.new.items ≡ map (at_link number (with_taken offered count)) links.old.items }
-{
-    match place_of(links.as_slice(), number) {
-        Some(place) => links[place].take(offered, count),
-        None => {}
-    }
-}
-
-/// Writes the next bytes of the link, as many as there are and as fit.
-pub(crate) fn offer(links: &[Link], number: u32, out: &mut [u8]) -> usize
-    requires { Rises 0 (numbers links.now) (2 ^ 32) }
-    ensures count { result ≡ min (length out.old) (length (pending_at number links.now)) }
-    ensures bytes { take result out.new ≡ take (length out.old) (pending_at number links.now) }
-{
-    match place_of(links, number) {
-        Some(place) => links[place].front_bytes(out),
-        None => 0,
     }
 }
 
@@ -114,7 +87,7 @@ fn asked(
 }
 
 /// An accepted packet as it is offered to all links.
-fn offered(
+pub(crate) fn offered(
     alloc: Global,
     links: &[Link],
     packet: &Packet,
@@ -128,7 +101,7 @@ fn offered(
     requires rises { Rises 0 (numbers links.now) (2 ^ 32) }
     requires same { arc_value shared.now ≡ packet.now }
     ensures exact { IfOk result (λ item. item_seen item ≡ Came (offer_of packet.now source.now (numbers (filter (is_asked_at packet.now hearers.now owed.now) links.now)))) }
-    ensures offer { IfOk result (λ item. IsOffer (item_seen item)) }
+    ensures ordered { IfOk result (λ item. IsOrdered (item_seen item)) }
 {
     let extra = asked(alloc, links, packet, hearers, owed)?;
     Ok(Item::Packet {
@@ -141,105 +114,24 @@ fn offered(
     })
 }
 
-/// All links hear of an accepted packet, which is shared: those that want it take it. The message rule asks for it at `hearers` and `owed`.
-/// Says how many took it.
-pub(crate) fn share(
-    alloc: Global,
-    links: &mut Vec<Link>,
-    packet: &Packet,
-    shared: &Shared,
-    source: &SourcePlace,
-    hearers: &[u32],
-    owed: &[u32],
-) -> Result<usize, Memory>
-    requires hearers { IsStrictlyIncreasing hearers.now }
-    requires owed { IsStrictlyIncreasing owed.now }
-    requires rises { Rises 0 (numbers links.old.items) (2 ^ 32) }
-    requires same { arc_value shared.now ≡ packet.now }
-    ensures numbers { numbers links.new.items ≡ numbers links.old.items }
-    ensures ok { OnOk result (links.new.items ≡ map (with_packet packet.now source.now hearers.now owed.now) links.old.items) }
-    ensures took { IfOk result (λ count. count ≡ length (filter (takes_packet packet.now source.now hearers.now owed.now) links.old.items)) }
+/// Whether one of them is shown the duplicates that others are refused.
+pub(crate) fn shows_any(links: &[Link]) -> bool
+    ensures { result ≡ list_any shows_kept links.now }
 {
-    let item = &offered(
-        alloc,
-        links.as_slice(),
-        packet,
-        shared,
-        source,
-        hearers,
-        owed,
-    )?;
-    let mut count = 0;
-    for link in links.iter_mut() {
-        let took = link.hear(item)?;
-        count += usize::from(took);
-    }
-    Ok(count)
+    links.iter().any(|link| link.shows_duplicates())
 }
 
-/// The links that are shown a duplicate that is refused there take it. Says how many did.
-pub(crate) fn show_all(
-    links: &mut Vec<Link>,
-    from: &Source,
-    line: &Arc<Line>,
-) -> Result<usize, Memory>
-    ensures numbers { numbers links.new.items ≡ numbers links.old.items }
-    ensures ok { OnOk result (links.new.items ≡ map (with_shown from.now (arc_value line.now)) links.old.items) }
-    ensures took { IfOk result (λ count. count ≡ length (filter (takes_shown from.now) links.old.items)) }
-{
-    let mut count = 0;
-    for link in links.iter_mut() {
-        let took = link.show(from, line)?;
-        count += usize::from(took);
-    }
-    Ok(count)
-}
-
-/// All links let go of positions that count no more.
-pub(crate) fn forget_places(links: &mut Vec<Link>, now: u64)
-    ensures { links.new.items ≡ map (at_moment now) links.old.items }
-{
-    for link in links.iter_mut() {
-        link.forget(now);
-    }
-}
-
-/// The links that a send found gone leave.
-pub(crate) fn drop_gone(links: &mut Vec<Link>)
-    ensures { links.new.items ≡ filter is_there links.old.items }
-{
-    links.retain(|link| !link.gone);
-}
-
-/// The link leaves.
-pub(crate) fn drop_link(links: &mut Vec<Link>, number: u32)
-    ensures { links.new.items ≡ filter (is_another number) links.old.items }
-{
-    links.retain(|link| link.number != number);
-}
-
-/// The numbers of the links that are to be offered their next bytes.
-pub(crate) fn ready(alloc: Global, links: &[Link]) -> Result<Vec<u32>, Memory>
-    ensures { IfOk result (λ v. v.items ≡ map number_of (filter is_ready links.now)) }
+/// The numbers of the links that a send found gone.
+pub(crate) fn lost(alloc: Global, links: &[Link]) -> Result<Vec<u32>, Memory>
+    ensures { IfOk result (λ v. v.items ≡ numbers (filter is_lost links.now)) }
 {
     let mut numbers = Vec::new(alloc);
     for link in links {
-        if link.is_ready() {
+        if link.is_lost() {
             numbers.push(link.number())?;
         }
     }
     Ok(numbers)
-}
-
-/// The clients are told the date.
-pub(crate) fn tell_all(links: &mut Vec<Link>, line: &Arc<Line>) -> Result<(), Memory>
-    ensures numbers { numbers links.new.items ≡ numbers links.old.items }
-    ensures ok { OnOk result (links.new.items ≡ map (with_date (arc_value line.now)) links.old.items) }
-{
-    for link in links.iter_mut() {
-        link.tell_date(line)?;
-    }
-    Ok(())
 }
 
 /// The numbers of the links that end by time.
@@ -254,26 +146,6 @@ pub(crate) fn late(
     let mut numbers = Vec::new(alloc);
     for link in links {
         if link.is_late(timeouts, now) {
-            numbers.push(link.number())?;
-        }
-    }
-    Ok(numbers)
-}
-
-/// The links that end by time leave.
-pub(crate) fn drop_late(links: &mut Vec<Link>, timeouts: Timeouts, now: u64)
-    ensures { links.new.items ≡ filter (is_in_time timeouts now) links.old.items }
-{
-    links.retain(|link| link.is_in_time(timeouts, now));
-}
-
-/// The numbers of the links that are overfull.
-pub(crate) fn overfull(alloc: Global, links: &[Link]) -> Result<Vec<u32>, Memory>
-    ensures { IfOk result (λ v. v.items ≡ numbers (filter is_overfull links.now)) }
-{
-    let mut numbers = Vec::new(alloc);
-    for link in links {
-        if link.state.over {
             numbers.push(link.number())?;
         }
     }
@@ -426,60 +298,6 @@ pub(crate) fn logins(alloc: Global, links: &[Link]) -> Result<Vec<Call>, Memory>
     Ok(calls)
 }
 
-/// A line for the link of that number.
-pub(crate) fn reply(links: &mut Vec<Link>, number: u32, line: Arc<Line>)
-    requires { Rises 0 (numbers links.old.items) (2 ^ 32) }
-    ensures numbers { numbers links.new.items ≡ numbers links.old.items }
-    ensures exact { links.new.items ≡ map (at_link number (with_text (arc_value line))) links.old.items }
-{
-    match place_of(links.as_slice(), number) {
-        Some(place) => {
-            links[place].push(line);
-        }
-        None => {}
-    }
-}
-
-/// The link of that number has logged in.
-pub(crate) fn log_in(
-    links: &mut Vec<Link>,
-    number: u32,
-    session: Session,
-    mine: Option<Seen>,
-    reply: Arc<Line>,
-)
-    requires rises { Rises 0 (numbers links.old.items) (2 ^ 32) }
-    requires station { IsTrue (is_station session.call) }
-    ensures numbers { numbers links.new.items ≡ numbers links.old.items }
-    ensures exact { links.new.items ≡ map (at_link number (with_session session mine (arc_value reply))) links.old.items }
-{
-    match place_of(links.as_slice(), number) {
-        Some(place) => {
-            links[place].log_in(session, mine, reply);
-        }
-        None => {}
-    }
-}
-
-/// The link of that number has another filter.
-pub(crate) fn set_filter(
-    links: &mut Vec<Link>,
-    number: u32,
-    filter: Arc<FilterSet>,
-    friends: Friends,
-    reply: Arc<Line>,
-) -> Result<(), Memory>
-    requires rises { Rises 0 (numbers links.old.items) (2 ^ 32) }
-    requires many { length friends ≡ length (arc_value filter) }
-    ensures numbers { numbers links.new.items ≡ numbers links.old.items }
-    ensures exact { OnOk result (links.new.items ≡ map (at_link number (with_filter (arc_value filter) friends (arc_value reply))) links.old.items) }
-{
-    match place_of(links.as_slice(), number) {
-        Some(place) => links[place].set_filter(filter, friends, reply),
-        None => Ok(()),
-    }
-}
-
 /// The link of that number brought bytes: what they cut.
 pub(crate) fn bring(
     alloc: Global,
@@ -490,6 +308,7 @@ pub(crate) fn bring(
 ) -> Result<Vec<Cut>, Memory>
     requires { Rises 0 (numbers links.old.items) (2 ^ 32) }
     ensures numbers { numbers links.new.items ≡ numbers links.old.items }
+    ensures halves { (states : List worker.LinkSeen) → AllMatch links.old.items states → AllMatch links.new.items states }
     ensures links { (before : List ℕ) → held_at number links.old.items ≡ Some (held_after before)
         → OnOk result (links.new.items ≡ map (at_link number (with_bytes moment (held_after (before ++ bytes.now)))) links.old.items) }
     ensures cuts { (before : List ℕ) → held_at number links.old.items ≡ Some (held_after before) → IfOk result (λ cuts. cuts.items ≡ cuts_by before bytes.now) }

@@ -1,14 +1,14 @@
 //! Messages: whom they are for, which links heard their receivers, and which are owed their senders' positions.
-ghost use Rattle.std.specs.Prelude.{◌≡◌, ◌&&◌, ◌++◌, ◌^◌, OnOk, IfOk, List, ℕ, filter};
+ghost use Rattle.std.specs.Prelude.{◌≡◌, ◌&&◌, OnOk, IfOk};
 ghost use Rattle.std.specs.List.Sorted.{IsStrictlyIncreasing};
 ghost use Rattle.aprs_base.specs.declared.texts.Word9.{Word9};
 ghost use Rattle.filter_eval.specs.Passes.{is_some_and, is_text};
 ghost use Rattle.aprs_history.specs.Messages.{is_message, is_position};
 ghost use Rattle.heard_routing.specs.Heard.{courtesies, is_among, without_promises};
-ghost use Rattle.server_core.specs.LinkSteps.{Rises, call_in, forgotten_all, hearers_of, is_lost, may_promise, noted_from, numbers, promised_all, promised_one, receiver_of};
+ghost use Rattle.server_core.specs.LinkSteps.{call_in, forgotten_all, hearers_of, may_promise, noted_from, promised_all, promised_one, receiver_of};
 
-use crate::link::{Link, is_from};
-use crate::links::{has_filters_at, is_client_at};
+use crate::link::is_from;
+use crate::served::Served;
 use aprs_base::{Call, Memory, Packet, Source, Word9};
 use aprs_body::class;
 use heard_routing::Heard;
@@ -105,24 +105,22 @@ pub(crate) fn owed_to(
 }
 
 /// Whether a link may be promised the next position of a sender from elsewhere.
-fn may_promise(links: &[Link], from: &Source, link: u32) -> bool
-    requires { Rises 0 (numbers links.now) (2 ^ 32) }
+fn may_promise(links: &Served, from: &Source, link: u32) -> bool
     ensures { result ≡ may_promise links.now from.now link }
 {
-    !is_from(link, from) && has_filters_at(links, link)
+    !is_from(link, from) && links.has_filters_at(link)
 }
 
 /// Promises a link the sender's next position, where it may have one.
 fn promise_one(
     alloc: Global,
     heard: &mut Heard,
-    links: &[Link],
+    links: &Served,
     from: &Source,
     sender: &Call,
     now: u64,
     link: u32,
 ) -> Result<(), Memory>
-    requires { Rises 0 (numbers links.now) (2 ^ 32) }
     ensures { OnOk result (heard.new ≡ promised_one links.now from.now sender.now now link heard.old) }
 {
     if may_promise(links, from, link) {
@@ -135,13 +133,12 @@ fn promise_one(
 pub(crate) fn promise_all(
     alloc: Global,
     heard: &mut Heard,
-    links: &[Link],
+    links: &Served,
     from: &Source,
     sender: &Call,
     now: u64,
     hearers: &[u32],
 ) -> Result<(), Memory>
-    requires { Rises 0 (numbers links.now) (2 ^ 32) }
     ensures { OnOk result (heard.new ≡ promised_all links.now from.now sender.now now hearers.now heard.old) }
 {
     for link in hearers {
@@ -154,32 +151,20 @@ pub(crate) fn promise_all(
 pub(crate) fn note_from(
     alloc: Global,
     heard: &mut Heard,
-    links: &[Link],
+    links: &Served,
     from: &Source,
     call: &Call,
     now: u64,
 ) -> Result<(), Memory>
-    requires { Rises 0 (numbers links.now) (2 ^ 32) }
     ensures { OnOk result (heard.new ≡ noted_from links.now from.now call.now now heard.old) }
 {
     match from {
-        Source::Link(number) if is_client_at(links, *number) => {
+        Source::Link(number) if links.is_client_at(*number) => {
             heard.note(alloc, *number, call, now)?;
         }
         _ => {}
     }
     Ok(())
-}
-
-/// Forgets what the links heard and were promised that a send found gone.
-pub(crate) fn forget_lost(heard: &mut Heard, links: &[Link])
-    ensures { heard.new ≡ forgotten_all (numbers (filter is_lost links.now)) heard.old }
-{
-    for link in links {
-        if link.is_lost() {
-            heard.forget(link.number());
-        }
-    }
 }
 
 /// Forgets what all links heard and were promised.

@@ -1,15 +1,14 @@
 //! What the core keeps for other servers: its uplinks, and what the last round has for them.
-ghost use Rattle.std.specs.Prelude.{◌≡◌, ◌++◌, ◌≤◌, ◌^◌, [], IfOk, None, OnOk, filter, length, map, if◌then◌else◌};
+ghost use Rattle.std.specs.Prelude.{◌≡◌, ◌++◌, ◌≤◌, [], IfOk, None, OnOk, length, map, if◌then◌else◌};
 ghost use Rattle.std.specs.Arc.{arc_value};
 ghost use Rattle.aprs_history.specs.Dials.{casts_to};
-ghost use Rattle.server_core.specs.LinkSteps.{Rises, ended_all, has_number, is_lost, numbers};
+ghost use Rattle.server_core.specs.LinkSteps.{ended_all, has_number};
 ghost use Rattle.server_core.specs.Meaning.{peer_of};
 ghost use Rattle.uplinks_peers.specs.Uplinks.{acts_at, is_dialled, untried, uplinks_after};
 ghost use Rattle.uplinks_peers.specs.declared.uplinks.UpEvent.TheVariants as up;
 
 use crate::acts::CastOut;
-use crate::link::Link;
-use crate::links::has_link;
+use crate::served::Served;
 use aprs_base::{Line, Memory};
 use aprs_conf::PeerSpec;
 use std::alloc::Global;
@@ -88,21 +87,19 @@ impl Reach {
     }
 
     /// A link brought bytes, where it is there.
-    pub fn hear_at(&mut self, links: &[Link], link: u32, now: u64)
-        requires { Rises 0 (numbers links.now) (2 ^ 32) }
+    pub fn hear_at(&mut self, links: &Served, link: u32, now: u64)
         ensures { self.new ≡ (if has_number link links.now then record self.old { uplinks = uplinks_after (up.Heard link) now self.old.uplinks } else self.old) }
     {
-        if has_link(links, link) {
+        if links.has_link(link) {
             self.uplinks.step(UpEvent::Heard(link), now);
         }
     }
 
     /// A link ended, where it was there.
-    pub fn end_at(&mut self, links: &[Link], link: u32, now: u64)
-        requires { Rises 0 (numbers links.now) (2 ^ 32) }
+    pub fn end_at(&mut self, links: &Served, link: u32, now: u64)
         ensures { self.new ≡ (if has_number link links.now then record self.old { uplinks = uplinks_after (up.Ended link) now self.old.uplinks } else self.old) }
     {
-        if has_link(links, link) {
+        if links.has_link(link) {
             self.end(link, now);
         }
     }
@@ -120,17 +117,6 @@ impl Reach {
     {
         for link in links {
             self.end(*link, now);
-        }
-    }
-
-    /// The links that a send found gone ended.
-    pub fn end_lost(&mut self, links: &[Link], now: u64)
-        ensures { self.new ≡ record self.old { uplinks = ended_all (numbers (filter is_lost links.now)) now self.old.uplinks } }
-    {
-        for link in links {
-            if link.is_lost() {
-                self.end(link.number(), now);
-            }
         }
     }
 

@@ -27,9 +27,8 @@ mod verdicts;
 
 use crate::acts::Acts;
 use crate::conf::uplink_timeout;
-use crate::link::Link;
-use crate::links::{lose, offer, take};
 use crate::reach::Reach;
+use crate::served::Served;
 use aprs_base::{Event, JournalLine, Memory, Totals};
 use aprs_conf::Conf;
 use dupe_window::Window;
@@ -56,10 +55,10 @@ fn reach_for(alloc: Global, conf: &Conf) -> Reach
 }
 
 /// A count raised by so many, which stays at the greatest u64.
-fn raised(count: u64, n: usize) -> u64
+fn raised(count: u64, n: u64) -> u64
     ensures { result ≡ more n count }
 {
-    count.saturating_add(u64::try_from(n).unwrap_or(u64::MAX))
+    count.saturating_add(n)
 }
 
 /// The core of a server.
@@ -67,7 +66,7 @@ fn raised(count: u64, n: usize) -> u64
 pub struct Core {
     conf: Conf,
     moment: u64,
-    links: Vec<Link>,
+    links: Served,
     /// The links that were turned away in this round, and those that ended in it and are to be closed, both rising.
     turned: Vec<u32>,
     closing: Vec<u32>,
@@ -90,9 +89,9 @@ impl Model for Core {
 
     ghost Value = { CoreMeaning };
 
-    ghost view = { λ c. record { conf = c.conf; seen = record { moment = c.moment; links = c.links.items; turned = c.turned.items; closing = c.closing.items; window = c.window; stations = c.stations; heard = c.heard; reach = c.reach; greatest = c.greatest; stopped = c.stopped; totals = c.totals } } };
+    ghost view = { λ c. record { conf = c.conf; seen = record { moment = c.moment; links = c.links; turned = c.turned.items; closing = c.closing.items; window = c.window; stations = c.stations; heard = c.heard; reach = c.reach; greatest = c.greatest; stopped = c.stopped; totals = c.totals } } };
 
-    ghost invariant = { λ c. IsKept (record { conf = c.conf; seen = record { moment = c.moment; links = c.links.items; turned = c.turned.items; closing = c.closing.items; window = c.window; stations = c.stations; heard = c.heard; reach = c.reach; greatest = c.greatest; stopped = c.stopped; totals = c.totals } }) };
+    ghost invariant = { λ c. IsKept (record { conf = c.conf; seen = record { moment = c.moment; links = c.links; turned = c.turned.items; closing = c.closing.items; window = c.window; stations = c.stations; heard = c.heard; reach = c.reach; greatest = c.greatest; stopped = c.stopped; totals = c.totals } }) };
 }
 
 impl Core {
@@ -118,7 +117,7 @@ impl Core {
         Ok(Core {
             conf,
             moment: 0,
-            links: Vec::new(alloc),
+            links: Served::new(alloc),
             turned: Vec::new(alloc),
             closing: Vec::new(alloc),
             window: Window::new(alloc, *hasher, DUPLICATE_SECONDS),
@@ -161,7 +160,7 @@ impl Core {
     pub fn serves(&self, link: u32) -> bool
         ensures { result ≡ has_number link self.now.seen.links }
     {
-        self.links.iter().any(|served| served.number == link)
+        self.links.has_link(link)
     }
 
     /// The packets that were accepted a short while ago.
@@ -205,7 +204,7 @@ impl Core {
             → OnOk result (lines.new.items ≡ lines.old.items ++ round_lines (setting_of self.old.conf) (trace_of (setting_of self.old.conf) (with_events events.now h))) }
     {
         self.tell_lost(lines)?;
-        self.begin();
+        self.begin(alloc)?;
         self.walk(alloc, events, lines)?;
         self.finish(alloc, events, lines)?;
         self.acts(alloc)
@@ -228,7 +227,7 @@ impl Core {
         ensures bytes { take result out.new ≡ take (min (length out.old) 65536) (pending_at link self.now.seen.links) }
     {
         let room = out.len().min(MOST_OFFERED);
-        offer(self.links.as_slice(), link, &mut out[..room])
+        self.links.offer(link, &mut out[..room])
     }
 
     /// The link took the first `n` of the `offered` bytes, which were its last offer.
@@ -240,7 +239,7 @@ impl Core {
         ensures numbers { numbers self.new.seen.links ≡ numbers self.old.seen.links }
         ensures rest { SameRest self.old self.new }
     {
-        take(&mut self.links, link, offered, n);
+        self.links.take(link, offered, n);
     }
 
     /// A send found the link gone: it ends as the next round begins.
@@ -249,6 +248,6 @@ impl Core {
         ensures numbers { numbers self.new.seen.links ≡ numbers self.old.seen.links }
         ensures rest { SameRest self.old self.new }
     {
-        lose(&mut self.links, link);
+        self.links.lose(link);
     }
 }

@@ -38,7 +38,7 @@ module _ {X : Type 0} (f : X → X) where
   mapped_at (x ∷ xs) zero new d lt is = ap (λ y. y ∷ xs) is
   mapped_at (x ∷ xs) (suc i) new d lt is = ap (λ ys. f x ∷ ys) (mapped_at xs i new d (omega arith) is)
 
-  get_mapped : (xs : List X) (i : ℕ) (d : X) → i < length xs → get_or (map f (take i xs) ++ drop i xs) i d ≡ get_or xs i d
+  pub get_mapped : (xs : List X) (i : ℕ) (d : X) → i < length xs → get_or (map f (take i xs) ++ drop i xs) i d ≡ get_or xs i d
   get_mapped [] i d lt = absurd (omega arith)
   get_mapped (x ∷ xs) zero d lt = refl
   get_mapped (x ∷ xs) (suc i) d lt = get_mapped xs i d (omega arith)

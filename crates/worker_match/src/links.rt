@@ -4,7 +4,7 @@ ghost use Rattle.std.specs.Arc.{arc_value};
 ghost use Rattle.std.specs.List.Sorted.{IsStrictlyIncreasing};
 ghost use Rattle.filter_eval.specs.Passes.{passes_of};
 ghost use Rattle.worker_match.specs.Items.{item_seen};
-ghost use Rattle.worker_match.specs.Seen.{Became, Came, Ended};
+ghost use Rattle.worker_match.specs.Seen.{Became, Came, Ended, Told};
 ghost use Rattle.worker_match.specs.Walk.{IsOrdered, after, feed_wants, is_chosen, is_open, met, terms_of, wants, with_copy, with_packet, with_seen, with_text};
 
 use crate::friends::{copy_friends, see_friends, see_mine};
@@ -192,6 +192,15 @@ impl LinkState {
             self.push(line.clone()?);
         }
         Ok(())
+    }
+
+    /// Takes a line for it alone, where it lives and isn't over. Where the line doesn't fit it is over.
+    pub fn tell(&mut self, line: Arc<Line>)
+        ensures { self.new ≡ after self.old (Told self.old.link (arc_value line)) }
+    {
+        if self.is_open() {
+            self.push(line);
+        }
     }
 
     /// Ends, where that is its number.

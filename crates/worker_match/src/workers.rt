@@ -87,12 +87,13 @@ fn pass<G: Gate>(links: &mut [LinkState], items: &[Item], part: u32, gate: &G) -
     ensures { OnOk result (links.new ≡ map (walked (items_seen items.now)) links.old) }
 {
     gate.enter(part);
-    let done = walk_part(links, items);
+    let done = walk(links, items);
     gate.leave(part);
     done
 }
 
-fn walk_part(links: &mut [LinkState], items: &[Item]) -> Result<(), Memory>
+/// Each link meets the items in their order, one link after another. After `Memory` nothing is said of the links.
+pub fn walk(links: &mut [LinkState], items: &[Item]) -> Result<(), Memory>
     requires { All IsOrdered (items_seen items.now) }
     ensures { OnOk result (links.new ≡ map (walked (items_seen items.now)) links.old) }
 {

@@ -10,10 +10,8 @@ ghost use Rattle.server_core.specs.Steps.{with_verdict};
 
 use super::{Core, raised};
 use crate::conf::server_of;
-use crate::link::Link;
-use crate::links::{log_in, reply, set_filter, show_all, take};
 use crate::places::friends_found;
-use aprs_base::{Line, Memory, Source};
+use aprs_base::{Line, Memory, Parts, Source};
 use aprs_history::{FilterAnswer, Refusal, Session, Verdict};
 use filter_lang::FilterSet;
 use line_verdict::{denied_line, login_line, refusal_line};
@@ -22,7 +20,7 @@ use std::sync::Arc;
 
 impl Core {
     /// A duplicate is refused, and is counted: the links that are shown such take it.
-    fn show(&mut self, alloc: Global, from: &Source, line: Line) -> Result<(), Memory>
+    fn show(&mut self, alloc: Global, from: &Source, parts: Parts, line: Line) -> Result<(), Memory>
         ensures { OnOk result (self.new ≡ record self.old {
           seen = record self.old.seen {
             links = map (with_shown from.now line) self.old.seen.links;
@@ -30,8 +28,7 @@ impl Core {
           };
         }) }
     {
-        let line = Arc::new(alloc, line)?;
-        let takers = show_all(&mut self.links, from, &line)?;
+        let takers = self.links.show(alloc, from, parts, line)?;
         self.totals.duplicate = raised(self.totals.duplicate, 1);
         self.totals.queued = raised(self.totals.queued, takers);
         Ok(())
@@ -50,7 +47,7 @@ impl Core {
     {
         match from {
             Source::Link(number) => {
-                reply(&mut self.links, *number, Arc::new(alloc, line)?);
+                self.links.reply(*number, Arc::new(alloc, line)?);
                 Ok(())
             }
             Source::Submit(_) | Source::Peer(_) => Ok(()),
@@ -67,7 +64,7 @@ impl Core {
         ensures { OnOk result (self.new ≡ with_verdict from.now (Verdict.Refused refusal) self.old) }
     {
         match refusal {
-            Refusal::Duplicate(_parts, line) => self.show(alloc, from, line),
+            Refusal::Duplicate(parts, line) => self.show(alloc, from, parts, line),
             other => {
                 self.count_refused();
                 match refusal_line(&other) {
@@ -85,7 +82,7 @@ impl Core {
     {
         let mine = self.stations.place_of(&session.call, self.moment);
         let line = Arc::new(alloc, login_line(server_of(&self.conf), &session))?;
-        log_in(&mut self.links, number, session, mine, line);
+        self.links.log_in(number, session, mine, line);
         Ok(())
     }
 
@@ -103,7 +100,8 @@ impl Core {
         let friends = friends_found(&self.stations, self.moment, &filter);
         let line = Arc::new(alloc, line)?;
         let filter = Arc::new(alloc, filter)?;
-        set_filter(&mut self.links, number, filter, friends, line)
+        self.links.set_filter(number, filter, friends, line);
+        Ok(())
     }
 
     /// The answer to a filter.
@@ -120,7 +118,7 @@ impl Core {
             FilterAnswer::Active(filter, line) => self.set_filter(alloc, number, filter, line),
             FilterAnswer::Denied(fault) => {
                 let line = Arc::new(alloc, denied_line(alloc, fault)?)?;
-                reply(&mut self.links, number, line);
+                self.links.reply(number, line);
                 self.count_refused();
                 Ok(())
             }

@@ -5,14 +5,14 @@ ghost use Rattle.aprs_history.specs.declared.verdicts.EndReason.TheVariants.{ByP
 ghost use Rattle.aprs_history.specs.Links.{late_links, late_reason};
 ghost use Rattle.aprs_history.specs.Stands.{Follows};
 ghost use Rattle.aprs_history.specs.History.{end_each, end_stopped, refused_links, refused_reason};
-ghost use Rattle.server_core.specs.LinkSteps.{is_late_link, is_overfull, numbers};
+ghost use Rattle.server_core.specs.LinkSteps.{Rises, ended_all, forgotten_all, is_late_link, is_none_of, is_overfull, numbers};
 ghost use Rattle.server_core.specs.Meaning.{setting_of, timeouts_of};
 ghost use Rattle.server_core.specs.Steps.{SameRest, Walks};
 ghost use Rattle.server_core.specs.Telling.{KnowUnasked, Tells};
 
 use super::Core;
 use crate::conf::timeouts;
-use crate::links::{all, drop_late, drop_link, drop_these, late, overfull, place_all, take};
+use crate::links::place_all;
 use crate::messages::forget_all;
 use aprs_base::{Event, JournalLine, Memory};
 use std::alloc::Global;
@@ -24,10 +24,9 @@ impl Core {
         ensures dead { (t : Trace) → Walks self.old t → is_live t number ≡ false → Walks self.new t }
         ensures rest { SameRest self.old self.new }
     {
-        self.reach
-            .end_at(self.links.as_slice(), number, self.moment);
+        self.reach.end_at(&self.links, number, self.moment);
         self.heard.forget(number);
-        drop_link(&mut self.links, number);
+        self.links.drop_these(&[number]);
     }
 
     /// The links that are late end.
@@ -51,12 +50,25 @@ impl Core {
     fn late(&self, alloc: Global) -> Result<Vec<u32>, Memory>
         ensures { IfOk result (λ v. v.items ≡ numbers (filter (is_late_link (timeouts_of self.now.conf) self.now.seen.moment) self.now.seen.links)) }
     {
-        late(
-            alloc,
-            self.links.as_slice(),
-            timeouts(&self.conf),
-            self.moment,
-        )
+        self.links.late(alloc, timeouts(&self.conf), self.moment)
+    }
+
+    /// These links leave, and are to be closed: nothing else is kept of them.
+    fn let_go(&mut self, ends: &[u32]) -> Result<(), Memory>
+        ensures rising { Rises 0 (numbers self.old.seen.links) self.old.seen.greatest }
+        ensures exact { OnOk result (self.new ≡ record self.old {
+          seen = record self.old.seen {
+            links = filter (is_none_of ends.now) self.old.seen.links;
+            heard = forgotten_all ends.now self.old.seen.heard;
+            reach = record self.old.seen.reach { uplinks = ended_all ends.now self.old.seen.moment self.old.seen.reach.uplinks };
+            closing = placed_all ends.now self.old.seen.closing;
+          };
+        }) }
+    {
+        self.reach.end_all(ends, self.moment);
+        forget_all(&mut self.heard, ends);
+        self.links.drop_these(ends);
+        place_all(&mut self.closing, ends)
     }
 
     /// The links that are late leave, and are to be closed.
@@ -65,11 +77,7 @@ impl Core {
             → OnOk result (Walks self.new (end_each (late_reason t) (late_links (setting_of self.old.conf) t) t)) }
         ensures rest { OnOk result (SameRest self.old self.new) }
     {
-        let timeouts = timeouts(&self.conf);
-        self.reach.end_all(ends, self.moment);
-        forget_all(&mut self.heard, ends);
-        drop_late(&mut self.links, timeouts, self.moment);
-        place_all(&mut self.closing, ends)
+        self.let_go(ends)
     }
 
     /// The links that are overfull end, and those that were turned away.
@@ -94,7 +102,7 @@ impl Core {
     fn refused(&self, alloc: Global) -> Result<Vec<u32>, Memory>
         ensures { IfOk result (λ v. v.items ≡ placed_all self.now.seen.turned (numbers (filter is_overfull self.now.seen.links))) }
     {
-        let mut ends = overfull(alloc, self.links.as_slice())?;
+        let mut ends = self.links.overfull(alloc)?;
         place_all(&mut ends, self.turned.as_slice())?;
         Ok(ends)
     }
@@ -105,10 +113,7 @@ impl Core {
             → OnOk result (Walks self.new (end_each (refused_reason t) (refused_links (setting_of self.old.conf) t) t)) }
         ensures rest { OnOk result (SameRest self.old self.new) }
     {
-        self.reach.end_all(ends, self.moment);
-        forget_all(&mut self.heard, ends);
-        drop_these(&mut self.links, ends);
-        place_all(&mut self.closing, ends)
+        self.let_go(ends)
     }
 
     /// After a stop all links end, and keep what they have still to take.
@@ -135,7 +140,7 @@ impl Core {
     fn all(&self, alloc: Global) -> Result<Vec<u32>, Memory>
         ensures { IfOk result (λ v. v.items ≡ numbers self.now.seen.links) }
     {
-        all(alloc, self.links.as_slice())
+        self.links.all(alloc)
     }
 
     /// All links are to be closed, and are forgotten.

@@ -12,7 +12,6 @@ ghost use Rattle.server_core.specs.Steps.{SameRest, Walks, scene_at, with_verdic
 ghost use Rattle.server_core.specs.Telling.{Tells, said_lines};
 
 use super::Core;
-use crate::links::bring;
 use aprs_base::{Cut, JournalLine, Memory, Source};
 use aprs_history::Verdict;
 use std::alloc::Global;
@@ -85,9 +84,8 @@ impl Core {
         ensures dead { (t : Trace) → Walks self.old t → is_live t number ≡ false → IfOk result (λ cuts. (cuts.items ≡ []) × Walks self.new t) }
         ensures rest { OnOk result (SameRest self.old self.new) }
     {
-        self.reach
-            .hear_at(self.links.as_slice(), number, self.moment);
-        bring(alloc, &mut self.links, number, self.moment, bytes)
+        self.reach.hear_at(&self.links, number, self.moment);
+        self.links.bring(alloc, number, self.moment, bytes)
     }
 
     /// Bytes came on a link: they are cut, and each line is heard.

@@ -14,8 +14,6 @@ ghost use Rattle.server_core.specs.Telling.{Tells};
 
 use super::Core;
 use crate::conf::{code_of, is_client_kind, most_clients, served_by, server_of};
-use crate::link::Link;
-use crate::links::count_clients;
 use aprs_base::{Addr, JournalLine, Line, Memory};
 use aprs_history::{Admission, LinkKind};
 use line_verdict::{banner_line, uplink_line};
@@ -40,7 +38,7 @@ impl Core {
     {
         match served_by(&self.conf, listener) {
             Some(kind) if is_client_kind(kind) => {
-                if count_clients(self.links.as_slice()) < most_clients(&self.conf) {
+                if self.links.count_clients() < most_clients(&self.conf) {
                     Admission::Served(LinkKind::Client(kind))
                 } else {
                     Admission::TurnedAway
@@ -84,8 +82,8 @@ impl Core {
         ensures { OnOk result (self.new ≡ record self.old { seen = admitted_in (setting_of self.old.conf) (Admission.Served kind) number from self.old.seen }) }
     {
         let first = self.first_line(alloc, kind)?;
-        let link = Link::open(alloc, number, kind, from, self.moment, first)?;
-        self.links.push(link)?;
+        self.links
+            .open(alloc, number, kind, from, self.moment, first)?;
         self.greatest = number;
         Ok(())
     }

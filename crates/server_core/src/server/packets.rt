@@ -12,7 +12,6 @@ ghost use Rattle.server_core.specs.Steps.{with_verdict};
 use super::{Core, raised};
 use crate::conf::peers_of;
 use crate::link::SourcePlace;
-use crate::links::{is_submitted, share};
 use crate::messages::{hearers_of, is_position, note_from, owed_to, promise_all, receiver_of};
 use aprs_base::{Line, Memory, Packet, Parts, Shared, Source};
 use aprs_body::classify;
@@ -43,7 +42,7 @@ impl Core {
         SourcePlace {
             place: self.stations.place_of(&packet.parts.source, self.moment),
             gate: self.stations.is_gate(&packet.parts.source, self.moment),
-            submitted: is_submitted(self.links.as_slice(), &packet.from),
+            submitted: self.links.is_submitted(&packet.from),
         }
     }
 
@@ -69,7 +68,7 @@ impl Core {
           };
         }) }
     {
-        let links = self.links.as_slice();
+        let links = &self.links;
         let sender = &packet.parts.source;
         promise_all(
             alloc,
@@ -117,9 +116,8 @@ impl Core {
         let owed = self.spend(alloc, packet)?;
         self.promise(alloc, packet, hearers.as_slice())?;
         self.cast(packet, source.submitted)?;
-        let takers = share(
+        let takers = self.links.share(
             alloc,
-            &mut self.links,
             packet,
             shared,
             &source,

@@ -13,23 +13,24 @@ ghost use Rattle.server_core.specs.Telling.{KnowUnasked, Tells};
 
 use super::Core;
 use crate::acts::Acts;
-use crate::links::{drop_gone, give_room, ready};
-use crate::messages::forget_lost;
+use crate::messages::forget_all;
 use aprs_base::{Event, JournalLine, Memory};
 use std::alloc::Global;
 
 impl Core {
     /// A round begins: the links that a send found gone end.
-    pub(super) fn begin(&mut self)
-        ensures walks { (t : Trace) → Walks self.old t → Walks self.new (begin_round t) }
-        ensures rest { SameRest self.old self.new }
+    pub(super) fn begin(&mut self, alloc: Global) -> Result<(), Memory>
+        ensures walks { (t : Trace) → Walks self.old t → OnOk result (Walks self.new (begin_round t)) }
+        ensures rest { OnOk result (SameRest self.old self.new) }
     {
+        let lost = self.links.lost(alloc)?;
         self.turned.clear();
         self.closing.clear();
         self.reach.begin();
-        self.reach.end_lost(self.links.as_slice(), self.moment);
-        forget_lost(&mut self.heard, self.links.as_slice());
-        drop_gone(&mut self.links);
+        self.reach.end_all(lost.as_slice(), self.moment);
+        forget_all(&mut self.heard, lost.as_slice());
+        self.links.drop_these(lost.as_slice());
+        Ok(())
     }
 
     /// A link has room again.
@@ -38,7 +39,7 @@ impl Core {
         ensures dead { (t : Trace) → Walks self.old t → is_live t number ≡ false → Walks self.new t }
         ensures rest { SameRest self.old self.new }
     {
-        give_room(&mut self.links, number);
+        self.links.give_room(number);
     }
 
     /// The server is to stop.
@@ -141,7 +142,7 @@ impl Core {
         ensures dial { IfOk result (λ acts. acts.dial ≡ self.now.seen.reach.dial) }
         ensures casts { IfOk result (λ acts. acts.casts ≡ self.now.seen.reach.casts) }
     {
-        let offers = ready(alloc, self.links.as_slice())?;
+        let offers = self.links.ready(alloc)?;
         let closes = self.closing.clone()?;
         Ok(Acts {
             dial: self.reach.dial(),

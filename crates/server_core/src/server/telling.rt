@@ -10,8 +10,7 @@ ghost use Rattle.server_core.specs.Telling.{late_line, lost_line, refused_line, 
 
 use super::Core;
 use crate::conf::{group_of, timeouts};
-use crate::links::has_link;
-use crate::telling::{tell_late, tell_lost, tell_opened, tell_refused, tell_stopped, tell_verdict};
+use crate::telling::{tell_opened, tell_refused, tell_verdict};
 use aprs_base::{Event, JournalLine, Memory, Source};
 use aprs_history::{Admission, EndReason, Refusal, Verdict};
 use journal_lines::{end_line, join_line, refusal_line, unjoined_line};
@@ -86,7 +85,7 @@ impl Core {
     pub(super) fn tell_ended(&self, link: u32, lines: &mut Vec<JournalLine>) -> Result<(), Memory>
         ensures { OnOk result (lines.new.items ≡ lines.old.items ++ (if has_number link self.now.seen.links then end_line self.now.seen.moment link ByPeer ∷ [] else [])) }
     {
-        if has_link(self.links.as_slice(), link) {
+        if self.links.has_link(link) {
             lines.push(end_line(self.moment, link, EndReason::ByPeer))?;
         }
         Ok(())
@@ -96,19 +95,15 @@ impl Core {
     pub(super) fn tell_lost(&self, lines: &mut Vec<JournalLine>) -> Result<(), Memory>
         ensures { OnOk result (lines.new.items ≡ lines.old.items ++ map (lost_line self.now.seen.moment) (filter is_lost self.now.seen.links)) }
     {
-        tell_lost(self.links.as_slice(), self.moment, lines)
+        self.links.tell_lost(self.moment, lines)
     }
 
     /// The links that are late.
     pub(super) fn tell_late(&self, lines: &mut Vec<JournalLine>) -> Result<(), Memory>
         ensures { OnOk result (lines.new.items ≡ lines.old.items ++ map (late_line self.now.seen.moment) (filter (is_late_link (timeouts_of self.now.conf) self.now.seen.moment) self.now.seen.links)) }
     {
-        tell_late(
-            self.links.as_slice(),
-            timeouts(&self.conf),
-            self.moment,
-            lines,
-        )
+        self.links
+            .tell_late(timeouts(&self.conf), self.moment, lines)
     }
 
     /// The links that end with the round, which has these events.
@@ -127,6 +122,6 @@ impl Core {
     pub(super) fn tell_stopped(&self, lines: &mut Vec<JournalLine>) -> Result<(), Memory>
         ensures { OnOk result (lines.new.items ≡ lines.old.items ++ map (stop_line self.now.seen.moment) self.now.seen.links) }
     {
-        tell_stopped(self.links.as_slice(), self.moment, lines)
+        self.links.tell_stopped(self.moment, lines)
     }
 }

@@ -12,7 +12,6 @@ ghost use Rattle.server_core.specs.Telling.{Tells};
 
 use super::Core;
 use crate::conf::server_of;
-use crate::links::{forget_places, late, tell_all};
 use aprs_base::{JournalLine, Memory};
 use line_verdict::comment_of;
 use std::alloc::Global;
@@ -32,7 +31,7 @@ impl Core {
         ensures sights { (packets : List PacketSeen) → HasExactly self.old.seen.moment self.old.seen.stations packets → HasExactly now (young now self.old.seen.stations) packets }
     {
         self.moment = now;
-        forget_places(&mut self.links, now);
+        self.links.forget(now);
         self.window.expire(now);
         self.stations.expire(now);
         self.heard.expire(now);
@@ -56,7 +55,7 @@ impl Core {
     {
         if before / COMMENT_SECONDS < self.moment / COMMENT_SECONDS {
             let line = Arc::new(alloc, comment_of(server_of(&self.conf), self.moment))?;
-            tell_all(&mut self.links, &line)?;
+            self.links.tell_all(line)?;
         }
         Ok(())
     }

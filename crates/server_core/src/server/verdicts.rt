@@ -9,7 +9,6 @@ ghost use Rattle.server_core.specs.Steps.{carried_at, scene_at};
 
 use super::Core;
 use crate::conf::server_of;
-use crate::links::{logins, others, voice_at};
 use aprs_base::{Call, Cut, Line, Memory};
 use aprs_history::{Refusal, Verdict};
 use line_verdict::{Voice, is_comment_line, judge_comment, judge_login, judge_packet};
@@ -49,7 +48,7 @@ impl Core {
             }
             Voice::Reader => Ok(Verdict::Refused(Refusal::ReadOnly)),
             Voice::Client { origin, .. } | Voice::Carrier(origin) => {
-                let others = others(alloc, self.links.as_slice(), number)?;
+                let others = self.links.others(alloc, number)?;
                 Ok(self.judge_sent(origin, others.as_slice(), line))
             }
         }
@@ -80,7 +79,7 @@ impl Core {
         match cut {
             Cut::Long => Ok(Verdict::Refused(Refusal::Long)),
             Cut::Line(line) => {
-                let voice = voice_at(self.links.as_slice(), number);
+                let voice = self.links.voice_at(number);
                 self.judge_spoken(alloc, number, &voice, line)
             }
         }
@@ -100,7 +99,7 @@ impl Core {
             Cut::Long => Ok(Verdict::Refused(Refusal::Long)),
             Cut::Line(line) if is_comment_line(line) => Ok(Verdict::PassedOver),
             Cut::Line(line) => {
-                let others = logins(alloc, self.links.as_slice())?;
+                let others = self.links.logins(alloc)?;
                 Ok(self.judge_sent(origin, others.as_slice(), line))
             }
         }

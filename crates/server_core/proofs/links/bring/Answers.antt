@@ -6,6 +6,7 @@ use Rattle.aprs_base.specs.Held.{Held, held_after}
 use Rattle.aprs_base.specs.Cuts.{cuts_by}
 use Rattle.server_core.specs.LinkSteps.{has_that, held_kept, with_bytes}
 use Rattle.server_core.proofs.LinkLemmas.{changed_by, picked_found, picked_none}
+use Rattle.server_core.proofs.ServedLemmas.{brought_matches, half_changed}
 use Rattle.server_core.proofs.links.bring.Goals as goal
 
 pub place_of-requires : goal.place_of-requires
@@ -47,7 +48,15 @@ pub returns-in-None-clause-cuts : goal.returns-in-None-clause-cuts
 returns-in-None-clause-cuts c = λ before is. absurd (some_none (held_after before) (sym is ∙ picked_none held_kept None c.args.number c.args.links.now.items (c.in-None.ensures ∙ ap (position (has_that c.args.number)) c.as_slice.ensures.value)))
 
 pub returns-in_err-bring-in-Some-clause-numbers : goal.returns-in_err-bring-in-Some-clause-numbers
-returns-in_err-bring-in-Some-clause-numbers c = map-set_same number_of c.args.links.now.items c.in-Some.place c.bring.new.self c.index_mut.result.now (c.bring.ensures.number ∙ ap number_of c.index_mut.ensures.value)
+returns-in_err-bring-in-Some-clause-numbers c = map-set_same number_of c.args.links.now.items c.in-Some.place c.bring.new.self c.index_mut.result.now (ap number_of c.bring.ensures.frame ∙ ap number_of c.index_mut.ensures.value)
 
 pub returns-in_ok-bring-in-Some-clause-numbers : goal.returns-in_ok-bring-in-Some-clause-numbers
-returns-in_ok-bring-in-Some-clause-numbers c = map-set_same number_of c.args.links.now.items c.in-Some.place c.bring.new.self c.index_mut.result.now (c.bring.ensures.number ∙ ap number_of c.index_mut.ensures.value)
+returns-in_ok-bring-in-Some-clause-numbers c = map-set_same number_of c.args.links.now.items c.in-Some.place c.bring.new.self c.index_mut.result.now (ap number_of c.bring.ensures.frame ∙ ap number_of c.index_mut.ensures.value)
+
+pub returns-in_ok-bring-in-Some-clause-halves : goal.returns-in_ok-bring-in-Some-clause-halves
+returns-in_ok-bring-in-Some-clause-halves c states all =
+    half_changed c.args.links.now.items states c.in-Some.place c.index_mut.result.now c.bring.new.self all c.index_mut.ensures.value (λ s m. brought_matches c.index_mut.result.now c.bring.new.self s c.bring.ensures.frame m)
+
+pub returns-in_err-bring-in-Some-clause-halves : goal.returns-in_err-bring-in-Some-clause-halves
+returns-in_err-bring-in-Some-clause-halves c states all =
+    half_changed c.args.links.now.items states c.in-Some.place c.index_mut.result.now c.bring.new.self all c.index_mut.ensures.value (λ s m. brought_matches c.index_mut.result.now c.bring.new.self s c.bring.ensures.frame m)

@@ -4,7 +4,7 @@ use Rattle.server_core.specs.LinkSteps.{is_asked_at}
 use Rattle.server_core.proofs.AskedLemmas.{passing_rise}
 use Rattle.server_core.proofs.links.offered.Goals as goal
 
-pub returns-clause-offer : goal.returns-clause-offer
-returns-clause-offer c =
+pub returns-clause-ordered : goal.returns-clause-ordered
+returns-clause-ordered c =
     subst IsStrictlyIncreasing (sym c.in_ok-extra.ensures)
     (passing_rise (is_asked_at c.args.packet.now c.args.hearers.now c.args.owed.now) (2 ^ 32) c.args.links.now c.requires.rises)

@@ -11,19 +11,11 @@ use Rattle.aprs_history.specs.Links.{brought_by}
 use Rattle.server_core.proofs.CoreLemmas.{walks_brought, held_now, held_never, walks_unbrought}
 use Rattle.server_core.proofs.server.Core.bring.Goals as goal
 
-pub bring-requires : goal.bring-requires
-bring-requires c = rises_to 0 c.self.inside.greatest (2 ^ 32) _ c.self.invariant.rising (let small = c.self.invariant.small in omega arith)
-
-heard_at : (number : ℕ) (links old : List LinkSeen) (now : ℕ) (reach new : ReachSeen) → links ≡ old
-    → new ≡ (if has_number number links then record reach { uplinks = uplinks_after (up.Heard number) now reach.uplinks } else reach)
-    → new ≡ (if has_number number old then record reach { uplinks = uplinks_after (up.Heard number) now reach.uplinks } else reach)
-heard_at number links old now reach new same is = is ∙ ap (λ ls. if has_number number ls then record reach { uplinks = uplinks_after (up.Heard number) now reach.uplinks } else reach) same
-
 pub returns-clause-live : goal.returns-clause-live
 returns-clause-live c = λ t walks live.
     let w = subst (λ core. Walks core t) (sym c.self.view_is) walks in
-    on_ok_weaker c.bring.result (λ new. walks_brought _ t w c.args.number c.args.bytes.now c.bring.new.links.items c.hear_at.new.self live
-    (heard_at c.args.number c.as_slice.result.now c.self.inside.links.items c.self.inside.moment c.self.inside.reach c.hear_at.new.self c.as_slice.ensures.value c.hear_at.ensures) new)
+    on_ok_weaker c.bring.result (λ new. walks_brought _ t w c.args.number c.args.bytes.now c.bring.new.self c.hear_at.new.self live
+    c.hear_at.ensures new)
     (c.bring.ensures.links (brought_by t c.args.number) (held_now _ t w c.args.number live))
 
 pub returns-clause-cuts : goal.returns-clause-cuts
@@ -34,9 +26,6 @@ returns-clause-cuts c = λ t walks live.
 pub returns-clause-dead : goal.returns-clause-dead
 returns-clause-dead c = λ t walks dead.
     let w = subst (λ core. Walks core t) (sym c.self.view_is) walks in
-    walks_unbrought _ t w c.args.number c.bring.new.links.items c.hear_at.new.self c.bring.result dead
-    (heard_at c.args.number c.as_slice.result.now c.self.inside.links.items c.self.inside.moment c.self.inside.reach c.hear_at.new.self c.as_slice.ensures.value c.hear_at.ensures)
+    walks_unbrought _ t w c.args.number c.bring.new.self c.hear_at.new.self c.bring.result dead
+    c.hear_at.ensures
     (c.bring.ensures.nowhere (held_never _ t w c.args.number dead))
-
-pub hear_at-requires : goal.hear_at-requires
-hear_at-requires c = rw c.as_slice.ensures.value (rises_to 0 c.self.inside.greatest (2 ^ 32) _ c.self.invariant.rising (let small = c.self.invariant.small in omega arith))

@@ -1,22 +1,20 @@
-use Rattle.std.proofs.Common.{subst, sym, ap, ◌∙◌, filter}
+use Rattle.std.proofs.Common.{ap, filter, refl, subst, sym, ◌∙◌}
 use Rattle.std.proofs.lemmas.Result.{on_ok_weaker}
-use Rattle.server_core.specs.declared.link.Timeouts.{Timeouts}
-use Rattle.server_core.specs.Meaning.{timeouts_of}
-use Rattle.server_core.specs.LinkSteps.{is_in_time, is_late_link, numbers}
-use Rattle.server_core.specs.Meaning.{CoreMeaning}
+use Rattle.aprs_history.specs.History.{end_each}
+use Rattle.aprs_history.specs.Links.{late_links, late_reason}
+use Rattle.server_core.specs.LinkSteps.{is_late_link, is_none_of}
+use Rattle.server_core.specs.Meaning.{setting_of, timeouts_of}
 use Rattle.server_core.specs.Steps.{Walks}
-use Rattle.server_core.proofs.CoreLemmas.{kept_left, walks_late}
+use Rattle.server_core.proofs.CoreLemmas.{walks_late}
+use Rattle.server_core.proofs.LeftLemmas.{passing_left}
 use Rattle.server_core.proofs.server.Core.drop_late.Goals as goal
-
-pub invariant_of-self : goal.invariant_of-self
-invariant_of-self c =
-    kept_left _ (is_in_time (timeouts_of c.self.inside.conf) c.self.inside.moment) c.drop_late.new.links.items c.forget_all.new.heard c.end_all.new.self c.self.inside.turned.items c.place_all.new.numbers.items
-    (c.drop_late.ensures ∙ ap (λ (given : Timeouts). filter (is_in_time given c.self.inside.moment) c.self.inside.links.items) c.timeouts-timeouts.ensures) c.self.invariant
 
 pub returns-clause-walks : goal.returns-clause-walks
 returns-clause-walks c = λ t walks ends.
-    on_ok_weaker c.place_all.result
-    (λ closed. walks_late _ c.args.self.now.conf t c.args.ends.now c.place_all.new.numbers.items c.drop_late.new.links.items c.forget_all.new.heard c.end_all.new.self (subst (λ core. Walks core t) (sym c.self.view_is) walks) (ap (λ (core : CoreMeaning). core.conf) c.self.view_is)
-    (ends ∙ ap (λ (core : CoreMeaning). numbers (filter (is_late_link (timeouts_of core.conf) core.seen.moment) core.seen.links)) (sym c.self.view_is))
-    (c.drop_late.ensures ∙ ap (λ (given : Timeouts). filter (is_in_time given c.self.inside.moment) c.self.inside.links.items) c.timeouts-timeouts.ensures) c.forget_all.ensures c.end_all.ensures closed)
-    c.place_all.ensures
+    let core = c.args.self.now in
+    let late = is_late_link (timeouts_of core.conf) core.seen.moment in
+    on_ok_weaker c.let_go.result
+    (λ is. subst (λ core. Walks core (end_each (late_reason t) (late_links (setting_of c.args.self.now.conf) t) t)) (sym is)
+    (walks_late core core.conf t c.args.ends.now _ _ _ _ walks refl ends
+    (ap (λ ns. filter (is_none_of ns) core.seen.links) ends ∙ passing_left late core.seen.greatest core.seen.links c.let_go.ensures.rising) refl refl refl))
+    c.let_go.ensures.exact

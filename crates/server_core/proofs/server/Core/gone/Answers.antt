@@ -6,18 +6,15 @@ use Rattle.server_core.proofs.CoreLemmas.{kept_at}
 use Rattle.server_core.proofs.SendLemmas.{stands_gone}
 use Rattle.server_core.proofs.server.Core.gone.Goals as goal
 
-pub lose-requires : goal.lose-requires
-lose-requires c = rises_to 0 c.self.inside.greatest (2 ^ 32) _ c.self.invariant.rising (let small = c.self.invariant.small in omega arith)
-
 pub invariant_of-self : goal.invariant_of-self
-invariant_of-self c = kept_at _ c.args.link when_gone c.lose.new.links.items (λ link. refl) c.lose.ensures c.self.invariant
+invariant_of-self c = kept_at _ c.args.link when_gone c.lose.new.self (λ link. refl) c.lose.ensures c.self.invariant
 
 pub returns-clause-stands : goal.returns-clause-stands
 returns-clause-stands c = λ h bytes stands.
-    let core : CoreMeaning = record { conf = c.self.inside.conf; seen = record { moment = c.self.inside.moment; links = c.self.inside.links.items; turned = c.self.inside.turned.items; closing = c.self.inside.closing.items; window = c.self.inside.window; stations = c.self.inside.stations; heard = c.self.inside.heard; reach = c.self.inside.reach; greatest = c.self.inside.greatest; stopped = c.self.inside.stopped; totals = c.self.inside.totals } } in
-    stands_gone core c.lose.new.links.items c.args.link bytes h (subst (λ core. Stands core h) (sym c.self.view_is) stands) c.lose.ensures
+    let core : CoreMeaning = record { conf = c.self.inside.conf; seen = record { moment = c.self.inside.moment; links = c.self.inside.links; turned = c.self.inside.turned.items; closing = c.self.inside.closing.items; window = c.self.inside.window; stations = c.self.inside.stations; heard = c.self.inside.heard; reach = c.self.inside.reach; greatest = c.self.inside.greatest; stopped = c.self.inside.stopped; totals = c.self.inside.totals } } in
+    stands_gone core c.lose.new.self c.args.link bytes h (subst (λ core. Stands core h) (sym c.self.view_is) stands) c.lose.ensures
 
 pub returns-clause-numbers : goal.returns-clause-numbers
 returns-clause-numbers c =
-    ap numbers c.lose.ensures ∙ numbers_kept (at_link c.args.link when_gone) (at_keeps c.args.link when_gone (λ link. refl)) c.self.inside.links.items
+    ap numbers c.lose.ensures ∙ numbers_kept (at_link c.args.link when_gone) (at_keeps c.args.link when_gone (λ link. refl)) c.self.inside.links
     ∙ ap (λ (core : CoreMeaning). numbers core.seen.links) c.self.view_is

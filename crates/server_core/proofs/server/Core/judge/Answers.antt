@@ -21,9 +21,6 @@ returns-in-Line c =
     let line = c.in-Line.line in
     let speaker = speaker_at c.args.number core.seen.links in
     let who : c.voice_at-voice.result ≡ voice_of speaker =
-    c.voice_at-voice.ensures.value ∙ ap (λ links. voice_of (speaker_at c.args.number links)) (c.as_slice.ensures.value ∙ ap (λ (core : CoreMeaning). core.seen.links) c.self.view_is) in
+    c.voice_at-voice.ensures.value ∙ ap (λ links. voice_of (speaker_at c.args.number links)) (ap (λ (core : CoreMeaning). core.seen.links) c.self.view_is) in
     ok_as c.judge_spoken.result c.judge_spoken.ensures
     (ap (λ (voice : Voice). voice_verdict (scene_at core c.args.number) voice line) who ∙ sym (voice_says (scene_at core c.args.number) speaker line) ∙ ap (verdict_of (scene_at core c.args.number)) (sym c.in-Line.is))
-
-pub voice_at-voice-requires : goal.voice_at-voice-requires
-voice_at-voice-requires c = rw c.as_slice.ensures.value (rises_to 0 c.self.inside.greatest (2 ^ 32) _ c.self.invariant.rising (let small = c.self.invariant.small in omega arith))

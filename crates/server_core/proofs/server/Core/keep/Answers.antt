@@ -9,9 +9,6 @@ use Rattle.server_core.proofs.LinkLemmas.{rises_to}
 use Rattle.server_core.proofs.WindowLemmas.{current_with, not_kept}
 use Rattle.server_core.proofs.server.Core.keep.Goals as goal
 
-pub share-requires-clause-rises : goal.share-requires-clause-rises
-share-requires-clause-rises c = rises_to 0 c.self-2.inside.greatest (2 ^ 32) _ c.self-2.invariant.rising (let small = c.self-2.invariant.small in omega arith)
-
 pub insert-requires-clause-new : goal.insert-requires-clause-new
 insert-requires-clause-new c =
     let now = c.self-2.inside.moment in
@@ -31,7 +28,7 @@ invariant_of-self-2 c =
     let at : now ≡ c.args.self.now.seen.moment = ap moments c.self-2.view_is ∙ ap moments c.in_ok-cast.ensures ∙ ap moments c.in_ok-promise.ensures ∙ ap moments c.in_ok-owed.ensures.spent in
     let here : now ≡ c.packet.inside.moment = at ∙ sym c.requires.now ∙ sym (ap (λ (packet : PacketSeen). packet.moment) c.packet.view_is) in
     record {
-      rising = subst (λ ns. Rises 0 ns c.self-2.inside.greatest) (sym c.in_ok-takers.ensures.numbers) c.self-2.invariant.rising;
+      rising = c.in_ok-takers.ensures.rises c.self-2.inside.greatest c.self-2.invariant.rising;
       small = c.self-2.invariant.small;
       station = c.self-2.invariant.station;
       group = c.self-2.invariant.group;

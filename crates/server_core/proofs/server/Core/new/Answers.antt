@@ -8,11 +8,11 @@ use Rattle.server_core.proofs.server.Core.new.Goals as goal
 
 pub returns-clause-stands : goal.returns-clause-stands
 unfolding totals_of
-returns-clause-stands c = stands_listening (setting_of c.args.conf) _ (listeners c.args.conf) 0 _ (stands_new (setting_of c.args.conf) _ c.args.hasher.now refl c.new.ensures.items c.new-2.ensures.items c.new-3.ensures.items c.new-4.ensures c.in_ok-new.ensures.empty c.in_ok-new-2.ensures.empty c.reach_for-reach.ensures refl refl refl)
+returns-clause-stands c = stands_listening (setting_of c.args.conf) _ (listeners c.args.conf) 0 _ (stands_new (setting_of c.args.conf) _ c.args.hasher.now refl c.new.ensures c.new-2.ensures.items c.new-3.ensures.items c.new-4.ensures c.in_ok-new.ensures.empty c.in_ok-new-2.ensures.empty c.reach_for-reach.ensures refl refl refl)
 
 pub invariant_of-result : goal.invariant_of-result
 invariant_of-result c = record {
-  rising = subst (λ links. Rises 0 (numbers links) 0) (sym c.new.ensures.items) (omega arith);
+  rising = subst (λ links. Rises 0 (numbers links) 0) (sym c.new.ensures) (omega arith);
   small = omega arith;
   station = c.requires.station;
   group = c.requires.peers;

@@ -1,25 +1,26 @@
-use Rattle.std.proofs.Common.{◌≡◌, ◌^◌, arith, ap, ◌∙◌, map}
+use Rattle.std.proofs.Common.{◌≡◌, Some, ap, ◌∙◌, map}
 use Rattle.std.specs.Arc.{arc_value}
 use Rattle.filter_eval.specs.Passes.{fresh}
 use Rattle.station_table.specs.Stations.{place_at}
 use Rattle.aprs_base.specs.declared.packets.Source.TheVariants as source
+use Rattle.aprs_history.specs.Stands.{place_kept}
 use Rattle.aprs_history.specs.Texts.{login_reply}
 use Rattle.server_core.specs.LinkSteps.{after_login, at_link, with_session}
 use Rattle.server_core.specs.Meaning.{CoreMeaning}
-use Rattle.server_core.proofs.LinkLemmas.{rises_to}
-use Rattle.server_core.proofs.CoreLemmas.{relinked}
+use Rattle.server_core.proofs.CoreLemmas.{kept_at, relinked}
+use Rattle.server_core.proofs.FollowLemmas.{text_number}
 use Rattle.server_core.proofs.server.Core.open_session.Goals as goal
-
-pub log_in-requires-clause-rises : goal.log_in-requires-clause-rises
-log_in-requires-clause-rises c = rises_to 0 c.self.inside.greatest (2 ^ 32) _ c.self.invariant.rising (let small = c.self.invariant.small in omega arith)
 
 pub returns : goal.returns
 returns c =
     let inside = c.self.inside in
-    let core : CoreMeaning = record { conf = inside.conf; seen = record { moment = inside.moment; links = inside.links.items; turned = inside.turned.items; closing = inside.closing.items; window = inside.window; stations = inside.stations; heard = inside.heard; reach = inside.reach; greatest = inside.greatest; stopped = inside.stopped; totals = inside.totals } } in
+    let core : CoreMeaning = record { conf = inside.conf; seen = record { moment = inside.moment; links = inside.links; turned = inside.turned.items; closing = inside.closing.items; window = inside.window; stations = inside.stations; heard = inside.heard; reach = inside.reach; greatest = inside.greatest; stopped = inside.stopped; totals = inside.totals } } in
     let reply : arc_value c.in_ok-line.line ≡ login_reply inside.conf.server c.args.session =
     c.in_ok-line.ensures.ok ∙ c.login_line.ensures ∙ ap (λ server. login_reply server c.args.session) c.server_of.ensures in
-    ap (λ links. relinked links core) (c.log_in.ensures.exact
-    ∙ ap (λ mine. map (at_link c.args.number (with_session c.args.session mine (arc_value c.in_ok-line.line))) inside.links.items) c.place_of-mine.ensures.exact
-    ∙ ap (λ line. map (at_link c.args.number (with_session c.args.session (fresh inside.moment (place_at inside.stations c.args.session.call)) line)) inside.links.items) reply)
+    ap (λ links. relinked links core) (c.log_in.ensures
+    ∙ ap (λ mine. map (at_link c.args.number (with_session c.args.session mine (arc_value c.in_ok-line.line))) inside.links) c.place_of-mine.ensures.exact
+    ∙ ap (λ line. map (at_link c.args.number (with_session c.args.session (fresh inside.moment (place_at inside.stations c.args.session.call)) line)) inside.links) reply)
     ∙ ap (λ (core : CoreMeaning). record core { seen = after_login core.conf.server (source.Link c.args.number) c.args.session core.seen }) c.self.view_is
+
+pub invariant_of-self : goal.invariant_of-self
+invariant_of-self c = kept_at _ c.args.number (with_session c.args.session c.place_of-mine.result (arc_value c.in_ok-line.line)) c.log_in.new.self (λ link. text_number (arc_value c.in_ok-line.line) (record link { session = Some c.args.session; mine = place_kept link.over c.place_of-mine.result })) c.log_in.ensures c.self.invariant

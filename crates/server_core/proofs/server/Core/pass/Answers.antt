@@ -10,7 +10,7 @@ pub invariant_of-self : goal.invariant_of-self
 invariant_of-self c =
     let later : c.self.inside.moment ≤ c.args.now = subst (λ moment. moment ≤ c.args.now) (sym (ap (λ (core : CoreMeaning). core.seen.moment) c.self.view_is)) c.requires in
     record {
-      rising = subst (λ ns. Rises 0 ns c.self.inside.greatest) (sym (ap numbers c.forget_places.ensures ∙ numbers_kept (at_moment c.args.now) (λ link. refl) c.self.inside.links.items)) c.self.invariant.rising;
+      rising = subst (λ ns. Rises 0 ns c.self.inside.greatest) (sym (ap numbers c.forget.ensures ∙ numbers_kept (at_moment c.args.now) (λ link. refl) c.self.inside.links)) c.self.invariant.rising;
       small = c.self.invariant.small;
       station = c.self.invariant.station;
       group = c.self.invariant.group;

@@ -1,6 +1,8 @@
-use Rattle.std.proofs.Common.{◌^◌, arith}
-use Rattle.server_core.proofs.LinkLemmas.{rises_to}
+use Rattle.std.specs.Arc.{arc_value}
+use Rattle.server_core.specs.LinkSteps.{with_text}
+use Rattle.server_core.proofs.CoreLemmas.{kept_at}
+use Rattle.server_core.proofs.FollowLemmas.{text_number}
 use Rattle.server_core.proofs.server.Core.reply.Goals as goal
 
-pub reply-requires : goal.reply-requires
-reply-requires c = rises_to 0 c.self.inside.greatest (2 ^ 32) _ c.self.invariant.rising (let small = c.self.invariant.small in omega arith)
+pub invariant_of-self-in-Link-1 : goal.invariant_of-self-in-Link-1
+invariant_of-self-in-Link-1 c = kept_at _ c.in-Link.number (with_text (arc_value c.in_ok-new-in-Link.field-0)) c.reply.new.self (λ link. text_number (arc_value c.in_ok-new-in-Link.field-0) link) c.reply.ensures c.self.invariant

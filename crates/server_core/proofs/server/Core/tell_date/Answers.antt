@@ -9,6 +9,6 @@ use Rattle.server_core.proofs.server.Core.tell_date.Goals as goal
 
 pub returns-in_ok-tell_all-clause-walks : goal.returns-in_ok-tell_all-clause-walks
 returns-in_ok-tell_all-clause-walks c = λ t walks.
-    walks_dated _ t c.args.before c.tell_all.new.links.items (arc_value c.in_ok-line.line) (subst (λ core. Walks core t) (sym c.self.view_is) walks)
+    walks_dated _ t c.args.before c.tell_all.new.self (arc_value c.in_ok-line.line) (subst (λ core. Walks core t) (sym c.self.view_is) walks)
     (lt-ltb (c.args.before / comment_seconds) (c.self.inside.moment / comment_seconds) c.if-before-self.true)
     (c.in_ok-line.ensures.ok ∙ c.comment_of.ensures ∙ ap (λ server. comment_text server c.self.inside.moment) c.server_of.ensures) c.in_ok-tell_all.ensures.ok

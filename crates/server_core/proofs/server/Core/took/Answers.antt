@@ -6,19 +6,16 @@ use Rattle.server_core.proofs.CoreLemmas.{kept_at}
 use Rattle.server_core.proofs.SendLemmas.{stands_took}
 use Rattle.server_core.proofs.server.Core.took.Goals as goal
 
-pub take-requires-clause-rises : goal.take-requires-clause-rises
-take-requires-clause-rises c = rises_to 0 c.self.inside.greatest (2 ^ 32) _ c.self.invariant.rising (let small = c.self.invariant.small in omega arith)
-
 pub invariant_of-self : goal.invariant_of-self
-invariant_of-self c = kept_at _ c.args.link (with_taken c.args.offered c.args.n) c.take.new.links.items (λ link. refl) c.take.ensures c.self.invariant
+invariant_of-self c = kept_at _ c.args.link (with_taken c.args.offered c.args.n) c.take.new.self (λ link. refl) c.take.ensures c.self.invariant
 
 pub returns-clause-stands : goal.returns-clause-stands
 returns-clause-stands c = λ h bytes size stands.
-    let core : CoreMeaning = record { conf = c.self.inside.conf; seen = record { moment = c.self.inside.moment; links = c.self.inside.links.items; turned = c.self.inside.turned.items; closing = c.self.inside.closing.items; window = c.self.inside.window; stations = c.self.inside.stations; heard = c.self.inside.heard; reach = c.self.inside.reach; greatest = c.self.inside.greatest; stopped = c.self.inside.stopped; totals = c.self.inside.totals } } in
-    stands_took core c.take.new.links.items c.args.link c.args.offered c.args.n bytes h size (subst (λ core. Stands core h) (sym c.self.view_is) stands) c.requires.part
+    let core : CoreMeaning = record { conf = c.self.inside.conf; seen = record { moment = c.self.inside.moment; links = c.self.inside.links; turned = c.self.inside.turned.items; closing = c.self.inside.closing.items; window = c.self.inside.window; stations = c.self.inside.stations; heard = c.self.inside.heard; reach = c.self.inside.reach; greatest = c.self.inside.greatest; stopped = c.self.inside.stopped; totals = c.self.inside.totals } } in
+    stands_took core c.take.new.self c.args.link c.args.offered c.args.n bytes h size (subst (λ core. Stands core h) (sym c.self.view_is) stands) c.requires.part
     (subst (λ (core : CoreMeaning). c.args.offered ≤ length (pending_at c.args.link core.seen.links)) (sym c.self.view_is) c.requires.pending) c.take.ensures
 
 pub returns-clause-numbers : goal.returns-clause-numbers
 returns-clause-numbers c =
-    ap numbers c.take.ensures ∙ numbers_kept (at_link c.args.link (with_taken c.args.offered c.args.n)) (at_keeps c.args.link (with_taken c.args.offered c.args.n) (λ link. refl)) c.self.inside.links.items
+    ap numbers c.take.ensures ∙ numbers_kept (at_link c.args.link (with_taken c.args.offered c.args.n)) (at_keeps c.args.link (with_taken c.args.offered c.args.n) (λ link. refl)) c.self.inside.links
     ∙ ap (λ (core : CoreMeaning). numbers core.seen.links) c.self.view_is

@@ -1,0 +1,144 @@
+//! What is done to links that have met all that came.
+ghost use Rattle.std.specs.Prelude.{◌≡◌, ◌==◌, IfOk, filter, length, map};
+ghost use Rattle.std.specs.List.{list_any};
+ghost use Rattle.std.specs.Arc.{arc_value};
+ghost use Rattle.link_feeds.specs.Feeds.{counted, forgotten, is_other, is_over, link_of, new_feed, put_in, told, with_login, with_terms};
+
+use crate::places::{forget_friends, still_seen};
+use aprs_base::{Call, Line, Memory};
+use arrayvec::ArrayVec;
+use filter_eval::{Friends, Seen};
+use filter_lang::FilterSet;
+use link_queue::Queue;
+use std::alloc::Global;
+use std::sync::Arc;
+use worker_match::{Feed, LinkState};
+
+/// The most lines that a link hasn't wholly taken.
+const MOST_LINES: usize = 1000;
+
+/// A link that has just come.
+pub(crate) fn opened(
+    alloc: Global,
+    link: u32,
+    feed: Feed,
+    inbound: bool,
+    first: Arc<Line>,
+) -> Result<LinkState, Memory>
+    ensures { IfOk result (λ state. state ≡ new_feed link feed inbound (arc_value first)) }
+{
+    let mut queue = Queue::with_limit(alloc, MOST_LINES)?;
+    queue.push(first).unwrap();
+    Ok(LinkState {
+        link,
+        feed,
+        inbound,
+        alive: true,
+        over: false,
+        me: None,
+        filter: None,
+        friends: Friends {
+            at: ArrayVec::new(),
+        },
+        mine: None,
+        queue,
+        put: 0,
+    })
+}
+
+/// What was put into its queue since it was last counted.
+fn count(state: &mut LinkState) -> u64
+    ensures count { result ≡ state.old.put }
+    ensures counted { state.new ≡ counted state.old }
+{
+    let put = state.put;
+    state.put = 0;
+    put
+}
+
+pub(crate) fn count_each(states: &mut [LinkState]) -> u64
+    ensures count { result ≡ put_in states.old }
+    ensures counted { states.new ≡ map counted states.old }
+    ensures many { length states.new ≡ length states.old }
+{
+    let mut sum = 0u64;
+    for state in states.iter_mut() {
+        let put = count(state);
+        sum = sum.saturating_add(put);
+    }
+    sum
+}
+
+fn forget(state: &mut LinkState, now: u64)
+    ensures { state.new ≡ forgotten now state.old }
+{
+    forget_friends(now, &mut state.friends);
+    state.mine = still_seen(now, state.mine);
+}
+
+pub(crate) fn forget_each(states: &mut [LinkState], now: u64)
+    ensures forgotten { states.new ≡ map (forgotten now) states.old }
+    ensures many { length states.new ≡ length states.old }
+{
+    for state in states.iter_mut() {
+        forget(state, now);
+    }
+}
+
+fn has_member(numbers: &[u32], number: u32) -> bool
+    ensures { result ≡ list_any (λ n. n == number) numbers.now }
+{
+    numbers.iter().any(|other| *other == number)
+}
+
+fn is_other(state: &LinkState, numbers: &[u32]) -> bool
+    ensures { result ≡ is_other numbers.now state.now }
+{
+    !has_member(numbers, state.link)
+}
+
+pub(crate) fn drop_each(states: &mut Vec<LinkState>, numbers: &[u32])
+    ensures { states.new.items ≡ filter (is_other numbers.now) states.old.items }
+{
+    states.retain(|state| is_other(state, numbers));
+}
+
+pub(crate) fn overfull(alloc: Global, states: &[LinkState]) -> Result<Vec<u32>, Memory>
+    ensures { IfOk result (λ numbers. numbers.items ≡ map link_of (filter is_over states.now)) }
+{
+    let mut numbers = Vec::new(alloc);
+    for state in states {
+        if state.over {
+            numbers.push(state.link)?;
+        }
+    }
+    Ok(numbers)
+}
+
+pub(crate) fn log_in(
+    state: &mut LinkState,
+    feed: Feed,
+    call: Call,
+    mine: Option<Seen>,
+    reply: Arc<Line>,
+)
+    ensures { state.new ≡ told (arc_value reply) (with_login feed call mine state.old) }
+{
+    state.feed = feed;
+    state.me = Some(call);
+    state.mine = mine;
+    state.tell(reply);
+}
+
+pub(crate) fn set_filter(
+    state: &mut LinkState,
+    filter: Arc<FilterSet>,
+    friends: Friends,
+    reply: Arc<Line>,
+)
+    ensures { state.new ≡ told (arc_value reply) (with_terms (arc_value filter) friends state.old) }
+{
+    state.filter = Some(filter);
+    state.friends = friends;
+    state.tell(reply);
+}

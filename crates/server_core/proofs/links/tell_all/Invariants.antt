@@ -1,8 +1,0 @@
-use Rattle.std.proofs.Common.{◌≡◌, ◌++◌, map, take, drop}
-use Rattle.std.specs.Arc.{arc_value}
-use Rattle.server_core.specs.LinkSteps.{numbers, with_date}
-use Rattle.server_core.proofs.links.tell_all.Given as goal
-
-abbrev pub invariant-loop-link : goal.invariant-loop-link
-invariant-loop-link l =
-    (numbers l.link-items ≡ numbers l.initial.link-items) × (l.link-items ≡ map (with_date (arc_value l.line)) (take l.link-index l.initial.link-items) ++ drop l.link-index l.initial.link-items)

@@ -1,6 +1,0 @@
-use Rattle.std.proofs.Common.{◌^◌, arith}
-use Rattle.server_core.proofs.LinkLemmas.{rises_to}
-use Rattle.server_core.proofs.server.Core.next_bytes.Goals as goal
-
-pub offer-requires : goal.offer-requires
-offer-requires c = rw c.as_slice.ensures.value (rises_to 0 c.self.inside.greatest (2 ^ 32) _ c.self.invariant.rising (let small = c.self.invariant.small in omega arith))
