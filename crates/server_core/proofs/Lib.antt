@@ -5,6 +5,7 @@ pub mod FedLemmas
 pub mod FollowLemmas
 pub mod HeardLemmas
 pub mod LinkLemmas
+pub mod LoginLemmas
 pub mod MemberLemmas
 pub mod PlaceLemmas
 pub mod RoundLemmas
