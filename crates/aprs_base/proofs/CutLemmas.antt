@@ -1,7 +1,11 @@
 -- The cutting of bytes into lines, one line end after another.
 use Rattle.std.proofs.Common.{◌≡◌, ℕ, ◌<◌, ◌+◌, true, false, List, [], ◌∷◌, ◌++◌, length, take, drop, get_or, refl, sym, ap, arith, zero, suc, ⊎_elim, subst, ◌∙◌, append-nil, append_assoc, Option, Some, None, take_all, le_refl}
 use Rattle.std.specs.List.{position_or_len, before_first, after_first, onto_first, list_all, cons_option, filter_map}
-use Rattle.std.proofs.lemmas.Bool.{false_from_ne_true, cases_Bool, false≢true}
+use Rattle.std.specs.Prelude.{◌≤◌, Bool, nat_lt, if◌then◌else◌}
+use Rattle.std.proofs.lemmas.Bool.{false_from_ne_true, cases_Bool, false≢true, true≢false, le-ltb, lt-ltb, ltb-true}
+use Rattle.std.proofs.lemmas.List.{length-append}
+use Rattle.aprs_base.specs.Held.{Held, held_of}
+use Rattle.aprs_base.specs.declared.cutting.Cut.TheVariants as cut
 use Rattle.std.proofs.lemmas.List.Folds.{list_all-append}
 use Rattle.std.proofs.lemmas.List.Elements.{filter_map-append}
 use Rattle.std.proofs.lemmas.List.Splits.{slice_split_first, slice_split-cons_yes, slice_split-cons_no}
@@ -202,3 +206,23 @@ rest_of-append before piece = (goes_on before piece).rest
 pub cuts_of-append : (before piece : List ℕ) → cuts_of (before ++ piece) ≡ cuts_of before ++ cuts_by before piece
 cuts_of-append before piece =
     ap (filter_map cut_of) (goes_on before piece).ended ∙ filter_map-append cut_of (all_but_last (pieces_of before)) (all_but_last (pieces_of (rest_of before ++ piece)))
+
+-- what a line's end cuts off, by the line's length
+pub cut_long : (text : List ℕ) → 510 < length text → cut_of text ≡ Some cut.Long
+cut_long [] long = absurd (omega (arith, long))
+cut_long (b ∷ more) long = rw (lt-ltb 510 (length (b ∷ more)) long) refl
+
+pub cut_short : (text : List ℕ) → 0 < length text → length text ≤ 510 → cut_of text ≡ Some (cut.Line text)
+cut_short [] some short = absurd (omega (arith, some))
+cut_short (b ∷ more) some short = rw (le-ltb (510) (length (b ∷ more)) short) refl
+
+-- a line of which only that it is long is kept goes on to be long
+long_line : (line : List ℕ) (held : Held) → held ≡ held_of line → held.long ≡ true → 510 < length line
+long_line line held is long = by (nat_lt 510 (length line)) refl is
+  where
+    by : (b : Bool) → nat_lt 510 (length line) ≡ b → held ≡ (if b then record { text = []; long = true } else record { text = line; long = false }) → 510 < length line
+    by true over same = ltb-true 510 (length line) over
+    by false over same = absurd (true≢false (sym long ∙ ap (λ (h : Held). h.long) same))
+
+pub long_cut : (line bytes : List ℕ) (held : Held) → held ≡ held_of line → held.long ≡ true → cut_of (line ++ bytes) ≡ Some cut.Long
+long_cut line bytes held is long = cut_long (line ++ bytes) (omega (arith, length-append line bytes, long_line line held is long))

@@ -1,5 +1,5 @@
 //! The cutting of a link's bytes into lines.
-ghost use Rattle.std.specs.Prelude.{◌≡◌, ℕ, ◌≤◌, ◌+◌, ◌∷◌, ◌++◌, [], List, length, drop, ◌<◌, OnOk, OnErr, nat_lt, if◌then◌else◌, true, false};
+ghost use Rattle.std.specs.Prelude.{◌≡◌, ℕ, ◌≤◌, ◌+◌, ◌∷◌, ◌++◌, [], List, length, drop, ◌<◌, IfOk, OnOk, OnErr, nat_lt, if◌then◌else◌, true, false};
 ghost use Rattle.aprs_base.specs.Cuts.{cut_of, cuts_by, cuts_of, rest_of};
 ghost use Rattle.aprs_base.specs.Held.{held_after, held_of};
 ghost use Rattle.aprs_base.specs.Bytes.{IsInner};
@@ -41,13 +41,6 @@ impl Model for Cutter {
     ghost inverse = { λ held. record { text = record { items = held.text }; long = held.long } };
 }
 
-/// A copy of a cutter, which takes no memory.
-fn copy_cutter(cutter: &Cutter) -> Cutter
-    ensures { result ≡ cutter.now }
-{
-    cutter.clone().unwrap()
-}
-
 impl Cutter {
     /// A cutter to which no byte has come.
     pub fn new() -> Cutter
@@ -69,26 +62,15 @@ impl Cutter {
             → OnOk result (out.new.items ≡ earlier ++ cuts_of (before ++ piece.now)) }
         ensures err { OnErr result ((self.new ≡ self.old) × (out.new.items ≡ out.old.items)) }
     {
+        let Some(end) = memchr2(b'\r', b'\n', piece) else {
+            self.extend(piece);
+            return Ok(());
+        };
         let mut cuts = Vec::new(alloc);
-        let mut next = copy_cutter(self);
-        next.cut_all(piece, &mut cuts)?;
+        self.end_line(&piece[..end], &mut cuts)?;
+        let rest = cut_lines(past(piece, end), &mut cuts)?;
         out.append(&mut cuts)?;
-        *self = next;
-        Ok(())
-    }
-
-    /// Cuts the piece at each line end, and keeps what follows the last.
-    fn cut_all(&mut self, piece: &[u8], out: &mut Vec<Cut>) -> Result<(), Memory>
-        ensures held { (line : List ℕ) → IsInner line → self.old ≡ held_of line → OnOk result (self.new ≡ held_after (line ++ piece.now)) }
-        ensures cuts { (line : List ℕ) → IsInner line → self.old ≡ held_of line → OnOk result (out.new.items ≡ out.old.items ++ cuts_of (line ++ piece.now)) }
-    {
-        let mut rest = piece;
-        while let Some(end) = memchr2(b'\r', b'\n', rest) {
-            self.extend(&rest[..end]);
-            self.end_line(out)?;
-            rest = past(rest, end);
-        }
-        self.extend(rest);
+        self.begin_line(rest);
         Ok(())
     }
 
@@ -106,20 +88,92 @@ impl Cutter {
         }
     }
 
-    /// The end of the line that is kept.
-    fn end_line(&mut self, out: &mut Vec<Cut>) -> Result<(), Memory>
-        ensures { (line : List ℕ) → IsInner line → self.old ≡ held_of line
-            → OnOk result ((self.new ≡ held_of []) × (out.new.items ≡ out.old.items ++ cons_option (cut_of line) [])) }
+    /// The line that is kept ends after these bytes: appends its cut.
+    fn end_line(&self, bytes: &[u8], out: &mut Vec<Cut>) -> Result<(), Memory>
+        requires { IsInner bytes.now }
+        ensures { (line : List ℕ) → IsInner line → self.now ≡ held_of line
+            → OnOk result (out.new.items ≡ out.old.items ++ cons_option (cut_of (line ++ bytes.now)) []) }
     {
         if self.long {
-            self.long = false;
-            out.push(Cut::Long)?;
-        } else if !self.text.is_empty() {
-            let text = self.text.take();
-            out.push(Cut::Line(Line { text }))?;
+            put_long(out)
+        } else {
+            put_line(self.text.as_slice(), bytes, out)
         }
-        Ok(())
     }
+
+    /// Another line begins with these bytes.
+    fn begin_line(&mut self, bytes: &[u8])
+        requires { IsInner bytes.now }
+        ensures { self.new ≡ held_of bytes.now }
+    {
+        self.text.clear();
+        self.long = self.text.try_extend_from_slice(bytes).is_err();
+    }
+}
+
+/// Appends the cut of a long line.
+fn put_long(out: &mut Vec<Cut>) -> Result<(), Memory>
+    ensures { OnOk result (out.new.items ≡ out.old.items ++ Cut.Long ∷ []) }
+{
+    out.push(Cut::Long)?;
+    Ok(())
+}
+
+/// Puts these bytes and more into a text that has none, and says whether they fit.
+fn join(text: &mut ArrayVec<u8, 510>, bytes: &[u8], more: &[u8]) -> bool
+    requires { text.old.items ≡ [] }
+    ensures fit { result ≡ true → text.new.items ≡ bytes.now ++ more.now }
+    ensures short { result ≡ true → length (bytes.now ++ more.now) ≤ 510 }
+    ensures long { result ≡ false → 510 < length (bytes.now ++ more.now) }
+{
+    match text.try_extend_from_slice(bytes) {
+        Ok(()) => text.try_extend_from_slice(more).is_ok(),
+        Err(_) => false,
+    }
+}
+
+/// Appends the cut of a line of these bytes and more, which aren't both empty.
+#[tactic(auto, using(crate::proofs::CutLemmas::cut_long, crate::proofs::CutLemmas::cut_short))]
+fn put_some(bytes: &[u8], more: &[u8], out: &mut Vec<Cut>) -> Result<(), Memory>
+    requires bytes { IsInner bytes.now }
+    requires more { IsInner more.now }
+    requires some { 0 < length (bytes.now ++ more.now) }
+    ensures { OnOk result (out.new.items ≡ out.old.items ++ cons_option (cut_of (bytes.now ++ more.now)) []) }
+{
+    let mut text = ArrayVec::new();
+    if join(&mut text, bytes, more) {
+        out.push(Cut::Line(Line { text }))?;
+    } else {
+        out.push(Cut::Long)?;
+    }
+    Ok(())
+}
+
+/// The same where they may be empty.
+fn put_line(bytes: &[u8], more: &[u8], out: &mut Vec<Cut>) -> Result<(), Memory>
+    requires bytes { IsInner bytes.now }
+    requires more { IsInner more.now }
+    ensures { OnOk result (out.new.items ≡ out.old.items ++ cons_option (cut_of (bytes.now ++ more.now)) []) }
+{
+    if bytes.is_empty() && more.is_empty() {
+        Ok(())
+    } else {
+        put_some(bytes, more, out)
+    }
+}
+
+/// Cuts whole lines, and answers what follows the last line end.
+fn cut_lines<'a>(piece: &'a [u8], out: &mut Vec<Cut>) -> Result<&'a [u8], Memory>
+    ensures cuts { OnOk result (out.new.items ≡ out.old.items ++ cuts_of piece.now) }
+    ensures rest { IfOk result (λ rest. rest.now ≡ rest_of piece.now) }
+    ensures inner { IfOk result (λ rest. IsInner rest.now) }
+{
+    let mut rest = piece;
+    while let Some(end) = memchr2(b'\r', b'\n', rest) {
+        put_line(&rest[..end], b"", out)?;
+        rest = past(rest, end);
+    }
+    Ok(rest)
 }
 
 /// What follows the byte at `place`.

@@ -1,5 +1,5 @@
 //! Packets, their parts, and what their bodies say.
-ghost use Rattle.std.specs.Prelude.{◌≡◌, ℕ, ◌≤ℤ◌, pos, negsuc, List};
+ghost use Rattle.std.specs.Prelude.{◌≡◌, ℕ, ◌≤ℤ◌, pos, negsuc, [], List};
 
 use crate::texts::{Addr, Call, Line, Word9, copy_call};
 use arrayvec::ArrayVec;
@@ -48,6 +48,21 @@ impl Model for Parts {
     ghost view = { λ p. record { source = p.source; dest = p.dest; vias = p.vias.items; body = p.body.items } };
 
     ghost inverse = { λ p. record { source = p.source; dest = p.dest; vias = record { items = p.vias }; body = record { items = p.body } } };
+}
+
+impl Parts {
+    /// Parts that are still to be filled: they have no path and no body.
+    pub fn unfilled() -> Parts
+        ensures vias { result.vias ≡ [] }
+        ensures body { result.body ≡ [] }
+    {
+        Parts {
+            source: Call::default(),
+            dest: Call::default(),
+            vias: ArrayVec::new(),
+            body: ArrayVec::new(),
+        }
+    }
 }
 
 /// What a body is: the bits of its class, and what it names.

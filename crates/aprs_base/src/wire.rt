@@ -171,6 +171,23 @@ impl MemWire {
         self.events.push(event)?;
         Ok(())
     }
+
+    /// Tells an event that comes from elsewhere as if it were the next of the list, where none is left. The caller has it already.
+    pub fn note(&mut self, event: &Event) -> Result<(), Memory>
+        requires none { self.old.left ≡ [] }
+        requires numbered { IsTrue (are_numbered self.old.links (event.now ∷ [])) }
+        ensures shown { OnOk result (AfterNext (shown_by self.old) (shown_by self.new) (Ok event.now)) }
+        ensures ok { OnOk result (self.new ≡ after_next self.old (Ok event.now)) }
+        ensures err { OnErr result (self.new ≡ self.old) }
+    {
+        let came = Came::of(self.alloc, event)?;
+        self.done.push(Happening::Event(came))?;
+        self.nexts = self.nexts.saturating_add(1);
+        if let Some(link) = new_link_of(event) {
+            self.links = link;
+        }
+        Ok(())
+    }
 }
 
 impl Wire for MemWire {

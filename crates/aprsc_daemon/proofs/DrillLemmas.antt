@@ -1,5 +1,5 @@
 -- A drill's wire gives the events of its plan in order, and takes every offer whole; so what it tells at last is a drill.
-use Rattle.std.proofs.Common.{◌≡◌, ℕ, ◌+◌, ◌-◌, ◌<◌, false, true, List, [], ◌∷◌, ◌++◌, length, drop, length-drop, refl, sym, ap, ◌∙◌, subst, arith, append-nil, append_assoc, codes, Some, None, Result, Ok, Err}
+use Rattle.std.proofs.Common.{◌≡◌, ℕ, ◌+◌, Bool, false, true, List, [], ◌∷◌, ◌++◌, length, drop, length-drop, refl, sym, ap, ◌∙◌, subst, arith, append-nil, append_assoc, codes, Some, None, Result, Ok, Err}
 use Rattle.std.specs.Prelude.{◌==◌, ◌&&◌, reverse}
 use Rattle.std.proofs.lemmas.Bool.{and_parts}
 use Rattle.std.proofs.lemmas.Bool.Decides.{nat_tests}
@@ -46,16 +46,15 @@ told_in_order s told (x ∷ more) =
 -- ---- the wire goes on
 
 -- by an act
-driven_on : (plan : Plan) (coming : List Event) (wire new : WireScript) (left taken more : ℕ) (x : Happening) → new.told.done ≡ wire.told.done ++ x ∷ [] → new.left ≡ wire.left → new.links ≡ wire.links → new.takes ≡ [] → events_in (x ∷ []) ≡ []
-    → (TakesAll (reverse wire.told.done) → TakesAll (x ∷ reverse wire.told.done)) → taken_in (x ∷ reverse wire.told.done) ≡ taken_in (reverse wire.told.done) + more → IsDriven plan coming wire left taken → IsDriven plan coming new left (taken + more)
-driven_on plan coming wire new left taken more x tells leaves brings takes no_event whole takes_more driven = record {
+driven_on : (plan : Plan) (coming : List Event) (wire new : WireScript) (taken more : ℕ) (x : Happening) → new.told.done ≡ wire.told.done ++ x ∷ [] → new.left ≡ wire.left → new.links ≡ wire.links → new.takes ≡ [] → events_in (x ∷ []) ≡ []
+    → (TakesAll (reverse wire.told.done) → TakesAll (x ∷ reverse wire.told.done)) → taken_in (x ∷ reverse wire.told.done) ≡ taken_in (reverse wire.told.done) + more → IsDriven plan coming wire taken → IsDriven plan coming new (taken + more)
+driven_on plan coming wire new taken more x tells leaves brings takes no_event whole takes_more driven = record {
   events =
-      ap (λ events. events_in new.told.done ++ (events ++ coming)) leaves
-      ∙ ap (λ done. events_in done ++ (wire.left ++ coming)) tells
-      ∙ ap (λ events. events ++ (wire.left ++ coming)) (events_join wire.told.done (x ∷ []) ∙ ap (λ events. events_in wire.told.done ++ events) no_event ∙ append-nil (events_in wire.told.done))
+      ap (λ done. events_in done ++ coming) tells
+      ∙ ap (λ events. events ++ coming) (events_join wire.told.done (x ∷ []) ∙ ap (λ events. events_in wire.told.done ++ events) no_event ∙ append-nil (events_in wire.told.done))
       ∙ driven.events;
-  numbered = ap (λ events. are_numbered new.links (events ++ coming)) leaves ∙ ap (λ links. are_numbered links (wire.left ++ coming)) brings ∙ driven.numbered;
-  count = ap length leaves ∙ driven.count;
+  numbered = ap (λ links. are_numbered links coming) brings ∙ driven.numbered;
+  none = leaves ∙ driven.none;
   takes = takes;
   whole = subst TakesAll (sym (ap reverse tells ∙ newest_first wire.told.done x)) (whole driven.whole);
   bytes = ap (λ n. n + more) driven.bytes ∙ sym takes_more ∙ ap taken_in (sym (ap reverse tells ∙ newest_first wire.told.done x));
@@ -64,28 +63,28 @@ driven_on plan coming wire new left taken more x tells leaves brings takes no_ev
 no_more : (n : ℕ) → n ≡ n + 0
 no_more n = omega arith
 
-pub driven_listen : {T : Type 0} (plan : Plan) (coming : List Event) (wire : WireScript) (left taken n : ℕ) (spec : ListenSpec) (result : Result T WireError) → IsDriven plan coming wire left taken
-    → IsDriven plan coming (after_listen n spec wire result) left taken
-driven_listen plan coming wire left taken n spec (Ok x) driven =
-    subst (IsDriven plan coming (after_listen n spec wire (Ok x)) left) (sym (no_more taken))
-    (driven_on plan coming wire (after_listen n spec wire (Ok x)) left taken 0 (did.Listen n) refl refl refl driven.takes refl (λ all. all) (no_more (taken_in (reverse wire.told.done))) driven)
-driven_listen plan coming wire left taken n spec (Err wire_error.Failed) driven = record { events = driven.events; numbered = driven.numbered; count = driven.count; takes = driven.takes; whole = driven.whole; bytes = driven.bytes }
-driven_listen plan coming wire left taken n spec (Err wire_error.Memory) driven = driven
+pub driven_listen : {T : Type 0} (plan : Plan) (coming : List Event) (wire : WireScript) (taken n : ℕ) (spec : ListenSpec) (result : Result T WireError) → IsDriven plan coming wire taken
+    → IsDriven plan coming (after_listen n spec wire result) taken
+driven_listen plan coming wire taken n spec (Ok x) driven =
+    subst (IsDriven plan coming (after_listen n spec wire (Ok x))) (sym (no_more taken))
+    (driven_on plan coming wire (after_listen n spec wire (Ok x)) taken 0 (did.Listen n) refl refl refl driven.takes refl (λ all. all) (no_more (taken_in (reverse wire.told.done))) driven)
+driven_listen plan coming wire taken n spec (Err wire_error.Failed) driven = record { events = driven.events; numbered = driven.numbered; none = driven.none; takes = driven.takes; whole = driven.whole; bytes = driven.bytes }
+driven_listen plan coming wire taken n spec (Err wire_error.Memory) driven = driven
 
 -- by an act that tells this happening and perhaps more
-pub driven_act : {T E : Type 0} (plan : Plan) (coming : List Event) (wire : WireScript) (left taken : ℕ) (x : Happening) (change : Told → Told) (result : Result T E) → ((told : Told) → (change told).done ≡ told.done ++ x ∷ [])
-    → events_in (x ∷ []) ≡ [] → (TakesAll (reverse wire.told.done) → TakesAll (x ∷ reverse wire.told.done)) → taken_in (x ∷ reverse wire.told.done) ≡ taken_in (reverse wire.told.done) → IsDriven plan coming wire left taken → IsDriven plan coming (after_act {E = E} change wire result) left taken
-driven_act {E = E} plan coming wire left taken x change (Ok y) tells no_event whole takes_none driven =
-    subst (IsDriven plan coming (after_act {E = E} change wire (Ok y)) left) (sym (no_more taken))
-    (driven_on plan coming wire (after_act {E = E} change wire (Ok y)) left taken 0 x (tells wire.told) refl refl driven.takes no_event whole (takes_none ∙ no_more (taken_in (reverse wire.told.done))) driven)
-driven_act plan coming wire left taken x change (Err e) tells no_event whole takes_none driven = driven
+pub driven_act : {T E : Type 0} (plan : Plan) (coming : List Event) (wire : WireScript) (taken : ℕ) (x : Happening) (change : Told → Told) (result : Result T E) → ((told : Told) → (change told).done ≡ told.done ++ x ∷ [])
+    → events_in (x ∷ []) ≡ [] → (TakesAll (reverse wire.told.done) → TakesAll (x ∷ reverse wire.told.done)) → taken_in (x ∷ reverse wire.told.done) ≡ taken_in (reverse wire.told.done) → IsDriven plan coming wire taken → IsDriven plan coming (after_act {E = E} change wire result) taken
+driven_act {E = E} plan coming wire taken x change (Ok y) tells no_event whole takes_none driven =
+    subst (IsDriven plan coming (after_act {E = E} change wire (Ok y))) (sym (no_more taken))
+    (driven_on plan coming wire (after_act {E = E} change wire (Ok y)) taken 0 x (tells wire.told) refl refl driven.takes no_event whole (takes_none ∙ no_more (taken_in (reverse wire.told.done))) driven)
+driven_act plan coming wire taken x change (Err e) tells no_event whole takes_none driven = driven
 
 -- by an offer
-pub driven_send : (E : Type 0) (plan : Plan) (coming : List Event) (wire : WireScript) (left taken link : ℕ) (bytes : List ℕ) (outcome : Sent) → outcome ≡ outcome_of wire.takes bytes → IsDriven plan coming wire left taken
-    → IsDriven plan coming (after_send {E = E} link bytes wire (Ok outcome)) left (taken + length bytes)
-driven_send E plan coming wire left taken link bytes outcome is driven =
+pub driven_send : (E : Type 0) (plan : Plan) (coming : List Event) (wire : WireScript) (taken link : ℕ) (bytes : List ℕ) (outcome : Sent) → outcome ≡ outcome_of wire.takes bytes → IsDriven plan coming wire taken
+    → IsDriven plan coming (after_send {E = E} link bytes wire (Ok outcome)) (taken + length bytes)
+driven_send E plan coming wire taken link bytes outcome is driven =
     let whole : outcome ≡ sent.Took (length bytes) = is ∙ ap (λ takes. outcome_of takes bytes) driven.takes in
-    driven_on plan coming wire (after_send {E = E} link bytes wire (Ok outcome)) left taken (length bytes) (did.Sent link bytes outcome) refl refl refl (ap (drop 1) driven.takes) refl (λ all. (all, whole))
+    driven_on plan coming wire (after_send {E = E} link bytes wire (Ok outcome)) taken (length bytes) (did.Sent link bytes outcome) refl refl refl (ap (drop 1) driven.takes) refl (λ all. (all, whole))
     (ap (λ s. taken_in (did.Sent link bytes s ∷ reverse wire.told.done)) whole) driven
 
 -- what comes after an event is numbered after the link that it brings
@@ -100,35 +99,33 @@ numbered_rest n (event.Opened listener link from) events is = numbered_on n link
 numbered_rest n (event.Joined uplink link at) events is = numbered_on n link events is
 numbered_rest n e events is = is
 
--- by an event that came, which is the first of those that were made
-pub driven_next : (plan : Plan) (coming : List Event) (wire : WireScript) (left taken : ℕ) (e : Event) → 0 < left → e ≡ next_event wire.left → IsDriven plan coming wire left taken
-    → IsDriven plan coming (after_next wire (Ok e)) (left - 1) taken
-driven_next plan coming wire left taken e some is driven =
-    let first : wire.left ≡ e ∷ drop 1 wire.left = first_left wire.left left some driven.count ∙ ap (λ x. x ∷ drop 1 wire.left) (sym is) in
-    record {
-      events =
-          ap (λ events. events ++ (drop 1 wire.left ++ coming)) (events_join wire.told.done (did.Event e ∷ []))
-          ∙ append_assoc (events_in wire.told.done) (e ∷ []) (drop 1 wire.left ++ coming)
-          ∙ ap (λ events. events_in wire.told.done ++ (events ++ coming)) (sym first)
-          ∙ driven.events;
-      numbered = numbered_rest wire.links e (drop 1 wire.left ++ coming) (ap (λ events. are_numbered wire.links (events ++ coming)) (sym first) ∙ driven.numbered);
-      count = length-drop 1 wire.left ∙ ap (λ n. n - 1) driven.count;
-      takes = driven.takes;
-      whole = subst TakesAll (sym (newest_first wire.told.done (did.Event e))) driven.whole;
-      bytes = driven.bytes ∙ ap taken_in (sym (newest_first wire.told.done (did.Event e)));
-    }
-  where
-    first_left : (events : List Event) (n : ℕ) → 0 < n → length events ≡ n → events ≡ next_event events ∷ drop 1 events
-    first_left [] n some is = absurd (omega (arith, some, is))
-    first_left (x ∷ events) n some is = refl
+-- and the event by itself
+numbered_alone : (first rest : Bool) → (first && rest) ≡ true → (first && true) ≡ true
+numbered_alone true rest is = refl
+numbered_alone false rest is = is
+
+pub numbered_first : (n : ℕ) (e : Event) (events : List Event) → are_numbered n (e ∷ events) ≡ true → are_numbered n (e ∷ []) ≡ true
+numbered_first n (event.Opened listener link from) events is = numbered_alone (link == n + 1) _ is
+numbered_first n (event.Joined uplink link at) events is = numbered_alone (link == n + 1) _ is
+numbered_first n e events is = refl
+
+-- by an event that came, which is the first of those that were to come
+pub driven_next : (plan : Plan) (e : Event) (coming : List Event) (wire : WireScript) (taken : ℕ) → IsDriven plan (e ∷ coming) wire taken → IsDriven plan coming (after_next wire (Ok e)) taken
+driven_next plan e coming wire taken driven = record {
+  events =
+      ap (λ events. events ++ coming) (events_join wire.told.done (did.Event e ∷ []))
+      ∙ append_assoc (events_in wire.told.done) (e ∷ []) coming
+      ∙ driven.events;
+  numbered = numbered_rest wire.links e coming driven.numbered;
+  none = ap (drop 1) driven.none;
+  takes = driven.takes;
+  whole = subst TakesAll (sym (newest_first wire.told.done (did.Event e))) driven.whole;
+  bytes = driven.bytes ∙ ap taken_in (sym (newest_first wire.told.done (did.Event e)));
+}
 
 -- ---- what is told at last
 
-none_left : (events : List Event) → length events ≡ 0 → events ≡ []
-none_left [] is = refl
-none_left (e ∷ events) is = absurd (omega (arith, is))
-
-pub counts_of_run : (plan : Plan) (wire : WireScript) (taken : ℕ) (core : CoreMeaning) (counts : Counts) → IsDriven plan [] wire 0 taken
+pub counts_of_run : (plan : Plan) (wire : WireScript) (taken : ℕ) (core : CoreMeaning) (counts : Counts) → IsDriven plan [] wire taken
     → AppendsRun drill_setting (Some (record { done = []; listened = []; dialled = []; cast_to = [] })) (Some wire.told) (λ more. Finished drill_setting more × StandsFor drill_setting core.seen more)
     → ((h : History) → StandsFor drill_setting core.seen h → counts.totals ≡ totals_of drill_setting (trace_of drill_setting h)) → counts.taken ≡ taken → HasCounts plan counts
 counts_of_run plan wire taken core counts driven run totals taken_is =
@@ -143,7 +140,6 @@ counts_of_run plan wire taken core counts driven run totals taken_is =
         events =
             ap events_in (sym done)
             ∙ sym (append-nil (events_in wire.told.done))
-            ∙ ap (λ events. events_in wire.told.done ++ events) (sym (ap (λ left. left ++ []) (none_left wire.left driven.count)))
             ∙ driven.events;
         whole = subst TakesAll back driven.whole;
         finished = (let at = run.3 in at.0);

@@ -62,12 +62,11 @@ pub record IsSummary (plan : Plan) (text : List ℕ) : Type 0 where
 
 -- ---- the wire
 
--- the first events of the plan came, so many were made, and the rest is still to be; every offer was taken whole, and these are
--- the bytes taken
-pub record IsDriven (plan : Plan) (coming : List Event) (wire : WireScript) (left taken : ℕ) : Type 0 where
-  pub events : events_in wire.told.done ++ (wire.left ++ coming) ≡ drill_events plan
-  pub numbered : are_numbered wire.links (wire.left ++ coming) ≡ true
-  pub count : length wire.left ≡ left
+-- the first events of the plan came, and the rest is still to come; every offer was taken whole, and these are the bytes taken
+pub record IsDriven (plan : Plan) (coming : List Event) (wire : WireScript) (taken : ℕ) : Type 0 where
+  pub events : events_in wire.told.done ++ coming ≡ drill_events plan
+  pub numbered : are_numbered wire.links coming ≡ true
+  pub none : wire.left ≡ []
   pub takes : wire.takes ≡ []
   pub whole : TakesAll (reverse wire.told.done)
   pub bytes : taken ≡ taken_in (reverse wire.told.done)
@@ -77,5 +76,4 @@ pub record DrillWireSeen : Type 0 where
   pub plan : Plan
   pub events : List Event
   pub wire : WireScript
-  pub left : ℕ
   pub taken : ℕ

@@ -35,11 +35,9 @@ pub(crate) struct Counts {
 #[derive(Drop)]
 struct DrillWire {
     plan: Plan,
-    /// The events that are still to be made.
+    /// The events that are still to come.
     events: Events,
     wire: MemWire,
-    /// How many events were made and didn't come yet.
-    left: usize,
     /// The bytes that all links took.
     taken: u64,
 }
@@ -49,9 +47,9 @@ impl Model for DrillWire {
 
     ghost Value = { DrillWireSeen };
 
-    ghost view = { λ w. record { plan = w.plan; events = w.events; wire = w.wire; left = w.left; taken = w.taken } };
+    ghost view = { λ w. record { plan = w.plan; events = w.events; wire = w.wire; taken = w.taken } };
 
-    ghost invariant = { λ w. IsDriven w.plan w.events w.wire w.left w.taken };
+    ghost invariant = { λ w. IsDriven w.plan w.events w.wire w.taken };
 }
 
 impl DrillWire {
@@ -64,7 +62,6 @@ impl DrillWire {
                 plan,
                 events: Events::new(plan),
                 wire,
-                left: 0,
                 taken: 0,
             }),
             Err(_) => Err(Memory),
@@ -73,31 +70,13 @@ impl DrillWire {
 
     /// The bytes that all links took, where all events of this plan came.
     fn taken_by(&self, plan: Plan) -> Option<u64>
-        ensures { IfSome result (λ taken. IsDriven plan [] self.now.wire 0 taken) }
+        ensures { IfSome result (λ taken. IsDriven plan [] self.now.wire taken) }
     {
-        if self.plan == plan && self.left == 0 && self.events.is_over() {
+        if self.plan == plan && self.events.is_over() {
             Some(self.taken)
         } else {
             None
         }
-    }
-
-    /// Makes the next event, where all that were made came.
-    fn make_next(&mut self) -> Result<(), Memory>
-        ensures shown { shown_by self.new.wire ≡ shown_by self.old.wire }
-        ensures made { OnOk result (0 < self.new.left) }
-    {
-        if self.left > 0 {
-            return Ok(());
-        }
-        let mut later = copy_events(&self.events);
-        let Some(event) = later.next() else {
-            return Err(Memory);
-        };
-        self.wire.give(event)?;
-        self.events = later;
-        self.left = 1;
-        Ok(())
     }
 }
 
@@ -109,9 +88,12 @@ impl Wire for DrillWire {
     }
 
     fn next(&mut self) -> Result<Event, WireError> {
-        self.make_next()?;
-        let event = self.wire.next()?;
-        self.left -= 1;
+        let mut later = copy_events(&self.events);
+        let Some(event) = later.next() else {
+            return Err(WireError::Memory);
+        };
+        self.wire.note(&event)?;
+        self.events = later;
         Ok(event)
     }
 

@@ -1,5 +1,5 @@
 //! What makes two packets the same.
-ghost use Rattle.std.specs.Prelude.{◌≡◌, ◌≤◌, length};
+ghost use Rattle.std.specs.Prelude.{◌≡◌, ◌≤◌, [], length};
 ghost use Rattle.std.specs.List.{suffix_len};
 ghost use Rattle.aprs_base.specs.Bytes.{base_of, is_blank};
 ghost use Rattle.dupe_window.specs.Keys.{key_of, without_last_blanks};
@@ -50,15 +50,26 @@ fn base_of(call: &Call) -> Word9
     Word9::new(&text[..first_place(b'-', text)]).unwrap()
 }
 
+/// Copies the text to a body that has none.
+fn put_body(body: &mut ArrayVec<u8, 510>, text: &[u8])
+    requires empty { body.old.items ≡ [] }
+    requires short { length text.now ≤ 510 }
+    ensures { body.new.items ≡ text.now }
+{
+    body.try_extend_from_slice(text).unwrap();
+}
+
 impl Key {
     /// The key of a packet with these parts.
     pub fn of(parts: &Parts) -> Key
         ensures { result ≡ key_of parts.now }
     {
-        Key {
+        let mut key = Key {
             source: copy_call(&parts.source),
             dest: base_of(&parts.dest),
-            body: ArrayVec::try_from(without_blanks(parts.body.as_slice())).unwrap(),
-        }
+            body: ArrayVec::new(),
+        };
+        put_body(&mut key.body, without_blanks(parts.body.as_slice()));
+        key
     }
 }

@@ -6,5 +6,6 @@ mod names;
 mod writing;
 
 pub use lines::{
-    end_line, filter_line, join_line, login_line, open_line, refusal_line, unjoined_line,
+    duplicate_line, end_line, filter_line, join_line, login_line, open_line, refusal_line,
+    unjoined_line,
 };

@@ -102,8 +102,15 @@ pub fn refusal_line(group: u16, from: &Source, moment: u64, refusal: &Refusal) -
         Refusal::ReadOnly => refused(group, from, moment, b"read-only"),
         Refusal::Stranger => refused(group, from, moment, b"stranger"),
         Refusal::Path(why) => refused_path(group, from, moment, why),
-        Refusal::Duplicate(..) => refused(group, from, moment, b"duplicate"),
+        Refusal::Duplicate(..) => duplicate_line(group, from, moment),
     }
+}
+
+/// The line of a duplicate that is refused, whatever its packet is.
+pub fn duplicate_line(group: u16, from: &Source, moment: u64) -> JournalLine
+    ensures { result ≡ refused_line (label group from.now) moment (codes "duplicate") }
+{
+    refused(group, from, moment, b"duplicate")
 }
 
 /// The line of a filter that is refused.

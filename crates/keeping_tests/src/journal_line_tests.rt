@@ -2,7 +2,8 @@
 use aprs_base::{Call, JournalLine, Kind, Source};
 use aprs_history::{EndReason, Refusal, Session};
 use journal_lines::{
-    end_line, filter_line, join_line, login_line, open_line, refusal_line, unjoined_line,
+    duplicate_line, end_line, filter_line, join_line, login_line, open_line, refusal_line,
+    unjoined_line,
 };
 use login_pass::LoginFault;
 use q_construct::QDrop;
@@ -78,6 +79,8 @@ fn datagrams_have_their_listener(rt: HostRuntime) {
     tells(&rt, &submitted, Kind::Refusal, b"refused u2 own-name");
     let peer = refusal_line(3, &Source::Peer(0), 1000, &Refusal::Path(QDrop::NoGate));
     tells(&rt, &peer, Kind::Refusal, b"refused u3 no-gate");
+    let copy = duplicate_line(3, &Source::Peer(0), 1000);
+    tells(&rt, &copy, Kind::Refusal, b"refused u3 duplicate");
 }
 
 #[test]

@@ -139,7 +139,7 @@ few_login : (filters : Bool) (line : List ℕ) (place : Option (ℕ × ℕ)) →
 few_login filters line None = refl
 few_login filters line (Some place) = few_answer filters (text_at line place)
 
-login_fit : (server : List ℕ) (filters : Bool) (line : List ℕ) (read : Result Login LoginFault) → login_of line ≡ read → IsFit (login_verdict server filters line read)
+pub login_fit : (server : List ℕ) (filters : Bool) (line : List ℕ) (read : Result Login LoginFault) → login_of line ≡ read → IsFit (login_verdict server filters line read)
 login_fit server filters line (Err why) is = tt
 login_fit server filters line (Ok login) is = by_name (is_text login.call server)
   where
@@ -163,7 +163,7 @@ filtered_fit : (filters : Bool) (command : Option (List ℕ)) → IsFit (filtere
 filtered_fit filters None = tt
 filtered_fit filters (Some text) = few_answer filters text
 
-comment_fit : (who : Voice) (text : List ℕ) → IsFit (comment_verdict who text)
+pub comment_fit : (who : Voice) (text : List ℕ) → IsFit (comment_verdict who text)
 comment_fit (voice.Nameless filters) text = tt
 comment_fit voice.Reader text = filtered_fit false (filter_command text)
 comment_fit (voice.Client filters origin) text = filtered_fit filters (filter_command text)
@@ -220,7 +220,7 @@ module _ (copies : Parts → Bool) where
       by_copy true is = tt
       by_copy false is = is
 
-  login_new : (server : List ℕ) (filters : Bool) (line : List ℕ) (read : Result Login LoginFault) → IsNew copies (login_verdict server filters line read)
+  pub login_new : (server : List ℕ) (filters : Bool) (line : List ℕ) (read : Result Login LoginFault) → IsNew copies (login_verdict server filters line read)
   login_new server filters line (Err why) = tt
   login_new server filters line (Ok login) = by_name (is_text login.call server)
     where
@@ -233,7 +233,7 @@ module _ (copies : Parts → Bool) where
   filtered_new filters None = tt
   filtered_new filters (Some text) = tt
 
-  comment_new : (who : Voice) (text : List ℕ) → IsNew copies (comment_verdict who text)
+  pub comment_new : (who : Voice) (text : List ℕ) → IsNew copies (comment_verdict who text)
   comment_new (voice.Nameless filters) text = tt
   comment_new voice.Reader text = filtered_new false (filter_command text)
   comment_new (voice.Client filters origin) text = filtered_new filters (filter_command text)

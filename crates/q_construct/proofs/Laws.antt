@@ -1,6 +1,7 @@
 -- What the rule keeps: a rewritten packet's parts are again parts of a text, with one construct at most.
 use Rattle.std.proofs.Common.{◌≡◌, ℕ, suc, ◌+◌, ◌-◌, ◌<◌, ◌≤◌, Bool, true, false, cond, not, ◌||◌, ◌&&◌, List, [], ◌∷◌, ◌++◌, map, take, drop, length, Option, Result, Ok, Err, refl, sym, ap, ◌∙◌, subst, leb, ltb, arith}
-use Rattle.std.specs.Prelude.{count_by, codes, IfOk, if◌then◌else◌}
+use Rattle.std.specs.Prelude.{count_by, codes, IfOk, OnOk, if◌then◌else◌}
+use Rattle.q_construct.specs.Filling.{Fills}
 use Rattle.std.specs.List.{list_all, list_any, position_or_len}
 use Rattle.std.proofs.lemmas.Bool.{and_parts, and_from, or_parts, or_from, or_left, ltb-false, not-true, not_from_false, leb-true}
 use Rattle.std.proofs.lemmas.List.Folds.{list_all-append, list_any-append}
@@ -550,3 +551,9 @@ pub on_answer : (parts : PartsSeen) (origin : Origin) (server : List ℕ) (other
     → r ≡ process_of parts origin server others → ((whole : PartsSeen) → Answer parts origin server others whole → P whole) → IfOk r P
 on_answer parts origin server others (Ok whole) P e each = each whole (answer_is parts origin server others whole (sym e))
 on_answer parts origin server others (Err d) P e each = tt
+
+-- the same of parts that were filled
+pub on_filled : {X : Type 0} (parts : PartsSeen) (origin : Origin) (server : List ℕ) (others : List (List ℕ)) (r : Result X QDrop) (left : PartsSeen) (P : Type 0)
+    → Fills r left (process_of parts origin server others) → (Answer parts origin server others left → P) → OnOk r P
+on_filled parts origin server others (Ok x) left P fills each = each (answer_is parts origin server others left fills)
+on_filled parts origin server others (Err d) left P fills each = tt

@@ -1,10 +1,11 @@
 //! The packets that go no further.
-ghost use Rattle.std.specs.Prelude.{◌≡◌, ℕ, ◌+◌, ◌-◌, ◌<◌, ◌≤◌, [], ◌∷◌, List, length, take, map, true};
+ghost use Rattle.std.specs.Prelude.{◌≡◌, ℕ, ◌+◌, ◌-◌, ◌<◌, ◌≤◌, [], ◌∷◌, List, ◌&&◌, not, length, take, map, true};
 ghost use Rattle.std.specs.List.{after_first, list_any};
 ghost use Rattle.tnc2_line.specs.Packet.{names_construct};
 ghost use Rattle.q_construct.specs.Rule.{among, begins_with, built_drops, first_other, first_twice, given_drops, is_login_not_last, is_own, refused};
 
 use crate::building::Built;
+use crate::calls::Calls;
 use crate::origins::{Origin, is_own, is_submission, is_unverified_for};
 use crate::paths::{after, before, construct_bytes, has_bar, has_call};
 use aprs_base::{Call, Parts, Via, copy_call};
@@ -88,18 +89,22 @@ fn first_twice(vias: &[Via]) -> Option<Call>
     None
 }
 
-fn is_among(call: &Call, calls: &[Call]) -> bool
-    ensures { result ≡ among call.now calls.now }
+/// Whether another link has logged in with this call, which isn't the link's own login. For that the others aren't asked.
+fn is_other<O: Calls>(origin: &Origin, others: &O, call: &Call) -> bool
+    ensures { result ≡ (among call.now (O.calls others.now) && not (is_own origin.now call.now)) }
 {
-    calls.iter().any(|other| *call == *other)
+    if is_own(origin, call) {
+        return false;
+    }
+    others.have(call)
 }
 
 /// The first call that another link has logged in with.
-fn first_other(origin: &Origin, others: &[Call], vias: &[Via]) -> Option<Call>
-    ensures { result ≡ first_other origin.now others.now (map (λ via. via.call) vias.now) }
+fn first_other<O: Calls>(origin: &Origin, others: &O, vias: &[Via]) -> Option<Call>
+    ensures { result ≡ first_other origin.now (O.calls others.now) (map (λ via. via.call) vias.now) }
 {
     for via in vias {
-        if is_among(&via.call, others) && !is_own(origin, &via.call) {
+        if is_other(origin, others, &via.call) {
             return Some(copy_call(&via.call));
         }
     }
@@ -121,8 +126,13 @@ fn is_login_not_last(origin: &Origin, vias: &[Via]) -> bool
 
 /// The drops by the calls after the construct of a path that is checked.
 #[tactic(auto, unfolding(crate::specs::Rule::built_drops))]
-fn check_names(origin: &Origin, server: &Call, others: &[Call], path: &[Via]) -> Result<(), QDrop>
-    ensures { result ≡ refused (built_drops origin.now server.now others.now true path.now) }
+fn check_names<O: Calls>(
+    origin: &Origin,
+    server: &Call,
+    others: &O,
+    path: &[Via],
+) -> Result<(), QDrop>
+    ensures { result ≡ refused (built_drops origin.now server.now (O.calls others.now) true path.now) }
 {
     let names = after(path);
     if has_call(server, names) {
@@ -142,13 +152,13 @@ fn check_names(origin: &Origin, server: &Call, others: &[Call], path: &[Via]) ->
 
 /// The drops by the path that is built.
 #[tactic(auto, unfolding(crate::specs::Rule::built_drops))]
-pub fn check_built(
+pub fn check_built<O: Calls>(
     origin: &Origin,
     server: &Call,
-    others: &[Call],
+    others: &O,
     built: &Built,
 ) -> Result<(), QDrop>
-    ensures { result ≡ refused (built_drops origin.now server.now others.now built.now.checked built.now.path.items) }
+    ensures { result ≡ refused (built_drops origin.now server.now (O.calls others.now) built.now.checked built.now.path.items) }
 {
     if built.checked {
         check_names(origin, server, others, built.path.as_slice())

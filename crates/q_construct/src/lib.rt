@@ -2,11 +2,13 @@
 #![tactic(auto)]
 
 mod building;
+mod calls;
 mod drops;
 mod origins;
 mod paths;
 mod rule;
 
+pub use calls::{Calls, Listed};
 pub use drops::QDrop;
 pub use origins::Origin;
-pub use rule::process;
+pub use rule::{process, process_into};

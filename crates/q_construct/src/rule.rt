@@ -3,9 +3,11 @@ ghost use Rattle.std.specs.Prelude.{◌≡◌, ℕ, ◌+◌, ◌<◌, ◌≤◌,
 ghost use Rattle.std.specs.List.{flat_map};
 ghost use Rattle.aprs_base.specs.Bytes.{is_station};
 ghost use Rattle.tnc2_line.specs.Packet.{IsParts, text_of, with_comma};
+ghost use Rattle.q_construct.specs.Filling.{Fills};
 ghost use Rattle.q_construct.specs.Rule.{among, has_station, is_long, keeps_names, name_of, names_after, process_of, traced, with_name, with_path};
 
 use crate::building::{Built, build};
+use crate::calls::{Calls, Listed};
 use crate::drops::{QDrop, check_built, check_given};
 use crate::origins::{Origin, origin_name};
 use crate::paths::{Path, after, construct_bytes, given_path, has_call};
@@ -91,37 +93,81 @@ fn put_body(body: &mut ArrayVec<u8, 510>, text: &[u8])
     }
 }
 
-/// The parts with this path.
-fn with_path(parts: &Parts, path: &[Via]) -> Parts
-    requires { length path.now ≤ 32 }
-    ensures { result ≡ with_path parts.now path.now }
+/// Puts the calls of the parts, the path and the body of the parts into ones that are still to be filled.
+fn put_parts(whole: &mut Parts, parts: &Parts, path: &[Via])
+    requires vias { whole.old.vias ≡ [] }
+    requires body { whole.old.body ≡ [] }
+    requires short { length path.now ≤ 32 }
+    ensures { whole.new ≡ with_path parts.now path.now }
 {
-    let mut whole = Parts {
-        source: copy_call(&parts.source),
-        dest: copy_call(&parts.dest),
-        vias: ArrayVec::new(),
-        body: ArrayVec::new(),
-    };
+    whole.source = copy_call(&parts.source);
+    whole.dest = copy_call(&parts.dest);
     put_vias(&mut whole.vias, path);
     put_body(&mut whole.body, parts.body.as_slice());
-    whole
 }
 
 /// The parts with this path, where they aren't too long.
-fn finish(parts: &Parts, path: &[Via]) -> Result<Parts, QDrop>
-    ensures { result ≡ (if is_long (with_path parts.now path.now) then Err QDrop.Long else Ok (with_path parts.now path.now)) }
+fn finish(whole: &mut Parts, parts: &Parts, path: &[Via]) -> Result<(), QDrop>
+    requires vias { whole.old.vias ≡ [] }
+    requires body { whole.old.body ≡ [] }
+    ensures { Fills result whole.new (if is_long (with_path parts.now path.now) then Err QDrop.Long else Ok (with_path parts.now path.now)) }
 {
     if path.len() > 32 {
         return Err(QDrop::Long);
     }
     if text_len(parts, path) > 510 {
-        Err(QDrop::Long)
-    } else {
-        Ok(with_path(parts, path))
+        return Err(QDrop::Long);
     }
+    put_parts(whole, parts, path);
+    Ok(())
 }
 
 #[tactic(auto, unfolding(crate::specs::Rule::process_of))]
+fn fill_from<O: Calls>(
+    whole: &mut Parts,
+    parts: &Parts,
+    origin: &Origin,
+    name: &Call,
+    server: &Call,
+    others: &O,
+) -> Result<(), QDrop>
+    requires name { name.now ≡ name_of origin.now }
+    requires vias { whole.old.vias ≡ [] }
+    requires body { whole.old.body ≡ [] }
+    ensures { Fills result whole.new (process_of parts.now origin.now server.now (O.calls others.now)) }
+{
+    let given = given_path(parts.vias.as_slice());
+    check_given(parts, origin, server, given)?;
+    let mut built = Built::new();
+    build(&mut built, &parts.source, origin, name, server, given);
+    check_built(origin, server, others, &built)?;
+    trace(&mut built.path, name, server);
+    finish(whole, parts, built.path.as_slice())
+}
+
+/// Puts the packet as it goes on from this server into parts that are still to be filled, or says why it doesn't, which leaves
+/// them as they happen to be. `others` are the calls that other verified links have logged in with.
+pub fn process_into<O: Calls>(
+    whole: &mut Parts,
+    parts: &Parts,
+    origin: &Origin,
+    server: &Call,
+    others: &O,
+) -> Result<(), QDrop>
+    requires parts { IsParts parts.now }
+    requires server { IsTrue (is_station server.now) }
+    requires origin { IsTrue (has_station origin.now) }
+    requires vias { whole.old.vias ≡ [] }
+    requires body { whole.old.body ≡ [] }
+    ensures exact { Fills result whole.new (process_of parts.now origin.now server.now (O.calls others.now)) }
+    // Its parts are again those of a text, and the text is a line.
+    ensures sound { OnOk result (IsParts whole.new) }
+    ensures short { OnOk result (length (text_of whole.new) ≤ 510) }
+{
+    let name = origin_name(origin);
+    fill_from(whole, parts, origin, &name, server, others)
+}
+
 fn process_from(
     parts: &Parts,
     origin: &Origin,
@@ -132,13 +178,10 @@ fn process_from(
     requires { name.now ≡ name_of origin.now }
     ensures { result ≡ process_of parts.now origin.now server.now others.now }
 {
-    let given = given_path(parts.vias.as_slice());
-    check_given(parts, origin, server, given)?;
-    let mut built = Built::new();
-    build(&mut built, &parts.source, origin, name, server, given);
-    check_built(origin, server, others, &built)?;
-    trace(&mut built.path, name, server);
-    finish(parts, built.path.as_slice())
+    let mut whole = Parts::unfilled();
+    let others = Listed { calls: others };
+    fill_from(&mut whole, parts, origin, name, server, &others)?;
+    Ok(whole)
 }
 
 /// The packet as it goes on from this server, or why it doesn't. `others` are the calls that other verified links

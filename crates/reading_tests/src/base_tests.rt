@@ -209,6 +209,22 @@ fn gives_what_it_was_given_later(rt: HostRuntime) -> Result<(), Fail> {
 }
 
 #[test]
+fn tells_what_comes_from_elsewhere(rt: HostRuntime) -> Result<(), Fail> {
+    let alloc = rt.alloc();
+    let mut wire = MemWire::new(alloc, vec![in alloc]?, vec![in alloc]?, None, None)?;
+    let opened = Event::Opened {
+        listener: 0,
+        link: 1,
+        from: HERE,
+    };
+    wire.note(&opened)?;
+    wire.note(&Event::Ended(1))?;
+    let done = [came(alloc, &opened)?, came(alloc, &Event::Ended(1))?];
+    assert!(rt; wire.done.as_slice() == done.as_slice());
+    Ok(())
+}
+
+#[test]
 fn takes_offers_by_the_list(rt: HostRuntime) -> Result<(), Fail> {
     let alloc = rt.alloc();
     let takes = vec![in alloc; Take::All, Take::Most(5), Take::Most(9), Take::Gone]?;

@@ -4,7 +4,7 @@ ghost use Rattle.aprs_base.specs.Bytes.{is_station};
 ghost use Rattle.q_construct.specs.Rule.{has_station};
 
 use aprs_base::{Addr, Call, Line, Parts};
-use q_construct::{Origin, QDrop, process};
+use q_construct::{Listed, Origin, QDrop, process, process_into};
 use std::process::Abort;
 use tnc2_line::read;
 
@@ -34,6 +34,17 @@ fn answer<R: Abort>(rt: &R, origin: &Origin, others: &[Call], text: &[u8]) -> Re
     process(&parts, origin, &call(rt, b"T2TEST"), others)
 }
 
+/// The same, put into parts that are still to be filled.
+fn filled<R: Abort>(rt: &R, origin: &Origin, others: &[Call], text: &[u8]) -> Result<Parts, QDrop> {
+    let line = Line::new(text).expect(rt, "a line");
+    let parts = read(&line).expect(rt, "a packet");
+    check_station(rt, origin);
+    let mut whole = Parts::unfilled();
+    let others = Listed { calls: others };
+    process_into(&mut whole, &parts, origin, &call(rt, b"T2TEST"), &others)?;
+    Ok(whole)
+}
+
 #[test]
 fn drops_by_the_first_rule(rt: HostRuntime) {
     let cases: [(&[u8], QDrop); 8] = [
@@ -56,6 +67,7 @@ fn drops_by_the_first_rule(rt: HostRuntime) {
     };
     let others = [call(&rt, b"OH7LZB")];
     for (text, want) in cases {
+        assert!(rt; filled(&rt, &origin, &others, text) == answer(&rt, &origin, &others, text));
         let result = answer(&rt, &origin, &others, text);
         assert!(rt; result == Err(want));
     }
@@ -73,6 +85,8 @@ fn client<R: Abort>(rt: &R, login: &[u8], verified: bool, only: bool) -> Origin 
 fn check_rewrites<R: Abort>(rt: &R, origin: &Origin, pairs: &[(&[u8], &[u8])]) {
     for (text, want) in pairs {
         let parts = answer(rt, origin, &[], text).expect(rt, "a packet that goes on");
+        let same = filled(rt, origin, &[], text).expect(rt, "the same packet");
+        assert!(rt; same == parts);
         let line = Line::new(want).expect(rt, "a line");
         assert!(rt; read(&line) == Ok(parts));
     }

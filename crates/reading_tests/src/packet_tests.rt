@@ -1,6 +1,6 @@
 //! Lines and what they are, from the descriptions of the format.
-use aprs_base::Line;
-use tnc2_line::{LineFault, construct, read, write};
+use aprs_base::{Line, Parts};
+use tnc2_line::{LineFault, construct, read, read_into, write};
 
 #[test]
 fn names_the_first_fault(rt: HostRuntime) {
@@ -43,4 +43,14 @@ fn writes_what_it_reads(rt: HostRuntime) {
         let written = write(&parts).expect(&rt, "a short line");
         assert!(rt; written == line);
     }
+}
+
+#[test]
+fn fills_what_it_reads(rt: HostRuntime) {
+    let line = Line::new(b"K1ABC>APRS,DIG*,qAR,GATE-1:>x:y>z").expect(&rt, "a line");
+    let mut parts = Parts::unfilled();
+    assert!(rt; read_into(&line, &mut parts) == Ok(()));
+    assert!(rt; read(&line) == Ok(parts));
+    let line = Line::new(b"K1ABC>APRS:").expect(&rt, "a line");
+    assert!(rt; read_into(&line, &mut Parts::unfilled()) == Err(LineFault::NoBody));
 }

@@ -6,6 +6,7 @@ pub mod FollowLemmas
 pub mod HeardLemmas
 pub mod LeftLemmas
 pub mod LinkLemmas
+pub mod LoginLemmas
 pub mod MemberLemmas
 pub mod PlaceLemmas
 pub mod RoundLemmas

@@ -15,7 +15,7 @@ use Rattle.link_feeds.proofs.FeedLemmas.{capped}
 use Rattle.worker_match.specs.Seen as worker
 use Rattle.worker_match.specs.Walk.{one_more}
 use Rattle.server_core.specs.Fed.{AllMatch, Matches, joined, joined_all}
-use Rattle.server_core.specs.LinkSteps.{Rises, at_link, client_kept, has_number, has_that, is_none_of, is_overfull, is_ready, more, number_of, numbers, picked_at, submitted_from}
+use Rattle.server_core.specs.LinkSteps.{Rises, at_link, client_kept, has_number, has_that, is_none_of, is_overfull, is_ready, login_kept, more, number_of, numbers, other_login, others_from, picked_at, submitted_from}
 use Rattle.server_core.proofs.LinkLemmas.{changed_by, position_some}
 
 -- ---- both lists are of one length, and hold the halves of one link at one place
@@ -395,3 +395,8 @@ half_changed (x ∷ hs) (y ∷ ss) (suc i) h g all at kept = (all.0, half_change
 pub brought_matches : (h g : LinkSeen) (s : worker.LinkSeen) → g ≡ record h { last = g.last; held = g.held } → Matches h s → Matches g s
 brought_matches h g s is m =
     subst (λ l. Matches l s) (sym is) (record { link = m.link; inbound = m.inbound; alive = m.alive; limit = m.limit; feed = m.feed; me = m.me; many = m.many })
+
+pub others_same : (from : Source) (hs : List LinkSeen) (ss : List worker.LinkSeen) → AllMatch hs ss → others_from from (joined_all hs ss) ≡ others_from from hs
+others_same (source.Link number) hs ss all = flat_same (other_login number) (λ h s. refl) hs ss all
+others_same (source.Submit listener) hs ss all = flat_same login_kept (λ h s. refl) hs ss all
+others_same (source.Peer peer) hs ss all = flat_same login_kept (λ h s. refl) hs ss all

@@ -318,6 +318,12 @@ login_kept link = verified_login link.session
 abbrev pub logins_at : List LinkSeen → List (List ℕ)
 logins_at links = flat_map login_kept links
 
+-- the logins of the verified links, but of the one that a line came from
+abbrev pub others_from : Source → List LinkSeen → List (List ℕ)
+others_from (source.Link number) links = others_at number links
+others_from (source.Submit listener) links = logins_at links
+others_from (source.Peer peer) links = logins_at links
+
 -- the link whose line it is as the step leaves it, and all others as they are
 abbrev pub at_source : Source → (LinkSeen → LinkSeen) → List LinkSeen → List LinkSeen
 at_source (source.Link number) step links = map (at_link number step) links

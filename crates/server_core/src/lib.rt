@@ -5,6 +5,7 @@ mod acts;
 mod conf;
 mod link;
 mod links;
+mod logins;
 mod messages;
 mod places;
 mod reach;

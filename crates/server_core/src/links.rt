@@ -9,7 +9,7 @@ ghost use Rattle.aprs_history.specs.Stands.{LinkSeen};
 ghost use Rattle.aprs_history.specs.Trace.{placed, placed_all};
 ghost use Rattle.line_verdict.specs.Voices.{HasStation, voice_of};
 ghost use Rattle.server_core.specs.Fed.{AllMatch, offer_of, shows_kept};
-ghost use Rattle.server_core.specs.LinkSteps.{Rises, at_link, client_at, clients_in, filters_at, has_number, has_that, held_at, is_asked_at, is_late_link, is_lost, is_none_of, list_of, logins_at, numbers, other_login, others_at, speaker_at, submitted_from, when_gone, with_bytes, with_room};
+ghost use Rattle.server_core.specs.LinkSteps.{Rises, at_link, client_at, clients_in, filters_at, has_number, has_that, held_at, is_asked_at, is_late_link, is_lost, is_none_of, numbers, speaker_at, submitted_from, when_gone, with_bytes, with_room};
 ghost use Rattle.worker_match.specs.Items.{item_seen};
 ghost use Rattle.worker_match.specs.Seen.{Came};
 ghost use Rattle.worker_match.specs.Seen as worker;
@@ -17,7 +17,7 @@ ghost use Rattle.worker_match.specs.Walk.{IsOrdered};
 
 use crate::link::{Link, SourcePlace, Timeouts};
 use crate::messages::is_message;
-use aprs_base::{Call, Cut, Memory, Packet, Shared, Source};
+use aprs_base::{Cut, Memory, Packet, Shared, Source};
 use line_verdict::Voice;
 use std::alloc::Global;
 use worker_match::Item;
@@ -260,42 +260,6 @@ pub(crate) fn has_filters_at(links: &[Link], number: u32) -> bool
         Some(place) => links[place].has_filters(),
         None => false,
     }
-}
-
-/// The login of a link, where it is verified and the link's number is another.
-fn other_call(link: &Link, number: u32) -> Option<Call>
-    ensures { list_of result ≡ other_login number link.now }
-{
-    if link.number == number {
-        return None;
-    }
-    link.verified_call()
-}
-
-/// The logins of the verified links, but of that number.
-pub(crate) fn others(alloc: Global, links: &[Link], number: u32) -> Result<Vec<Call>, Memory>
-    ensures { IfOk result (λ calls. calls.items ≡ others_at number links.now) }
-{
-    let mut calls = Vec::with_capacity(alloc, links.len())?;
-    for link in links {
-        if let Some(call) = other_call(link, number) {
-            calls.push(call)?;
-        }
-    }
-    Ok(calls)
-}
-
-/// The logins of the verified links.
-pub(crate) fn logins(alloc: Global, links: &[Link]) -> Result<Vec<Call>, Memory>
-    ensures { IfOk result (λ calls. calls.items ≡ logins_at links.now) }
-{
-    let mut calls = Vec::with_capacity(alloc, links.len())?;
-    for link in links {
-        if let Some(call) = link.verified_call() {
-            calls.push(call)?;
-        }
-    }
-    Ok(calls)
 }
 
 /// The link of that number brought bytes: what they cut.

@@ -9,7 +9,7 @@ ghost use Rattle.aprs_base.specs.PacketSeen.{PacketSeen};
 ghost use Rattle.line_verdict.specs.Voices.{HasStation, voice_of};
 ghost use Rattle.link_feeds.specs.Feeds.{counted, met_by, put_in};
 ghost use Rattle.server_core.specs.Fed.{AllMatch, joined, joined_all, refused_of};
-ghost use Rattle.server_core.specs.LinkSteps.{Rises, at_link, at_moment, client_at, clients_in, filters_at, has_number, held_at, is_late_link, is_lost, is_none_of, is_overfull, is_ready, logins_at, more, new_link_seen, numbers, others_at, pending_at, speaker_at, submitted_from, takes_packet, takes_shown, when_gone, with_bytes, with_date, with_filter, with_packet, with_room, with_session, with_shown, with_taken, with_text};
+ghost use Rattle.server_core.specs.LinkSteps.{Rises, at_link, at_moment, client_at, clients_in, filters_at, has_number, held_at, is_late_link, is_lost, is_none_of, is_overfull, is_ready, more, new_link_seen, numbers, others_from, pending_at, speaker_at, submitted_from, takes_packet, takes_shown, when_gone, with_bytes, with_date, with_filter, with_packet, with_room, with_session, with_shown, with_taken, with_text};
 ghost use Rattle.server_core.specs.Telling.{late_line, lost_line, stop_line};
 ghost use Rattle.worker_match.specs.Items.{item_seen};
 ghost use Rattle.worker_match.specs.Seen.{Came};
@@ -19,8 +19,9 @@ ghost use Rattle.worker_match.specs.Walk.{IsOrdered};
 use crate::link::{Link, SourcePlace, Timeouts, feed_of, is_inbound};
 use crate::links::{
     all, bring, count_clients, drop_these, give_room, has_filters_at, has_link, is_client_at,
-    is_submitted, late, logins, lose, lost, offered, others, place_of, shows_any, voice_at,
+    is_submitted, late, lose, lost, offered, place_of, shows_any, voice_at,
 };
+use crate::logins::Logins;
 use crate::telling::{tell_late, tell_lost, tell_stopped};
 use aprs_base::{
     Addr, Body, Call, Cut, JournalLine, Line, Memory, Packet, Parts, Shared, Source, copy_call,
@@ -136,18 +137,14 @@ impl Served {
         count_clients(self.halves.as_slice())
     }
 
-    /// The logins of the verified links, but of that number.
-    pub fn others(&self, alloc: Global, number: u32) -> Result<Vec<Call>, Memory>
-        ensures { IfOk result (λ calls. calls.items ≡ others_at number self.now) }
+    /// The logins of the verified links, but of the one that a line came from.
+    pub fn logins(&self, from: Source) -> Logins<'_>
+        ensures { others_from result.from result.links.now ≡ others_from from self.now }
     {
-        others(alloc, self.halves.as_slice(), number)
-    }
-
-    /// The logins of the verified links.
-    pub fn logins(&self, alloc: Global) -> Result<Vec<Call>, Memory>
-        ensures { IfOk result (λ calls. calls.items ≡ logins_at self.now) }
-    {
-        logins(alloc, self.halves.as_slice())
+        Logins {
+            links: self.halves.as_slice(),
+            from,
+        }
     }
 
     /// The numbers of all links.

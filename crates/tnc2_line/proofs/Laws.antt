@@ -1,6 +1,6 @@
 -- Reading and writing are each other's opposites.
 use Rattle.std.proofs.Common.{◌≡◌, ℕ, ◌<◌, ◌≤◌, Bool, true, false, cond, not, ◌&&◌, List, [], ◌∷◌, ◌++◌, map, length, Option, Some, None, Result, Ok, Err, refl, sym, ap, subst, ◌∙◌, leb, ltb, arith, append_assoc}
-use Rattle.std.specs.Prelude.{count_by, IfOk}
+use Rattle.std.specs.Prelude.{count_by, IfOk, OnOk}
 use Rattle.std.specs.List.{list_all, slice_split, flat_map, join_with_byte}
 use Rattle.std.specs.Option.{ok_or}
 use Rattle.std.proofs.lemmas.Bool.{and_parts, and_from, lt-ltb, leb-true, le-leb, ltb-true, ltb-false, le-ltb, eqb-true}
@@ -11,6 +11,7 @@ use Rattle.std.proofs.lemmas.List.{length-append}
 use Rattle.aprs_base.specs.declared.packets.Via.{Via}
 use Rattle.aprs_base.specs.PartsSeen.{PartsSeen}
 use Rattle.tnc2_line.specs.Packet.{text_of, is_parts, IsParts, IsPacket, is_path, parts_of, head_of, path_of, vias_of, call_of, checked_path, checked_body, cut_at, is_colon, is_arrow, is_comma, is_element, has_no_star, names_construct, from_construct, with_comma, via_text, ◌>>=◌}
+use Rattle.tnc2_line.specs.Pieces.{Fills}
 use Rattle.tnc2_line.specs.declared.reading.LineFault.{LineFault}
 use Rattle.tnc2_line.specs.declared.reading.LineFault.TheVariants as fault
 use Rattle.aprs_base.proofs.CallLemmas.{is_call_byte, each_weaker, call_bytes, no_line_end}
@@ -292,6 +293,11 @@ inner_line line h = (and_parts (leb 1 (length line) && leb (length line) 510) (l
 pub packet_of : (line : List ℕ) (r : Result PartsSeen LineFault) → r ≡ parts_of line → IsLine line → IfOk r (λ parts. IsPacket line parts)
 packet_of line (Ok parts) e h = parts_give line parts (inner_line line h) (sym e)
 packet_of line (Err fault) e h = tt
+
+-- and so are the parts that were filled
+pub filled_sound : {X : Type 0} (r : Result X LineFault) (left : PartsSeen) (line : List ℕ) → Fills r left (parts_of line) → IsLine line → OnOk r (IsParts left)
+filled_sound (Ok x) left line fills h = (packet_of line (Ok left) (sym fills) h).sound
+filled_sound (Err fault) left line fills h = tt
 
 -- the text of parts is a line, where it isn't too long
 pub line_of_parts : (parts : PartsSeen) → IsParts parts → length (text_of parts) ≤ 510 → IsLine (text_of parts)

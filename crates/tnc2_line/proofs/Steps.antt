@@ -5,7 +5,7 @@ use Rattle.std.specs.Option.{ok_or}
 use Rattle.aprs_base.specs.declared.packets.Via.{Via}
 use Rattle.aprs_base.specs.PartsSeen.{PartsSeen}
 use Rattle.tnc2_line.specs.Packet.{◌>>=◌, call_of, checked_body, checked_path, cut_at, head_of, is_arrow, is_colon, is_comma, parts_of, path_of, vias_of}
-use Rattle.tnc2_line.specs.Pieces.{path_at, with_vias}
+use Rattle.tnc2_line.specs.Pieces.{Fills, path_at, with_vias}
 use Rattle.tnc2_line.specs.declared.reading.LineFault.{LineFault}
 use Rattle.tnc2_line.specs.declared.reading.LineFault.TheVariants as fault
 
@@ -68,3 +68,9 @@ parts_at line text parts source dest texts vias same cut head path =
     ∙ ap (λ r. r >>= with_cut) cut
     ∙ ap (λ r. r >>= with_head parts.1) (head ∙ ap (headed source dest) path)
     )
+
+-- the parts that are left where the body was filled
+pub filled : {X : Type 0} (result : Result X LineFault) (left : List ℕ) (body : Result (List ℕ) LineFault) (head : Head) (read : Result PartsSeen LineFault)
+    → Fills result left body → (body >>= with_body head) ≡ read → Fills result (record { source = head.0; dest = head.1; vias = head.2; body = left }) read
+filled (Ok x) left body head read fills is = sym is ∙ ap (λ b. b >>= with_body head) fills
+filled (Err why) left body head read fills is = sym is ∙ ap (λ b. b >>= with_body head) fills

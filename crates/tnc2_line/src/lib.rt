@@ -4,5 +4,5 @@
 mod reading;
 mod writing;
 
-pub use reading::{LineFault, construct, read};
+pub use reading::{LineFault, construct, read, read_into};
 pub use writing::{LongOut, write};

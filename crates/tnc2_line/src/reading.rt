@@ -1,5 +1,5 @@
 //! From a line to its parts.
-ghost use Rattle.std.specs.Prelude.{◌≡◌, ℕ, ◌+◌, ◌<◌, ◌≤◌, [], ◌∷◌, ◌==◌, List, length, nat_lt, map, count_by, IfSome, IfOk, position};
+ghost use Rattle.std.specs.Prelude.{◌≡◌, ℕ, ◌+◌, ◌<◌, ◌≤◌, [], ◌∷◌, ◌==◌, List, length, nat_lt, map, count_by, IfSome, IfOk, OnOk, position};
 ghost use Rattle.std.specs.List.{list_any, slice_split};
 ghost use Rattle.std.specs.Option.{ok_or, option_map};
 ghost use Rattle.aprs_base.specs.Bytes.{IsLine};
@@ -178,22 +178,39 @@ fn read_body(body: &mut ArrayVec<u8, 510>, text: &[u8]) -> Result<(), LineFault>
     }
 }
 
-/// Parts with these calls, which are filled where they stay.
+/// Fills the parts where they stay.
 #[tactic(auto, unfolding(crate::specs::Packet::parts_of))]
-fn read_parts(line: &Line) -> Result<Parts, LineFault>
-    ensures exact { result ≡ parts_of line.now }
+fn fill_parts(line: &Line, parts: &mut Parts) -> Result<(), LineFault>
+    requires path { parts.old.vias ≡ [] }
+    requires body { parts.old.body ≡ [] }
+    ensures exact { Fills result parts.new (parts_of line.now) }
     ensures grammar { IsLine line.now }
 {
     let (head, body) = cut_or(b':', line.bytes(), LineFault::NoColon)?;
     let (source, dest, path) = read_calls(head)?;
-    let mut parts = Parts {
-        source,
-        dest,
-        vias: ArrayVec::new(),
-        body: ArrayVec::new(),
-    };
+    parts.source = source;
+    parts.dest = dest;
     read_path(&mut parts.vias, path)?;
-    read_body(&mut parts.body, body)?;
+    read_body(&mut parts.body, body)
+}
+
+/// Puts the parts of a packet line into ones that are still to be filled, or says the line's first fault, which leaves them as
+/// they happen to be.
+pub fn read_into(line: &Line, parts: &mut Parts) -> Result<(), LineFault>
+    requires path { parts.old.vias ≡ [] }
+    requires body { parts.old.body ≡ [] }
+    ensures exact { Fills result parts.new (parts_of line.now) }
+    ensures sound { OnOk result (IsParts parts.new) }
+{
+    fill_parts(line, parts)
+}
+
+fn read_parts(line: &Line) -> Result<Parts, LineFault>
+    ensures exact { result ≡ parts_of line.now }
+    ensures grammar { IsLine line.now }
+{
+    let mut parts = Parts::unfilled();
+    fill_parts(line, &mut parts)?;
     Ok(parts)
 }
 

@@ -1,5 +1,5 @@
 //! What a verdict that accepts no packet comes to: refusals, logins and filters.
-ghost use Rattle.std.specs.Prelude.{◌≡◌, ◌≤◌, IsTrue, OnOk, length, Some, filter, map};
+ghost use Rattle.std.specs.Prelude.{◌≡◌, ◌≤◌, ◌++◌, IsTrue, OnOk, length, Some, filter, map};
 ghost use Rattle.aprs_base.specs.Bytes.{is_station};
 ghost use Rattle.aprs_base.specs.declared.packets.Source.TheVariants as Source;
 ghost use Rattle.line_verdict.specs.Fit.{all_few, has_few};
@@ -7,11 +7,12 @@ ghost use Rattle.aprs_history.specs.declared.verdicts.FilterAnswer.{FilterAnswer
 ghost use Rattle.aprs_history.specs.declared.verdicts.Verdict.{Verdict};
 ghost use Rattle.server_core.specs.LinkSteps.{after_login, takes_shown, with_duplicate, with_refused, with_reply, with_shown};
 ghost use Rattle.server_core.specs.Steps.{with_verdict};
+ghost use Rattle.server_core.specs.Telling.{said_lines};
 
 use super::{Core, raised};
 use crate::conf::server_of;
 use crate::places::friends_found;
-use aprs_base::{Line, Memory, Parts, Source};
+use aprs_base::{JournalLine, Line, Memory, Parts, Source};
 use aprs_history::{FilterAnswer, Refusal, Session, Verdict};
 use filter_lang::FilterSet;
 use line_verdict::{denied_line, login_line, refusal_line};
@@ -20,7 +21,13 @@ use std::sync::Arc;
 
 impl Core {
     /// A duplicate is refused, and is counted: the links that are shown such take it.
-    fn show(&mut self, alloc: Global, from: &Source, parts: Parts, line: Line) -> Result<(), Memory>
+    pub(super) fn show(
+        &mut self,
+        alloc: Global,
+        from: &Source,
+        parts: Parts,
+        line: Line,
+    ) -> Result<(), Memory>
         ensures { OnOk result (self.new ≡ record self.old {
           seen = record self.old.seen {
             links = map (with_shown from.now line) self.old.seen.links;
@@ -73,6 +80,21 @@ impl Core {
                 }
             }
         }
+    }
+
+    /// A line that came from there is refused, which is told and done.
+    pub(super) fn turn_down(
+        &mut self,
+        alloc: Global,
+        from: &Source,
+        refusal: Refusal,
+        lines: &mut Vec<JournalLine>,
+    ) -> Result<(), Memory>
+        ensures core { OnOk result (self.new ≡ with_verdict from.now (Verdict.Refused refusal) self.old) }
+        ensures lines { OnOk result (lines.new.items ≡ lines.old.items ++ said_lines self.old from.now (Verdict.Refused refusal)) }
+    {
+        self.tell_refusal(from, &refusal, lines)?;
+        self.refuse(alloc, from, refusal)
     }
 
     /// The link of that number has logged in, and is told so.

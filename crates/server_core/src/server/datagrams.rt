@@ -16,8 +16,8 @@ ghost use Rattle.server_core.specs.Telling.{Tells, said_lines};
 use super::Core;
 use crate::conf::{peer_from, peers_of, served_by, server_of};
 use aprs_base::{Addr, Cut, Cutter, JournalLine, Memory, PortKind, Source, copy_call};
-use aprs_history::{Refusal, Verdict};
-use line_verdict::submitter_of;
+use aprs_history::Refusal;
+use line_verdict::{is_comment_line, submitter_of};
 use q_construct::Origin;
 use std::alloc::Global;
 
@@ -47,14 +47,10 @@ impl Core {
         ensures core { OnOk result (self.new ≡ with_verdict from (verdict_of (carried_at origin.now self.old) cut.now) self.old) }
         ensures lines { OnOk result (lines.new.items ≡ lines.old.items ++ said_lines self.old from (verdict_of (carried_at origin.now self.old) cut.now)) }
     {
-        let verdict = self.judge_carried(alloc, origin, cut)?;
-        self.tell_said(&from, &verdict, lines)?;
-        match verdict {
-            Verdict::Refused(refusal) => self.refuse(alloc, &from, refusal),
-            Verdict::Accepted(parts, line) => self.accept(alloc, from, parts, line),
-            Verdict::PassedOver => Ok(()),
-            Verdict::LoggedIn(_session, _answer) => Ok(()),
-            Verdict::Filtered(_answer) => Ok(()),
+        match cut {
+            Cut::Long => self.turn_down(alloc, &from, Refusal::Long, lines),
+            Cut::Line(line) if is_comment_line(line) => Ok(()),
+            Cut::Line(line) => self.take_packet(alloc, from, origin, line, lines),
         }
     }
 
@@ -113,9 +109,7 @@ impl Core {
         ensures tells { (t : Trace) (cut : Cut) → Walks self.old t → OnOk result (Tells (setting_of self.old.conf) t (refuse_datagram listener cut refusal t) lines.old.items lines.new.items) }
         ensures rest { OnOk result (SameRest self.old self.new) }
     {
-        let from = Source::Submit(listener);
-        self.tell_refusal(&from, &refusal, lines)?;
-        self.refuse(alloc, &from, refusal)
+        self.turn_down(alloc, &Source::Submit(listener), refusal, lines)
     }
 
     /// A station submits a datagram: after its login come its packets.

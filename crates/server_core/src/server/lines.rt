@@ -7,16 +7,91 @@ ghost use Rattle.aprs_base.specs.declared.packets.Source.TheVariants as Source;
 ghost use Rattle.aprs_history.specs.Scenes.{scene_of};
 ghost use Rattle.aprs_history.specs.Verdicts.{verdict_of};
 ghost use Rattle.aprs_history.specs.History.{say_all, with_bytes_of};
+ghost use Rattle.dupe_window.specs.Windows.{has_copy};
+ghost use Rattle.line_verdict.specs.Fit.{IsFit, IsNew};
+ghost use Rattle.line_verdict.specs.Voices.{HasStation, line_verdict, voice_verdict};
 ghost use Rattle.server_core.specs.Meaning.{setting_of};
 ghost use Rattle.server_core.specs.Steps.{SameRest, Walks, scene_at, with_verdict};
 ghost use Rattle.server_core.specs.Telling.{Tells, said_lines};
 
 use super::Core;
-use aprs_base::{Cut, JournalLine, Memory, Source};
-use aprs_history::Verdict;
+use aprs_base::{Cut, JournalLine, Line, Memory, Source};
+use aprs_history::{Refusal, Verdict};
+use line_verdict::{Voice, is_comment_line, judge_comment};
 use std::alloc::Global;
 
 impl Core {
+    /// A link's line that is no packet has this verdict, which is told and done.
+    fn follow(
+        &mut self,
+        alloc: Global,
+        number: u32,
+        verdict: Verdict,
+        lines: &mut Vec<JournalLine>,
+    ) -> Result<(), Memory>
+        requires fit { IsFit verdict }
+        requires new { IsNew (has_copy self.old.seen.moment self.old.seen.window) verdict }
+        ensures core { OnOk result (self.new ≡ with_verdict (Source.Link number) verdict self.old) }
+        ensures lines { OnOk result (lines.new.items ≡ lines.old.items ++ said_lines self.old (Source.Link number) verdict) }
+    {
+        let from = Source::Link(number);
+        self.tell_said(&from, &verdict, lines)?;
+        match verdict {
+            Verdict::PassedOver => Ok(()),
+            Verdict::Refused(refusal) => self.refuse(alloc, &from, refusal),
+            Verdict::LoggedIn(session, answer) => self.log_in(alloc, number, session, answer),
+            Verdict::Filtered(answer) => self.answer(alloc, number, answer),
+            Verdict::Accepted(parts, line) => self.accept(alloc, from, parts, line),
+        }
+    }
+
+    /// What the link of that number said, which is no comment.
+    fn take_plain(
+        &mut self,
+        alloc: Global,
+        number: u32,
+        voice: &Voice,
+        line: &Line,
+        lines: &mut Vec<JournalLine>,
+    ) -> Result<(), Memory>
+        requires { HasStation voice.now }
+        ensures core { OnOk result (self.new ≡ with_verdict (Source.Link number) (line_verdict (scene_at self.old number) voice.now line.now) self.old) }
+        ensures lines { OnOk result (lines.new.items ≡ lines.old.items ++ said_lines self.old (Source.Link number) (line_verdict (scene_at self.old number) voice.now line.now)) }
+    {
+        let from = Source::Link(number);
+        match voice {
+            Voice::Nameless { filters } => {
+                let verdict = self.judge_login(alloc, *filters, line)?;
+                self.follow(alloc, number, verdict, lines)
+            }
+            Voice::Reader => self.turn_down(alloc, &from, Refusal::ReadOnly, lines),
+            Voice::Client { origin, .. } | Voice::Carrier(origin) => {
+                self.take_packet(alloc, from, origin, line, lines)
+            }
+        }
+    }
+
+    /// What the link of that number said, by who speaks there.
+    fn take_spoken(
+        &mut self,
+        alloc: Global,
+        number: u32,
+        voice: &Voice,
+        line: &Line,
+        lines: &mut Vec<JournalLine>,
+    ) -> Result<(), Memory>
+        requires { HasStation voice.now }
+        ensures core { OnOk result (self.new ≡ with_verdict (Source.Link number) (voice_verdict (scene_at self.old number) voice.now line.now) self.old) }
+        ensures lines { OnOk result (lines.new.items ≡ lines.old.items ++ said_lines self.old (Source.Link number) (voice_verdict (scene_at self.old number) voice.now line.now)) }
+    {
+        if is_comment_line(line) {
+            let verdict = judge_comment(alloc, voice, line)?;
+            self.follow(alloc, number, verdict, lines)
+        } else {
+            self.take_plain(alloc, number, voice, line, lines)
+        }
+    }
+
     /// What the link of that number said: it is judged, and what comes of it is told and done.
     fn take_line(
         &mut self,
@@ -28,15 +103,12 @@ impl Core {
         ensures core { OnOk result (self.new ≡ with_verdict (Source.Link number) (verdict_of (scene_at self.old number) cut.now) self.old) }
         ensures lines { OnOk result (lines.new.items ≡ lines.old.items ++ said_lines self.old (Source.Link number) (verdict_of (scene_at self.old number) cut.now)) }
     {
-        let from = Source::Link(number);
-        let verdict = self.judge(alloc, number, cut)?;
-        self.tell_said(&from, &verdict, lines)?;
-        match verdict {
-            Verdict::PassedOver => Ok(()),
-            Verdict::Refused(refusal) => self.refuse(alloc, &from, refusal),
-            Verdict::LoggedIn(session, answer) => self.log_in(alloc, number, session, answer),
-            Verdict::Filtered(answer) => self.answer(alloc, number, answer),
-            Verdict::Accepted(parts, line) => self.accept(alloc, from, parts, line),
+        match cut {
+            Cut::Long => self.turn_down(alloc, &Source::Link(number), Refusal::Long, lines),
+            Cut::Line(line) => {
+                let voice = self.voice(number);
+                self.take_spoken(alloc, number, &voice, line, lines)
+            }
         }
     }
 

@@ -1,22 +1,28 @@
 //! What an accepted packet comes to.
-ghost use Rattle.std.specs.Prelude.{◌≡◌, IfOk, OnOk, false, map};
+ghost use Rattle.std.specs.Prelude.{◌≡◌, ◌≤◌, ◌++◌, IsTrue, IfOk, OnOk, false, length, map};
 ghost use Rattle.std.specs.Arc.{arc_value};
 ghost use Rattle.std.specs.List.Sorted.{IsStrictlyIncreasing};
 ghost use Rattle.dupe_window.specs.Windows.{has_copy};
 ghost use Rattle.aprs_history.specs.Scenes.{packet_of};
+ghost use Rattle.aprs_history.specs.Verdicts.{packet_verdict, read_and_routed};
 ghost use Rattle.aprs_history.specs.declared.verdicts.Verdict.{Verdict};
-ghost use Rattle.server_core.specs.LinkSteps.{after_packet, cast_with, noted_from, owed_in, promised_all, source_found, spent, submitted_from};
+ghost use Rattle.server_core.specs.LinkSteps.{after_packet, cast_with, noted_from, others_from, owed_in, promised_all, source_found, spent, submitted_from};
 ghost use Rattle.server_core.specs.Meaning.{peer_of};
+ghost use Rattle.q_construct.specs.Rule.{has_station};
 ghost use Rattle.server_core.specs.Steps.{with_verdict};
+ghost use Rattle.server_core.specs.Telling.{said_lines};
+ghost use Rattle.tnc2_line.specs.Packet.{IsParts, parts_of, text_of};
 
 use super::{Core, raised};
 use crate::conf::peers_of;
 use crate::link::SourcePlace;
 use crate::messages::{hearers_of, is_position, note_from, owed_to, promise_all, receiver_of};
-use aprs_base::{Line, Memory, Packet, Parts, Shared, Source};
+use aprs_base::{JournalLine, Line, Memory, Packet, Parts, Shared, Source};
 use aprs_body::classify;
 use aprs_history::Verdict;
 use dupe_window::Key;
+use line_verdict::line_of;
+use q_construct::Origin;
 use std::alloc::Global;
 use std::sync::Arc;
 
@@ -146,5 +152,47 @@ impl Core {
         let packet = packet_from(from, self.moment, parts, line);
         let shared = Arc::new(alloc, packet)?;
         self.keep(alloc, &shared, &shared)
+    }
+
+    /// A packet that came from there goes on so, unless it is a copy.
+    fn take_routed(
+        &mut self,
+        alloc: Global,
+        from: Source,
+        parts: Parts,
+        lines: &mut Vec<JournalLine>,
+    ) -> Result<(), Memory>
+        requires sound { IsParts parts }
+        requires short { length (text_of parts) ≤ 510 }
+        ensures core { OnOk result (self.new ≡ with_verdict from (packet_verdict (has_copy self.old.seen.moment self.old.seen.window) (Ok parts)) self.old) }
+        ensures lines { OnOk result (lines.new.items ≡ lines.old.items ++ said_lines self.old from (packet_verdict (has_copy self.old.seen.moment self.old.seen.window) (Ok parts))) }
+    {
+        let line = line_of(&parts);
+        if self.is_copy(&parts) {
+            self.tell_duplicate(&from, lines)?;
+            self.show(alloc, &from, parts, line)
+        } else {
+            self.accept(alloc, from, parts, line)
+        }
+    }
+
+    /// A packet came from there: it is refused, or accepted.
+    pub(super) fn take_packet(
+        &mut self,
+        alloc: Global,
+        from: Source,
+        origin: &Origin,
+        line: &Line,
+        lines: &mut Vec<JournalLine>,
+    ) -> Result<(), Memory>
+        requires station { IsTrue (has_station origin.now) }
+        ensures core { OnOk result (self.new ≡ with_verdict from (packet_verdict (has_copy self.old.seen.moment self.old.seen.window) (read_and_routed self.old.conf.server origin.now (others_from from self.old.seen.links) (parts_of line.now))) self.old) }
+        ensures lines { OnOk result (lines.new.items ≡ lines.old.items ++ said_lines self.old from (packet_verdict (has_copy self.old.seen.moment self.old.seen.window) (read_and_routed self.old.conf.server origin.now (others_from from self.old.seen.links) (parts_of line.now)))) }
+    {
+        let mut parts = Parts::unfilled();
+        match self.route(&mut parts, from, origin, line) {
+            Err(refusal) => self.turn_down(alloc, &from, refusal, lines),
+            Ok(()) => self.take_routed(alloc, from, parts, lines),
+        }
     }
 }

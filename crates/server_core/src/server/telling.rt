@@ -1,5 +1,6 @@
 //! What a round tells the journals.
-ghost use Rattle.std.specs.Prelude.{◌≡◌, ◌∷◌, [], ◌++◌, OnOk, filter, map, if◌then◌else◌};
+ghost use Rattle.std.specs.Prelude.{◌≡◌, ℕ, List, ◌∷◌, [], ◌++◌, OnOk, filter, map, if◌then◌else◌};
+ghost use Rattle.aprs_base.specs.PartsSeen.{PartsSeen};
 ghost use Rattle.aprs_history.specs.Journal.{end_line, join_line, opening_lines, unjoined_lines};
 ghost use Rattle.aprs_history.specs.Trace.{AtListener};
 ghost use Rattle.aprs_history.specs.declared.verdicts.EndReason.TheVariants.{ByPeer};
@@ -13,7 +14,7 @@ use crate::conf::{group_of, timeouts};
 use crate::telling::{tell_opened, tell_refused, tell_verdict};
 use aprs_base::{Event, JournalLine, Memory, Source};
 use aprs_history::{Admission, EndReason, Refusal, Verdict};
-use journal_lines::{end_line, join_line, refusal_line, unjoined_line};
+use journal_lines::{duplicate_line, end_line, join_line, refusal_line, unjoined_line};
 
 impl Core {
     /// What was said from there, with this verdict.
@@ -38,6 +39,18 @@ impl Core {
         ensures { OnOk result (lines.new.items ≡ lines.old.items ++ said_lines self.now from.now (Verdict.Refused refusal.now)) }
     {
         lines.push(refusal_line(group_of(&self.conf), from, self.moment, refusal))?;
+        Ok(())
+    }
+
+    /// A packet that came from there and is refused as a duplicate.
+    pub(super) fn tell_duplicate(
+        &self,
+        from: &Source,
+        lines: &mut Vec<JournalLine>,
+    ) -> Result<(), Memory>
+        ensures { (parts : PartsSeen) (line : List ℕ) → OnOk result (lines.new.items ≡ lines.old.items ++ said_lines self.now from.now (Verdict.Refused (Refusal.Duplicate parts line))) }
+    {
+        lines.push(duplicate_line(group_of(&self.conf), from, self.moment))?;
         Ok(())
     }
 

@@ -8,5 +8,5 @@ use Rattle.aprsc_daemon.proofs.drill.DrillWireWire.cast.Goals as goal
 pub invariant_of-self : goal.invariant_of-self
 invariant_of-self c =
     let self = c.self.inside in
-    subst (λ wire. IsDriven self.plan self.events wire self.left self.taken) (sym c.cast.ensures.exact)
-    (driven_act self.plan self.events self.wire self.left self.taken (did.Cast c.args.peer c.args.bytes.now) (with_cast c.args.peer c.args.to c.args.bytes.now) c.cast.result (λ told. refl) refl (λ all. all) refl c.self.invariant)
+    subst (λ wire. IsDriven self.plan self.events wire self.taken) (sym c.cast.ensures.exact)
+    (driven_act self.plan self.events self.wire self.taken (did.Cast c.args.peer c.args.bytes.now) (with_cast c.args.peer c.args.to c.args.bytes.now) c.cast.result (λ told. refl) refl (λ all. all) refl c.self.invariant)

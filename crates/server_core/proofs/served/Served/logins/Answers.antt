@@ -1,10 +1,10 @@
-use Rattle.std.proofs.Common.{◌≡◌, ap, refl, subst, sym, ◌∙◌, IfOk, List, ℕ}
-use Rattle.server_core.specs.LinkSteps.{login_kept, logins_at}
-use Rattle.server_core.proofs.ServedLemmas.{flat_same}
+use Rattle.std.proofs.Common.{ap, sym, ◌∙◌}
+use Rattle.server_core.specs.LinkSteps.{others_from}
+use Rattle.server_core.proofs.ServedLemmas.{others_same}
 use Rattle.server_core.proofs.served.Served.logins.Goals as goal
 
 pub returns : goal.returns
 returns c =
-    subst (λ (all : List (List ℕ)). IfOk c.logins.result (λ calls. calls.items ≡ all))
-    (ap (logins_at) c.as_slice.ensures.value ∙ sym (flat_same login_kept (λ h s. refl) c.self.inside.halves.items c.self.inside.feeds.links c.self.invariant.match) ∙ ap (logins_at) c.self.view_is)
-    c.logins.ensures
+    ap (others_from c.args.from) c.as_slice.ensures.value
+    ∙ sym (others_same c.args.from c.self.inside.halves.items c.self.inside.feeds.links c.self.invariant.match)
+    ∙ ap (others_from c.args.from) c.self.view_is

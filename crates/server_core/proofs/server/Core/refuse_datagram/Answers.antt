@@ -6,15 +6,15 @@ use Rattle.aprs_history.specs.History.{refuse_datagram}
 use Rattle.server_core.specs.Steps.{Walks}
 use Rattle.server_core.proofs.CoreLemmas.{walks_unread}
 use Rattle.server_core.proofs.TellingLemmas.{tells_said}
-use Rattle.server_core.proofs.WholeRoundLemmas.{stands_ok}
 use Rattle.server_core.proofs.server.Core.refuse_datagram.Goals as goal
 
 pub returns-clause-walks : goal.returns-clause-walks
 returns-clause-walks c = λ t cut walks.
-    on_ok_weaker c.refuse.result
+    on_ok_weaker c.turn_down.result
     (λ is. subst (λ new. Walks new (refuse_datagram c.args.listener cut c.args.refusal t)) (sym is) (walks_unread c.args.self.now t walks c.args.listener cut c.args.refusal))
-    c.refuse.ensures
+    c.turn_down.ensures.core
 
 pub returns-clause-tells : goal.returns-clause-tells
 returns-clause-tells c = λ t cut walks.
-    stands_ok c.refuse.result (tells_said c.args.self.now t walks (source.Submit c.args.listener) cut (Refused c.args.refusal) c.args.lines.now.items c.tell_refusal.new.lines.items c.in_ok-tell_refusal.ensures)
+    on_ok_weaker c.turn_down.result
+    (tells_said c.args.self.now t walks (source.Submit c.args.listener) cut (Refused c.args.refusal) c.args.lines.now.items c.turn_down.new.lines.items) c.turn_down.ensures.lines
