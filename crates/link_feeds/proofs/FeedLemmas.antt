@@ -6,7 +6,7 @@ use Rattle.std.proofs.lemmas.Option.{get_or_from_slice_get}
 use Rattle.std.proofs.lemmas.List.Sums.{sum_by_more}
 use Rattle.std.specs.List.{All}
 use Rattle.std.proofs.lemmas.Bool.{cases_Bool, leb-true, leb-false, true≢false}
-use Rattle.std.proofs.lemmas.List.{drop_all, map-append}
+use Rattle.std.proofs.lemmas.List.{drop_all, length-map, map-append}
 use Rattle.std.proofs.lemmas.List.Elements.{All-append, All-cons, All-nil}
 use Rattle.std.proofs.lemmas.List.Sums.{fold-append}
 use Rattle.link_queue.specs.Queues.{QueueSeen, without_bytes}
@@ -56,6 +56,17 @@ matched items links = ap (λ (met : List LinkSeen). record { links = met; settle
 pub all_written : {X : Type 0} (size : ℕ) (new old : List X) → length new ≡ length old → size ≡ length old → take size (new ++ drop (length new) old) ≡ new
 all_written size new old same whole =
     ap (λ more. take size (new ++ more)) (drop_all (length new) old (omega (arith, same))) ∙ ap (take size) (append-nil new) ∙ take_all size new (omega (arith, same, whole))
+
+-- the same of a vector of links that was written through a slice, once what came was let go
+pub matched_all : (items : List ItemSeen) (states : List LinkSeen) (seen : FeedsSeen) → seen_after states items ≡ seen → (size : ℕ) (new old : List LinkSeen) (came left : List ItemSeen)
+    → came ≡ items → old ≡ states → size ≡ length states → new ≡ map (walked came) old → left ≡ [] → seen_after (take size (new ++ drop (length new) states)) left ≡ record seen { settled = true }
+matched_all items states seen is size new old came left same at whole met none =
+    let here : new ≡ map (walked items) states = met ∙ ap (map (walked came)) at ∙ ap (λ came. map (walked came) states) same in
+    let many : length new ≡ length states = ap length here ∙ length-map states (walked items) in
+    ap (λ links. seen_after links left) (all_written size new states many whole ∙ here)
+    ∙ ap (seen_after (map (walked items) states)) none
+    ∙ matched items states
+    ∙ ap (λ (feeds : FeedsSeen). record { links = feeds.links; settled = true }) is
 
 -- where all that came is matched, links are as they stand
 pub standing : (items : List ItemSeen) (links : List LinkSeen) → is_nothing items ≡ true → map (walked items) links ≡ links

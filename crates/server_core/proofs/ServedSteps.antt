@@ -13,7 +13,7 @@ use Rattle.aprs_history.specs.Stands.{LinkSeen}
 use Rattle.aprs_history.specs.Trace.{is_from}
 use Rattle.filter_eval.specs.Passes.{fresh}
 use Rattle.filter_eval.specs.declared.seen.Seen.{Seen}
-use Rattle.link_feeds.specs.Feeds.{FeedsSeen, counted, forgotten, is_other, met_by, new_feed, put_in, with_login, with_taken, with_terms}
+use Rattle.link_feeds.specs.Feeds.{FeedsSeen, counted, forgotten, is_other, met_by, new_feed, put_in, told, with_login, with_taken, with_terms}
 use Rattle.filter_lang.specs.Terms.{TermSeen}
 use Rattle.heard_routing.specs.Heard.{is_among}
 use Rattle.link_queue.specs.Queues as queue
@@ -26,9 +26,9 @@ use Rattle.server_core.specs.Halves.{AreHalves}
 use Rattle.server_core.specs.LinkSteps.{Rises, at_link, at_moment, has_room, has_that, is_asked_at, is_none_of, is_shown_at, more, number_of, numbers, pending_at, pending_of, takes_packet, takes_shown, with_date, with_packet, with_shown, with_text}
 use Rattle.server_core.specs.declared.link.SourcePlace.{SourcePlace}
 use Rattle.server_core.proofs.AskedLemmas.{listed_at}
-use Rattle.server_core.proofs.FedLemmas.{date_same, heard_counted, heard_same, shown_counted, shown_same}
+use Rattle.server_core.proofs.FedLemmas.{date_same, heard_counted, heard_same, shown_counted, shown_same, told_matches, told_same, told_uncounted}
 use Rattle.server_core.proofs.LinkLemmas.{changed_by, changed_nowhere, picked_found, picked_none, position_some, rises_filter, rises_push, rises_to}
-use Rattle.server_core.proofs.ServedLemmas.{any_half, as_many, counted_all, counted_match, joined_at, joined_left, joined_push, match_at, match_left, match_push, match_set, none_put, numbers_same, position_same, put_changed, put_kept, put_left, put_push, put_set, rises_same, state_set, states_changed, states_match}
+use Rattle.server_core.proofs.ServedLemmas.{any_half, as_many, counted_all, counted_match, joined_at, joined_left, joined_push, match_at, match_left, match_push, match_set, none_put, numbers_same, position_same, put_changed, put_kept, put_left, put_push, put_set, rises_same, state_at, state_set, states_changed, states_match}
 
 -- no link is left
 pub none_served : AreHalves [] (record { links = []; settled = true })
@@ -211,6 +211,35 @@ module _ (hs : List LinkSeen) (feeds left : FeedsSeen) (are : AreHalves hs feeds
       ∙ changed_by number step (2 ^ 32) links place (joined h s) (joined new t) (rises_same (2 ^ 32) hs ss are.match are.rising)
       (found ∙ sym (position_same (has_that number) (λ h s. refl) hs ss are.match)) (joined_at hs ss place h s are.match within at there) stepped
       ∙ ap (map (at_link number step)) view
+
+-- a line for it alone, and what changes with it of what it is fed
+module _ (number : ℕ) (hs searched : List LinkSeen) (feeds left : FeedsSeen) (are : AreHalves hs feeds) (place : ℕ) (same : searched ≡ hs) (found : Some place ≡ position (has_that number) searched)
+    (f : worker.LinkSeen → worker.LinkSeen) (line : List ℕ) (kept : (h : LinkSeen) (s : worker.LinkSeen) → Matches h s → Matches h (f s))
+    (is : (s : worker.LinkSeen) → slice_get feeds.links place ≡ Some s → left ≡ record feeds { links = slice_set feeds.links place (told line (f s)) }) where
+  within : place < length hs
+  within = within_halves number place hs searched same found
+
+  state : (s : worker.LinkSeen) × (slice_get feeds.links place ≡ Some s) × (s ≡ get_or feeds.links place s)
+  state = state_at feeds.links place (within_feeds place hs feeds are within)
+
+  half : (h : LinkSeen) × (h ≡ get_or hs place h)
+  half = half_at hs place within
+
+  fed : Matches half.0 (f state.0)
+  fed = kept half.0 state.0 (match_at hs feeds.links place half.0 state.0 are.match within half.1 state.2)
+
+  pub told_are : ((s : worker.LinkSeen) → (f s).put ≡ s.put) → AreHalves hs left
+  told_are put =
+      subst (λ ls. AreHalves ls left) (half_kept hs place half.0 half.1)
+      (changed_are hs feeds left are place half.0 half.0 state.0 (told line (f state.0)) within half.1 state.2 (is state.0 state.1)
+      (told_matches half.0 (f state.0).link line (f state.0) fed) refl (told_uncounted half.0 (f state.0) fed (f state.0).link line ∙ put state.0))
+
+  pub told_links : (step : LinkSeen → LinkSeen) (now : List LinkSeen) → ((h : LinkSeen) (s : worker.LinkSeen) → with_text line (joined h (f s)) ≡ step (joined h s)) → joined_all hs feeds.links ≡ now
+      → joined_all hs left.links ≡ map (at_link number step) now
+  told_links step now stepped view =
+      ap (λ ls. joined_all ls left.links) (sym (half_kept hs place half.0 half.1))
+      ∙ changed_links hs feeds left are place half.0 half.0 state.0 (told line (f state.0)) within half.1 state.2 (is state.0 state.1)
+      number step now (found ∙ ap (position (has_that number)) same) (told_same half.0 (f state.0) fed line ∙ stepped half.0 state.0) view
 
 -- or none, where there is none of that number
 pub changed_nobody : (number : ℕ) (step : LinkSeen → LinkSeen) (hs now : List LinkSeen) (feeds : FeedsSeen) → AreHalves hs feeds → None ≡ position (has_that number) hs → joined_all hs feeds.links ≡ now

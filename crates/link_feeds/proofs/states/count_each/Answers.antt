@@ -1,6 +1,6 @@
 use Rattle.std.proofs.Common.{ap, ◌∙◌}
 use Rattle.link_feeds.specs.Feeds.{counted, put_of}
-use Rattle.worker_match.proofs.WalkLemmas.{get_mapped, mapped_more}
+use Rattle.worker_match.proofs.WalkLemmas.{mapped_more}
 use Rattle.link_feeds.proofs.FeedLemmas.{at_old, put_more}
 use Rattle.link_feeds.proofs.states.count_each.Goals as goal
 

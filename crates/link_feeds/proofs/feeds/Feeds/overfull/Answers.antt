@@ -1,4 +1,4 @@
-use Rattle.std.proofs.Common.{◌≡◌, List, ℕ, ap, filter, map, sym, subst, ◌∙◌, IfOk}
+use Rattle.std.proofs.Common.{◌≡◌, List, filter, map, sym, subst, ◌∙◌, IfOk}
 use Rattle.worker_match.specs.Items.{items_seen}
 use Rattle.worker_match.specs.Seen.{LinkSeen}
 use Rattle.link_feeds.specs.Feeds.{is_over, link_of}

@@ -1,13 +1,9 @@
-use Rattle.std.proofs.Common.{ap, refl, sym, subst, ◌∙◌}
+use Rattle.std.proofs.Common.{ap, refl, ◌∙◌}
 use Rattle.std.specs.Arc.{arc_value}
 use Rattle.std.specs.List.{position}
-use Rattle.link_feeds.specs.Feeds.{told}
-use Rattle.server_core.proofs.ServedSteps.{changed_are, changed_links, changed_nobody, half_at, half_kept, within_feeds, within_halves}
-use Rattle.server_core.specs.Fed.{joined_all}
-use Rattle.server_core.specs.Halves.{AreHalves}
-use Rattle.server_core.specs.LinkSteps.{at_link, has_that, with_text}
-use Rattle.server_core.proofs.FedLemmas.{told_matches, told_same, told_uncounted}
-use Rattle.server_core.proofs.ServedLemmas.{match_at, state_at}
+use Rattle.worker_match.specs.Seen as worker
+use Rattle.server_core.specs.LinkSteps.{has_that, with_text}
+use Rattle.server_core.proofs.ServedSteps.{changed_nobody, told_are, told_links, within_feeds, within_halves}
 use Rattle.server_core.proofs.served.Served.reply.Goals as goal
 
 pub tell-requires-clause-within : goal.tell-requires-clause-within
@@ -17,39 +13,13 @@ tell-requires-clause-within c =
 
 pub invariant_of-self : goal.invariant_of-self
 invariant_of-self c =
-    let hs = c.self.inside.halves.items in
-    let feeds = c.self.inside.feeds in
-    let place = c.in-Some.place in
-    let within = within_halves c.args.number place hs c.as_slice.result.now c.as_slice.ensures.value c.in-Some.ensures in
-    let found = state_at feeds.links place (within_feeds place hs feeds c.self.invariant within) in
-    let half = half_at hs place within in
-    let h = half.0 in
-    let s = found.0 in
-    let matches = match_at hs feeds.links place h s c.self.invariant.match within half.1 found.2 in
-    let line = arc_value c.args.line in
-    let fed = s in
-    let login = matches in
-    subst (λ ls. AreHalves ls c.tell.new.self) (half_kept hs place h half.1)
-    (changed_are hs feeds c.tell.new.self c.self.invariant place h h s (told line fed) within half.1 found.2 (c.tell.ensures s found.1)
-    (told_matches h fed.link line fed login) refl (told_uncounted h fed login fed.link line))
+    told_are c.args.number c.self.inside.halves.items c.as_slice.result.now c.self.inside.feeds c.tell.new.self c.self.invariant c.in-Some.place c.as_slice.ensures.value c.in-Some.ensures
+    (λ (s : worker.LinkSeen). s) (arc_value c.args.line) (λ h s m. m) c.tell.ensures (λ s. refl)
 
 pub returns-in-Some : goal.returns-in-Some
 returns-in-Some c =
-    let hs = c.self.inside.halves.items in
-    let feeds = c.self.inside.feeds in
-    let place = c.in-Some.place in
-    let within = within_halves c.args.number place hs c.as_slice.result.now c.as_slice.ensures.value c.in-Some.ensures in
-    let found = state_at feeds.links place (within_feeds place hs feeds c.self.invariant within) in
-    let half = half_at hs place within in
-    let h = half.0 in
-    let s = found.0 in
-    let matches = match_at hs feeds.links place h s c.self.invariant.match within half.1 found.2 in
-    let line = arc_value c.args.line in
-    let fed = s in
-    let login = matches in
-    ap (λ ls. joined_all ls c.tell.new.self.links) (sym (half_kept hs place h half.1))
-    ∙ changed_links hs feeds c.tell.new.self c.self.invariant place h h s (told line fed) within half.1 found.2 (c.tell.ensures s found.1)
-    c.args.number (with_text (arc_value c.args.line)) c.args.self.now (c.in-Some.ensures ∙ ap (position (has_that c.args.number)) c.as_slice.ensures.value) (told_same h fed login line) c.self.view_is
+    told_links c.args.number c.self.inside.halves.items c.as_slice.result.now c.self.inside.feeds c.tell.new.self c.self.invariant c.in-Some.place c.as_slice.ensures.value c.in-Some.ensures
+    (λ (s : worker.LinkSeen). s) (arc_value c.args.line) (λ h s m. m) c.tell.ensures (with_text (arc_value c.args.line)) c.args.self.now (λ h s. refl) c.self.view_is
 
 pub returns-in-None : goal.returns-in-None
 returns-in-None c =
