@@ -48,7 +48,7 @@ fn is_answered<R: Abort>(rt: &R, alloc: Global, answer: FilterAnswer, reply: &[u
 fn filtered(verdict: Verdict) -> Option<FilterAnswer> {
     match verdict {
         Verdict::Filtered(answer) => Some(answer),
-        _ => None,
+        _other => None,
     }
 }
 
@@ -81,7 +81,7 @@ fn answers_commands(rt: HostRuntime) {
 fn logged_in(verdict: Verdict) -> Option<(bool, Option<FilterAnswer>)> {
     match verdict {
         Verdict::LoggedIn(session, answer) => Some((session.verified, answer)),
-        _ => None,
+        _other => None,
     }
 }
 
@@ -172,14 +172,14 @@ fn verdict<R: Abort>(rt: &R, window: &Window, text: &[u8]) -> Verdict {
 fn accepted(verdict: Verdict) -> Option<(Parts, Line)> {
     match verdict {
         Verdict::Accepted(parts, line) => Some((parts, line)),
-        _ => None,
+        _other => None,
     }
 }
 
 fn refused(verdict: Verdict) -> Option<Refusal> {
     match verdict {
         Verdict::Refused(refusal) => Some(refusal),
-        _ => None,
+        _other => None,
     }
 }
 

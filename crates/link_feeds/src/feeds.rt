@@ -7,7 +7,9 @@ ghost use Rattle.worker_match.specs.Items.{item_seen};
 ghost use Rattle.worker_match.specs.Seen.{LinkSeen};
 ghost use Rattle.worker_match.specs.Walk.{IsOrdered};
 
-use crate::states::{count_each, drop_each, forget_each, log_in, opened, overfull, set_filter};
+use crate::states::{
+    count_each, drop_each, forget_each, log_in, opened, overfull, set_filter, take_each,
+};
 use aprs_base::{Call, Gate, Line, Memory};
 use filter_eval::{Friends, Seen};
 use filter_lang::FilterSet;
@@ -15,7 +17,7 @@ use std::alloc::Global;
 use std::marker::{Model, Sync};
 use std::sync::Arc;
 use std::thread::Threads;
-use worker_match::{Feed, Item, LinkState, spread, walk};
+use worker_match::{Feed, Item, LinkState, spread};
 
 /// A part with fewer meetings of a link and an item costs more than it saves.
 const MEETINGS: usize = 4096;
@@ -135,13 +137,14 @@ impl Feeds {
         Ok(())
     }
 
-    /// The same, by this thread alone.
-    pub fn settle_here(&mut self) -> Result<(), Memory>
-        ensures { OnOk result (self.new ≡ record self.old { settled = true }) }
+    /// Something comes to the links, and is matched with each at once, by this thread alone. What came before must have been
+    /// matched. After `Memory` nothing is said of the links.
+    pub fn meet(&mut self, item: &Item) -> Result<(), Memory>
+        requires settled { self.old.settled ≡ true }
+        requires ordered { IsOrdered (item_seen item.now) }
+        ensures { OnOk result (self.new ≡ record self.old { links = met_by (item_seen item.now) self.old.links }) }
     {
-        walk(self.states.as_mut_slice(), self.items.as_slice())?;
-        self.items.clear();
-        Ok(())
+        take_each(self.states.as_mut_slice(), item)
     }
 
     /// How many packet lines were put into the queues since this was last asked, at most the greatest u64. What came must have

@@ -1,8 +1,10 @@
 //! What is done to links that have met all that came.
-ghost use Rattle.std.specs.Prelude.{◌≡◌, ◌==◌, IfOk, filter, length, map};
+ghost use Rattle.std.specs.Prelude.{◌≡◌, ◌==◌, IfOk, OnOk, filter, length, map};
 ghost use Rattle.std.specs.List.{list_any};
 ghost use Rattle.std.specs.Arc.{arc_value};
-ghost use Rattle.link_feeds.specs.Feeds.{counted, forgotten, is_other, is_over, link_of, new_feed, put_in, told, with_login, with_terms};
+ghost use Rattle.link_feeds.specs.Feeds.{counted, forgotten, is_other, is_over, link_of, met_by, new_feed, put_in, told, with_login, with_terms};
+ghost use Rattle.worker_match.specs.Items.{item_seen};
+ghost use Rattle.worker_match.specs.Walk.{IsOrdered};
 
 use crate::places::{forget_friends, still_seen};
 use aprs_base::{Call, Line, Memory};
@@ -12,7 +14,7 @@ use filter_lang::FilterSet;
 use link_queue::Queue;
 use std::alloc::Global;
 use std::sync::Arc;
-use worker_match::{Feed, LinkState};
+use worker_match::{Feed, Item, LinkState};
 
 /// The most lines that a link hasn't wholly taken.
 const MOST_LINES: usize = 1000;
@@ -44,6 +46,18 @@ pub(crate) fn opened(
         queue,
         put: 0,
     })
+}
+
+/// Each meets the same thing.
+pub(crate) fn take_each(states: &mut [LinkState], item: &Item) -> Result<(), Memory>
+    requires { IsOrdered (item_seen item.now) }
+    ensures ok { OnOk result (states.new ≡ met_by (item_seen item.now) states.old) }
+    ensures many { length states.new ≡ length states.old }
+{
+    for state in states.iter_mut() {
+        state.take(item)?;
+    }
+    Ok(())
 }
 
 /// What was put into its queue since it was last counted.

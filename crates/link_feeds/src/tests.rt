@@ -46,9 +46,12 @@ fn are_over(feeds: &Feeds, alloc: Global, want: &[u32]) -> Result<bool, Memory> 
     Ok(numbers.as_slice() == want)
 }
 
-/// All that came is matched, by this thread alone: how many packet lines were put into queues.
-fn settle_here(feeds: &mut Feeds) -> Result<u64, Memory> {
-    feeds.settle_here()?;
+/// A line comes to all clients, and is matched at once: how many packet lines were put into queues.
+fn tell_all(feeds: &mut Feeds, line: Arc<Line>) -> Result<u64, Memory> {
+    if !feeds.is_settled() {
+        return Ok(1);
+    }
+    feeds.meet(&Item::All { line })?;
     Ok(feeds.count_put())
 }
 
@@ -120,10 +123,8 @@ fn is_over_where_a_thousand_lines_wait(rt: HostRuntime) -> Result<(), Fail> {
 fn leaves_with_what_is_left(rt: HostRuntime) -> Result<(), Fail> {
     let alloc = rt.alloc();
     let mut feeds = three(&rt, alloc)?;
-    feeds.bring(Item::All {
-        line: line(&rt, alloc, b"all")?,
-    })?;
-    assert_eq!(rt; settle_here(&mut feeds)?, 0);
+    let all = line(&rt, alloc, b"all")?;
+    assert_eq!(rt; tell_all(&mut feeds, all)?, 0);
     tell(&mut feeds, 1, line(&rt, alloc, b"two")?);
     drop_these(&mut feeds, &[1, 3, 4]);
     assert_eq!(rt; feeds.len(), 2);

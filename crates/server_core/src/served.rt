@@ -303,7 +303,7 @@ impl Served {
         ensures ok { OnOk result (self.new ≡ map (with_packet packet.now source.now hearers.now owed.now) self.old) }
         ensures took { IfOk result (λ count. count ≡ more (length (filter (takes_packet packet.now source.now hearers.now owed.now) self.old)) 0) }
     {
-        let item = offered(
+        let item = &offered(
             alloc,
             self.halves.as_slice(),
             packet,
@@ -330,7 +330,7 @@ impl Served {
         if !shows_any(self.halves.as_slice()) {
             return Ok(0);
         }
-        let item = refused(alloc, *from, parts, line)?;
+        let item = &refused(alloc, *from, parts, line)?;
         meet(&mut self.halves, &mut self.feeds, item)
     }
 
@@ -339,7 +339,7 @@ impl Served {
         ensures rises { (high : ℕ) → Rises 0 (numbers self.old) high → Rises 0 (numbers self.new) high }
         ensures ok { OnOk result (self.new ≡ map (with_date (arc_value line)) self.old) }
     {
-        meet(&mut self.halves, &mut self.feeds, Item::All { line })?;
+        meet(&mut self.halves, &mut self.feeds, &Item::All { line })?;
         Ok(())
     }
 
@@ -386,12 +386,12 @@ impl Served {
 
 /// Something comes to the links, and is matched at once: how many packet lines are put into queues. After `Memory` no link
 /// is left.
-fn meet(halves: &mut Vec<Link>, feeds: &mut Feeds, item: Item) -> Result<u64, Memory>
+fn meet(halves: &mut Vec<Link>, feeds: &mut Feeds, item: &Item) -> Result<u64, Memory>
     requires settled { feeds.old.settled ≡ true }
-    requires ordered { IsOrdered (item_seen item) }
+    requires ordered { IsOrdered (item_seen item.now) }
     ensures halves { OnOk result (halves.new.items ≡ halves.old.items) }
-    ensures feeds { OnOk result (feeds.new ≡ record feeds.old { links = map counted (met_by (item_seen item) feeds.old.links) }) }
-    ensures put { IfOk result (λ put. put ≡ put_in (met_by (item_seen item) feeds.old.links)) }
+    ensures feeds { OnOk result (feeds.new ≡ record feeds.old { links = map counted (met_by (item_seen item.now) feeds.old.links) }) }
+    ensures put { IfOk result (λ put. put ≡ put_in (met_by (item_seen item.now) feeds.old.links)) }
     ensures cleared { OnErr result ((halves.new.items ≡ []) × (feeds.new ≡ record { links = []; settled = true })) }
 {
     let put = count(feeds, item);
@@ -403,14 +403,13 @@ fn meet(halves: &mut Vec<Link>, feeds: &mut Feeds, item: Item) -> Result<u64, Me
 }
 
 /// The same, where nothing is said of the links after `Memory`.
-fn count(feeds: &mut Feeds, item: Item) -> Result<u64, Memory>
+fn count(feeds: &mut Feeds, item: &Item) -> Result<u64, Memory>
     requires settled { feeds.old.settled ≡ true }
-    requires ordered { IsOrdered (item_seen item) }
-    ensures feeds { OnOk result (feeds.new ≡ record feeds.old { links = map counted (met_by (item_seen item) feeds.old.links) }) }
-    ensures put { IfOk result (λ put. put ≡ put_in (met_by (item_seen item) feeds.old.links)) }
+    requires ordered { IsOrdered (item_seen item.now) }
+    ensures feeds { OnOk result (feeds.new ≡ record feeds.old { links = map counted (met_by (item_seen item.now) feeds.old.links) }) }
+    ensures put { IfOk result (λ put. put ≡ put_in (met_by (item_seen item.now) feeds.old.links)) }
 {
-    feeds.bring(item)?;
-    feeds.settle_here()?;
+    feeds.meet(item)?;
     Ok(feeds.count_put())
 }
 

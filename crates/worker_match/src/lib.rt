@@ -13,4 +13,4 @@ mod workers;
 pub use items::Item;
 pub use laws::links_take_what_they_want;
 pub use links::{Feed, LinkState};
-pub use workers::{spread, walk};
+pub use workers::spread;

@@ -92,8 +92,8 @@ fn pass<G: Gate>(links: &mut [LinkState], items: &[Item], part: u32, gate: &G) -
     done
 }
 
-/// Each link meets the items in their order, one link after another. After `Memory` nothing is said of the links.
-pub fn walk(links: &mut [LinkState], items: &[Item]) -> Result<(), Memory>
+/// Each link meets the items in their order, one link after another.
+fn walk(links: &mut [LinkState], items: &[Item]) -> Result<(), Memory>
     requires { All IsOrdered (items_seen items.now) }
     ensures { OnOk result (links.new ≡ map (walked (items_seen items.now)) links.old) }
 {

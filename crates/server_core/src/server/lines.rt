@@ -5,11 +5,12 @@ ghost use Rattle.aprs_history.specs.Links.{brought_by};
 ghost use Rattle.aprs_base.specs.Cuts.{cuts_by};
 ghost use Rattle.aprs_base.specs.declared.packets.Source.TheVariants as Source;
 ghost use Rattle.aprs_history.specs.Scenes.{scene_of};
-ghost use Rattle.aprs_history.specs.Verdicts.{verdict_of};
+ghost use Rattle.aprs_history.specs.Verdicts.{login_verdict, verdict_of};
 ghost use Rattle.aprs_history.specs.History.{say_all, with_bytes_of};
 ghost use Rattle.dupe_window.specs.Windows.{has_copy};
 ghost use Rattle.line_verdict.specs.Fit.{IsFit, IsNew};
-ghost use Rattle.line_verdict.specs.Voices.{HasStation, line_verdict, voice_verdict};
+ghost use Rattle.line_verdict.specs.Voices.{HasStation, comment_verdict, line_verdict, voice_verdict};
+ghost use Rattle.login_pass.specs.Login.{login_of};
 ghost use Rattle.server_core.specs.Meaning.{setting_of};
 ghost use Rattle.server_core.specs.Steps.{SameRest, Walks, scene_at, with_verdict};
 ghost use Rattle.server_core.specs.Telling.{Tells, said_lines};
@@ -45,6 +46,41 @@ impl Core {
         }
     }
 
+    /// What the link of that number said, which is to be a login. It is rare, and a verdict is large: by itself it leaves no room
+    /// for one to be cleared at each packet.
+    #[inline(never)]
+    fn take_login(
+        &mut self,
+        alloc: Global,
+        number: u32,
+        filters: bool,
+        line: &Line,
+        lines: &mut Vec<JournalLine>,
+    ) -> Result<(), Memory>
+        ensures core { OnOk result (self.new ≡ with_verdict (Source.Link number) (login_verdict self.old.conf.server filters line.now (login_of line.now)) self.old) }
+        ensures lines { OnOk result (lines.new.items ≡ lines.old.items ++ said_lines self.old (Source.Link number) (login_verdict self.old.conf.server filters line.now (login_of line.now))) }
+    {
+        let verdict = self.judge_login(alloc, filters, line)?;
+        self.follow(alloc, number, verdict, lines)
+    }
+
+    /// What the link of that number said, which is a comment or a command.
+    #[inline(never)]
+    fn take_comment(
+        &mut self,
+        alloc: Global,
+        number: u32,
+        voice: &Voice,
+        line: &Line,
+        lines: &mut Vec<JournalLine>,
+    ) -> Result<(), Memory>
+        ensures core { OnOk result (self.new ≡ with_verdict (Source.Link number) (comment_verdict voice.now line.now) self.old) }
+        ensures lines { OnOk result (lines.new.items ≡ lines.old.items ++ said_lines self.old (Source.Link number) (comment_verdict voice.now line.now)) }
+    {
+        let verdict = judge_comment(alloc, voice, line)?;
+        self.follow(alloc, number, verdict, lines)
+    }
+
     /// What the link of that number said, which is no comment.
     fn take_plain(
         &mut self,
@@ -60,10 +96,7 @@ impl Core {
     {
         let from = Source::Link(number);
         match voice {
-            Voice::Nameless { filters } => {
-                let verdict = self.judge_login(alloc, *filters, line)?;
-                self.follow(alloc, number, verdict, lines)
-            }
+            Voice::Nameless { filters } => self.take_login(alloc, number, *filters, line, lines),
             Voice::Reader => self.turn_down(alloc, &from, Refusal::ReadOnly, lines),
             Voice::Client { origin, .. } | Voice::Carrier(origin) => {
                 self.take_packet(alloc, from, origin, line, lines)
@@ -85,8 +118,7 @@ impl Core {
         ensures lines { OnOk result (lines.new.items ≡ lines.old.items ++ said_lines self.old (Source.Link number) (voice_verdict (scene_at self.old number) voice.now line.now)) }
     {
         if is_comment_line(line) {
-            let verdict = judge_comment(alloc, voice, line)?;
-            self.follow(alloc, number, verdict, lines)
+            self.take_comment(alloc, number, voice, line, lines)
         } else {
             self.take_plain(alloc, number, voice, line, lines)
         }

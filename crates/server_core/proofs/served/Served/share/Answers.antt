@@ -9,16 +9,16 @@ use Rattle.server_core.proofs.FedLemmas.{offer_matches}
 use Rattle.server_core.proofs.ServedSteps.{met_are, met_links, met_put, met_rises, shared_links, shared_put}
 use Rattle.server_core.proofs.served.Served.share.Goals as goal
 
-abbrev offer_to : goal.After-meet → List LinkSeen → OfferSeen
+abbrev offer_to : goal.Joined-branch-2 → List LinkSeen → OfferSeen
 offer_to c links = offer_of c.args.packet.now c.args.source.now (numbers (filter (is_asked_at c.args.packet.now c.args.hearers.now c.args.owed.now) links))
 
-abbrev offer : goal.After-meet → OfferSeen
+abbrev offer : goal.Joined-branch-2 → OfferSeen
 offer c = offer_to c c.self.inside.halves.items
 
-is : (c : goal.After-meet) → item_seen c.in_ok-item.item ≡ Came (offer c)
+is : (c : goal.Joined-branch-2) → item_seen c.in_ok-item.field-0 ≡ Came (offer c)
 is c = c.in_ok-item.ensures.exact ∙ ap (λ links. Came (offer_to c links)) c.as_slice.ensures.value
 
-met : (c : goal.After-meet) → OnOk c.meet.result (c.meet.new.feeds ≡ record c.self.inside.feeds { links = map counted (met_by (Came (offer c)) c.self.inside.feeds.links) })
+met : (c : goal.Joined-branch-2) → OnOk c.meet.result (c.meet.new.feeds ≡ record c.self.inside.feeds { links = map counted (met_by (Came (offer c)) c.self.inside.feeds.links) })
 met c = subst (λ i. OnOk c.meet.result (c.meet.new.feeds ≡ record c.self.inside.feeds { links = map counted (met_by i c.self.inside.feeds.links) })) (is c) c.meet.ensures.feeds
 
 pub invariant_of-self : goal.invariant_of-self

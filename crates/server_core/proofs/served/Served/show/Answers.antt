@@ -30,7 +30,7 @@ invariant_of-self c =
     let feeds = c.self.inside.feeds in
     let packet = c.in_ok-item.ensures.exact.0 in
     let item = Came (refused_of packet) in
-    let is : item_seen c.in_ok-item.item ≡ item = c.in_ok-item.ensures.exact.1 in
+    let is : item_seen c.in_ok-item.field-0 ≡ item = c.in_ok-item.ensures.exact.1 in
     let met = subst (λ i. OnOk c.meet.result (c.meet.new.feeds ≡ record feeds { links = map counted (met_by i feeds.links) })) is c.meet.ensures.feeds in
     met_are c.meet.result hs c.meet.new.halves.items feeds c.meet.new.feeds item c.self.invariant (λ h s m. offer_matches h (refused_of packet) s m)
     c.meet.ensures.halves met c.meet.ensures.cleared
@@ -46,7 +46,7 @@ returns-clause-ok c =
     let feeds = c.self.inside.feeds in
     let packet = c.in_ok-item.ensures.exact.0 in
     let item = Came (refused_of packet) in
-    let is : item_seen c.in_ok-item.item ≡ item = c.in_ok-item.ensures.exact.1 in
+    let is : item_seen c.in_ok-item.field-0 ≡ item = c.in_ok-item.ensures.exact.1 in
     let met = subst (λ i. OnOk c.meet.result (c.meet.new.feeds ≡ record feeds { links = map counted (met_by i feeds.links) })) is c.meet.ensures.feeds in
     subst (λ from. OnOk c.meet.result (joined_all c.meet.new.halves.items c.meet.new.feeds.links ≡ map (with_shown from c.args.line) c.args.self.now)) c.in_ok-item.ensures.exact.2
     (subst (λ line. OnOk c.meet.result (joined_all c.meet.new.halves.items c.meet.new.feeds.links ≡ map (with_shown packet.from line) c.args.self.now)) c.in_ok-item.ensures.exact.3
@@ -59,7 +59,7 @@ returns-clause-took c =
     let feeds = c.self.inside.feeds in
     let packet = c.in_ok-item.ensures.exact.0 in
     let item = Came (refused_of packet) in
-    let is : item_seen c.in_ok-item.item ≡ item = c.in_ok-item.ensures.exact.1 in
+    let is : item_seen c.in_ok-item.field-0 ≡ item = c.in_ok-item.ensures.exact.1 in
     subst (λ from. IfOk c.meet.result (λ count. count ≡ more (length (filter (takes_shown from) c.args.self.now)) 0)) c.in_ok-item.ensures.exact.2
     (met_put c.meet.result (takes_shown packet.from) hs c.args.self.now feeds item
     (shown_put packet hs feeds.links c.self.invariant.match c.self.invariant.counted)
