@@ -8,5 +8,8 @@ use Rattle.dupe_window.proofs.windows.put.Goals as goal
 pub returns-clause-ok : goal.returns-clause-ok
 returns-clause-ok c = c.in_ok-insert.ensures.entries ∙ insert_entry-new is_same_key c.args.pairs.now c.args.key c.args.now c.requires.new
 
-pub returns-clause-rising : goal.returns-clause-rising
-returns-clause-rising c = subst IsRising (sym (returns-clause-ok c)) (rising_push c.args.pairs.now.entries c.args.key c.args.now c.requires.later c.requires.rising)
+pub returns-clause-order : goal.returns-clause-order
+returns-clause-order c = (
+  c.insert.ensures.unique,
+  subst IsRising (sym (returns-clause-ok c)) (rising_push c.args.pairs.now.entries c.args.key c.args.now c.requires.later c.requires.order.1),
+)
