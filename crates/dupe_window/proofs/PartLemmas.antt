@@ -1,5 +1,5 @@
 -- A window's pairs in two parts: older ones, of which some count, and all that came late.
-use Rattle.std.proofs.Common.{◌≡◌, ℕ, ◌-◌, ◌*◌, ◌≤◌, ◌<◌, Bool, true, false, true≢false, filter, max, ◌&&◌, ◌||◌, List, [], ◌∷◌, ◌++◌, length, get_or, slice_get, Option, Some, None, refl, sym, ap, subst, ◌∙◌, arith}
+use Rattle.std.proofs.Common.{◌≡◌, ℕ, ◌-◌, ◌*◌, ◌≤◌, ◌<◌, Bool, true, false, true≢false, filter, max, ◌&&◌, ◌||◌, List, [], ◌∷◌, ◌++◌, length, get_or, slice_get, Option, Some, None, is_some, refl, sym, ap, subst, ◌∙◌, arith}
 use Rattle.std.specs.Cmp.{IsEquivalence, and_equiv, on_equiv}
 use Rattle.std.specs.List.{IsDistinct, list_all, list_any}
 use Rattle.std.specs.Map.{keys_of, lookup}
@@ -7,13 +7,16 @@ use Rattle.std.specs.Option.{option_or}
 use Rattle.std.proofs.lemmas.Bool.{ltb-true}
 use Rattle.std.proofs.lemmas.Bool.Decides.{nat_tests}
 use Rattle.std.proofs.lemmas.Cmp.{nat_list_eq_equiv}
-use Rattle.std.proofs.lemmas.List.{append-nil}
+use Rattle.std.proofs.lemmas.List.{append-nil, map-append}
 use Rattle.std.proofs.lemmas.List.Elements.{filter-append}
 use Rattle.std.proofs.lemmas.List.Folds.{list_any-from_Any, list_any_none}
-use Rattle.std.proofs.lemmas.Map.Entries.{lookup-filter-values, option_filter}
+use Rattle.std.proofs.lemmas.Map.{lookup-none}
+use Rattle.std.proofs.lemmas.Map.Entries.{lookup-filter-values, none_past_head, option_filter}
+use Rattle.std.proofs.lemmas.Map.Keys.{IsDistinct-push, IsDistinct-tail}
+use Rattle.std.proofs.lemmas.Map.Made.{is_some-lookup}
 use Rattle.std.proofs.lemmas.Option.{get_or_from_slice_get, slice_get_within}
 use Rattle.dupe_window.specs.Keys.{Key, is_same_key}
-use Rattle.dupe_window.specs.Windows.{IsRising, if_inside, is_inside, is_inside_pair, kept_pairs}
+use Rattle.dupe_window.specs.Windows.{IsOnce, IsRising, if_inside, is_inside, is_inside_pair, kept_pairs}
 use Rattle.dupe_window.proofs.WindowLemmas.{all_inside, filter_stronger, inside_after}
 
 -- ---- look-ups
@@ -33,13 +36,6 @@ filtered : (seconds now : ℕ) (o : Option ℕ) → option_filter (is_inside sec
 filtered seconds now None = refl
 filtered seconds now (Some moment) = refl
 
--- a look-up of the pairs that count is one of the older ones, whose moment has to be inside, and else one of the late ones
-pub lookup-kept_pairs : (seconds last : ℕ) (key : Key) (older late : List (Key × ℕ)) → IsDistinct is_same_key (keys_of older)
-    → lookup (is_same_key key) (kept_pairs seconds last older late) ≡ option_or (if_inside seconds last (lookup (is_same_key key) older)) (lookup (is_same_key key) late)
-lookup-kept_pairs seconds last key older late once =
-    lookup-append (is_same_key key) (filter (is_inside_pair seconds last) older) late
-    ∙ ap (λ o. option_or o (lookup (is_same_key key) late)) (lookup-filter-values same_key_equiv (is_inside seconds last) key older once ∙ filtered seconds last (lookup (is_same_key key) older))
-
 -- what isn't found in both parts isn't in the second
 pub not_late : (test : Key → Bool) (older late : List (Key × ℕ)) → lookup test (older ++ late) ≡ None → lookup test late ≡ None
 not_late test older late none = by (lookup test older) (sym (lookup-append test older late) ∙ none)
@@ -47,6 +43,39 @@ not_late test older late none = by (lookup test older) (sym (lookup-append test 
     by : (o : Option ℕ) → option_or o (lookup test late) ≡ None → lookup test late ≡ None
     by None h = h
     by (Some moment) h = absurd (cc)
+
+either_none : (o : Option ℕ) → o ≡ option_or o None
+either_none None = refl
+either_none (Some moment) = refl
+
+-- where no key is in both parts, it doesn't matter which is looked at first
+either_first : (key : Key) (xs ys : List (Key × ℕ)) → IsOnce (xs ++ ys)
+    → option_or (lookup (is_same_key key) xs) (lookup (is_same_key key) ys) ≡ option_or (lookup (is_same_key key) ys) (lookup (is_same_key key) xs)
+either_first key [] ys once = either_none (lookup (is_same_key key) ys)
+either_first key (x ∷ xs) ys once =
+    by (is_same_key key x.0) refl (either_first key xs ys (IsDistinct-tail is_same_key x.0 (keys_of (xs ++ ys)) once))
+    (λ is. not_late (is_same_key key) xs ys (lookup-none (is_same_key key) (xs ++ ys) (none_past_head same_key_equiv key x (xs ++ ys) once is)))
+  where
+    by : (b : Bool) → is_same_key key x.0 ≡ b
+        → option_or (lookup (is_same_key key) xs) (lookup (is_same_key key) ys) ≡ option_or (lookup (is_same_key key) ys) (lookup (is_same_key key) xs)
+        → (is_same_key key x.0 ≡ true → lookup (is_same_key key) ys ≡ None)
+        → option_or (lookup (is_same_key key) (x ∷ xs)) (lookup (is_same_key key) ys) ≡ option_or (lookup (is_same_key key) ys) (lookup (is_same_key key) (x ∷ xs))
+    by true is rest gone = rw (is, gone is) refl
+    by false is rest gone = rw is rest
+
+-- a look-up of the pairs that count is one of the late ones, and else of the older ones, whose moment has to be inside
+pub lookup-kept_pairs : (seconds last : ℕ) (key : Key) (older late : List (Key × ℕ)) → IsOnce older → IsOnce (kept_pairs seconds last older late)
+    → lookup (is_same_key key) (kept_pairs seconds last older late) ≡ option_or (lookup (is_same_key key) late) (if_inside seconds last (lookup (is_same_key key) older))
+lookup-kept_pairs seconds last key older late once all =
+    lookup-append (is_same_key key) (filter (is_inside_pair seconds last) older) late
+    ∙ either_first key (filter (is_inside_pair seconds last) older) late all
+    ∙ ap (option_or (lookup (is_same_key key) late)) (lookup-filter-values same_key_equiv (is_inside seconds last) key older once ∙ filtered seconds last (lookup (is_same_key key) older))
+
+-- a new key may go last
+pub once_push : (pairs : List (Key × ℕ)) (key : Key) (now : ℕ) → IsOnce pairs → lookup (is_same_key key) pairs ≡ None → IsOnce (pairs ++ (key, now) ∷ [])
+once_push pairs key now once new =
+    subst (IsDistinct is_same_key) (sym (map-append (λ pair. pair.0) pairs ((key, now) ∷ [])))
+    (IsDistinct-push same_key_equiv (keys_of pairs) key once (sym (is_some-lookup (is_same_key key) pairs) ∙ ap is_some new))
 
 -- ---- filters
 
@@ -135,8 +164,17 @@ turned seconds now older late none =
     append-nil (filter (is_inside_pair seconds now) late)
     ∙ ap (λ l. l ++ filter (is_inside_pair seconds now) late) (sym (filter_none (is_inside_pair seconds now) older none))
 
-pub kept_pairs-filter : (seconds before now : ℕ) (older late : List (Key × ℕ))
+kept_pairs-filter : (seconds before now : ℕ) (older late : List (Key × ℕ))
     → filter (is_inside_pair seconds now) (kept_pairs seconds before older late) ≡ kept_pairs seconds (max before now) older (filter (is_inside_pair seconds now) late)
 kept_pairs-filter seconds before now older late =
     filter-append (is_inside_pair seconds now) (filter (is_inside_pair seconds before) older) late
     ∙ ap (λ l. l ++ filter (is_inside_pair seconds now) late) (filter_later seconds before now older)
+
+-- what is kept at the later of two moments, where the late pairs are gone through, is what was kept and is inside now
+pub forgotten : (seconds before now last : ℕ) (older late older_left late_left : List (Key × ℕ)) → last ≡ max before now
+    → kept_pairs seconds last older_left late_left ≡ kept_pairs seconds last older (filter (is_inside_pair seconds now) late)
+    → kept_pairs seconds last older_left late_left ≡ filter (is_inside_pair seconds now) (kept_pairs seconds before older late)
+forgotten seconds before now last older late older_left late_left latest left =
+    left
+    ∙ ap (λ moment. kept_pairs seconds moment older (filter (is_inside_pair seconds now) late)) latest
+    ∙ sym (kept_pairs-filter seconds before now older late)

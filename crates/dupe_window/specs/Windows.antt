@@ -51,9 +51,13 @@ IsUpTo now window = IsTrue (list_all (is_up_to now) window.pairs)
 abbrev pub IsRising : List (Key × ℕ) → Type 0
 IsRising pairs = IsNonDecreasingBy (λ pair. pair.1) pairs
 
+-- each key once
+abbrev pub IsOnce : List (Key × ℕ) → Type 0
+IsOnce pairs = IsDistinct is_same_key (keys_of pairs)
+
 -- each key once, in the order in which they came
 abbrev pub IsInOrder : List (Key × ℕ) → Type 0
-IsInOrder pairs = IsDistinct is_same_key (keys_of pairs) × IsRising pairs
+IsInOrder pairs = IsOnce pairs × IsRising pairs
 
 -- what is kept in two parts: of the older pairs those that are inside at this moment, and then all of the late ones
 abbrev pub kept_pairs : ℕ → ℕ → List (Key × ℕ) → List (Key × ℕ) → List (Key × ℕ)

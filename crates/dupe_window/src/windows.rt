@@ -1,9 +1,9 @@
 //! The window in which a packet is told from its copies.
-ghost use Rattle.std.specs.Prelude.{◌≡◌, ◌≤◌, ◌*◌, None, OnOk, OnErr, ◌++◌, ◌∷◌, [], filter, IsTrue};
+ghost use Rattle.std.specs.Prelude.{ℕ, List, ◌≡◌, ◌≤◌, ◌*◌, None, OnOk, OnErr, ◌++◌, ◌∷◌, [], filter, IsTrue};
 ghost use Rattle.std.specs.List.{list_all, list_any};
 ghost use Rattle.std.specs.Map.{lookup};
-ghost use Rattle.dupe_window.specs.Keys.{is_same_key};
-ghost use Rattle.dupe_window.specs.Windows.{IsInOrder, IsUpTo, empty_window, expired, if_inside, is_inside, is_inside_pair, is_up_to, kept_at, kept_pairs, seen_at, with_key};
+ghost use Rattle.dupe_window.specs.Keys.{Key, is_same_key};
+ghost use Rattle.dupe_window.specs.Windows.{IsInOrder, IsOnce, IsUpTo, empty_window, expired, if_inside, is_inside, is_inside_pair, is_up_to, kept_at, kept_pairs, seen_at, with_key};
 
 use crate::keys::Key;
 use aprs_base::Memory;
@@ -28,13 +28,13 @@ pub struct Window {
 impl Model for Window {
     ghost use Rattle.std.specs.Prelude.{◌*◌, IsTrue};
     ghost use Rattle.std.specs.List.{list_all};
-    ghost use Rattle.dupe_window.specs.Windows.{IsInOrder, WindowSeen, is_inside_pair, kept_pairs};
+    ghost use Rattle.dupe_window.specs.Windows.{IsInOrder, IsOnce, WindowSeen, is_inside_pair, kept_pairs};
 
     ghost Value = { WindowSeen };
 
     ghost view = { λ w. record { pairs = kept_pairs w.seconds w.last w.older.entries w.late.entries; seconds = w.seconds } };
 
-    ghost invariant = { λ w. IsInOrder w.older.entries × IsInOrder w.late.entries × IsTrue (list_all (is_inside_pair (2 * w.seconds) w.last) w.older.entries) };
+    ghost invariant = { λ w. IsInOrder w.older.entries × IsInOrder w.late.entries × IsTrue (list_all (is_inside_pair (2 * w.seconds) w.last) w.older.entries) × IsOnce (kept_pairs w.seconds w.last w.older.entries w.late.entries) };
 }
 
 /// Whether that moment was less than so many seconds ago.
@@ -58,14 +58,15 @@ fn moment_of(pairs: &Pairs, key: &Key) -> Option<u64>
     pairs.get(key).copied()
 }
 
-/// The moment that is kept with a key, in an older packet that counts or in one of late.
+/// The moment that is kept with a key, in a packet of late or in an older one that counts. No key is in both, and most copies come soon.
 fn kept_at(older: &Pairs, late: &Pairs, seconds: u32, last: u64, key: &Key) -> Option<u64>
     requires order { IsInOrder older.now.entries }
+    requires once { IsOnce (kept_pairs seconds last older.now.entries late.now.entries) }
     ensures { result ≡ lookup (is_same_key key.now) (kept_pairs seconds last older.now.entries late.now.entries) }
 {
-    match if_inside(seconds, last, moment_of(older, key)) {
+    match moment_of(late, key) {
         Some(moment) => Some(moment),
-        None => moment_of(late, key),
+        None => if_inside(seconds, last, moment_of(older, key)),
     }
 }
 
@@ -77,6 +78,7 @@ fn put(pairs: &mut Pairs, key: Key, now: u64) -> Result<(), Memory>
     ensures ok { OnOk result (pairs.new.entries ≡ pairs.old.entries ++ (key, now) ∷ []) }
     ensures err { OnErr result (pairs.new.entries ≡ pairs.old.entries) }
     ensures order { IsInOrder pairs.new.entries }
+    ensures once { (before : List (Key × ℕ)) → IsOnce (before ++ pairs.old.entries) → lookup (is_same_key key) (before ++ pairs.old.entries) ≡ None → IsOnce (before ++ pairs.new.entries) }
 {
     pairs.insert(key, now)?;
     Ok(())
