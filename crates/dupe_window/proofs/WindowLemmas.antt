@@ -35,7 +35,7 @@ list_all-filter p xs = list_all-from_AllPass p (filter p xs) (filter_passes p xs
 -- ---- what is inside
 
 -- of two moments the later one is inside where the earlier is
-inside_after : (seconds now earlier later : ℕ) → earlier ≤ later → is_inside seconds now earlier ≡ true → is_inside seconds now later ≡ true
+pub inside_after : (seconds now earlier later : ℕ) → earlier ≤ later → is_inside seconds now earlier ≡ true → is_inside seconds now later ≡ true
 inside_after seconds now earlier later le inside = grind (arith, nat_tests, ltb-true _ _ inside)
 
 -- what is inside was so before

@@ -1,8 +1,8 @@
 -- The packets of the last seconds, by their keys.
 use Rattle.std.specs.Prelude.{ℕ, ◌-◌, Bool, nat_le, nat_lt, IsTrue, List, [], ◌∷◌, ◌++◌, filter, Option, Some, None, is_some, if◌then◌else◌}
-use Rattle.std.specs.List.{list_all}
+use Rattle.std.specs.List.{IsDistinct, list_all}
 use Rattle.std.specs.List.Sorted.{IsNonDecreasingBy}
-use Rattle.std.specs.Map.{lookup}
+use Rattle.std.specs.Map.{keys_of, lookup}
 use Rattle.aprs_base.specs.declared.packets.Parts.{Parts}
 use Rattle.dupe_window.specs.Keys.{Key, is_same_key, key_of}
 
@@ -50,6 +50,18 @@ IsUpTo now window = IsTrue (list_all (is_up_to now) window.pairs)
 -- each moment is that of the one before it, or a later one
 abbrev pub IsRising : List (Key × ℕ) → Type 0
 IsRising pairs = IsNonDecreasingBy (λ pair. pair.1) pairs
+
+-- each key once
+abbrev pub IsOnce : List (Key × ℕ) → Type 0
+IsOnce pairs = IsDistinct is_same_key (keys_of pairs)
+
+-- each key once, in the order in which they came
+abbrev pub IsInOrder : List (Key × ℕ) → Type 0
+IsInOrder pairs = IsOnce pairs × IsRising pairs
+
+-- what is kept in two parts: of the older pairs those that are inside at this moment, and then all of the late ones
+abbrev pub kept_pairs : ℕ → ℕ → List (Key × ℕ) → List (Key × ℕ) → List (Key × ℕ)
+kept_pairs seconds last older late = filter (is_inside_pair seconds last) older ++ late
 
 -- none is past
 abbrev pub AreInside : ℕ → WindowSeen → Type 0

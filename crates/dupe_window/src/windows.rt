@@ -1,9 +1,9 @@
 //! The window in which a packet is told from its copies.
-ghost use Rattle.std.specs.Prelude.{◌≡◌, None, OnOk, OnErr, ◌++◌, ◌∷◌, [], filter, take, IsTrue};
-ghost use Rattle.std.specs.List.{IsDistinct, list_all};
-ghost use Rattle.std.specs.Map.{keys_of, lookup};
-ghost use Rattle.dupe_window.specs.Keys.{is_same_key};
-ghost use Rattle.dupe_window.specs.Windows.{IsRising, IsUpTo, empty_window, expired, if_inside, is_inside, is_inside_pair, is_up_to, kept_at, seen_at, with_key};
+ghost use Rattle.std.specs.Prelude.{ℕ, List, ◌≡◌, ◌≤◌, ◌*◌, None, OnOk, OnErr, ◌++◌, ◌∷◌, [], filter, IsTrue};
+ghost use Rattle.std.specs.List.{list_all, list_any};
+ghost use Rattle.std.specs.Map.{lookup};
+ghost use Rattle.dupe_window.specs.Keys.{Key, is_same_key};
+ghost use Rattle.dupe_window.specs.Windows.{IsInOrder, IsOnce, IsUpTo, empty_window, expired, if_inside, is_inside, is_inside_pair, is_up_to, kept_at, kept_pairs, seen_at, with_key};
 
 use crate::keys::Key;
 use aprs_base::Memory;
@@ -11,63 +11,83 @@ use indexmap::IndexMap;
 use std::alloc::Global;
 use std::hash::RandomState;
 use std::marker::Model;
+use std::mem::swap;
 
 type Pairs = IndexMap<Key, u64, RandomState>;
 
-/// Packets by their keys, and when they came.
+/// Packets by their keys, and when they came. They are in two maps, so that none is moved as time goes by: those of late, and
+/// older ones. Of the older ones those count that are inside the window at `last`, the latest moment at which any were forgotten.
 #[derive(Drop)]
 pub struct Window {
-    pairs: Pairs,
+    older: Pairs,
+    late: Pairs,
     seconds: u32,
+    last: u64,
 }
 
 impl Model for Window {
-    ghost use Rattle.std.specs.List.{IsDistinct};
-    ghost use Rattle.std.specs.Map.{keys_of};
-    ghost use Rattle.dupe_window.specs.Keys.{is_same_key};
-    ghost use Rattle.dupe_window.specs.Windows.{IsRising, WindowSeen};
+    ghost use Rattle.std.specs.Prelude.{◌*◌, IsTrue};
+    ghost use Rattle.std.specs.List.{list_all};
+    ghost use Rattle.dupe_window.specs.Windows.{IsInOrder, IsOnce, WindowSeen, is_inside_pair, kept_pairs};
 
     ghost Value = { WindowSeen };
 
-    ghost view = { λ w. record { pairs = w.pairs.entries; seconds = w.seconds } };
+    ghost view = { λ w. record { pairs = kept_pairs w.seconds w.last w.older.entries w.late.entries; seconds = w.seconds } };
 
-    ghost invariant = { λ w. IsDistinct is_same_key (keys_of w.pairs.entries) × IsRising w.pairs.entries };
+    ghost invariant = { λ w. IsInOrder w.older.entries × IsInOrder w.late.entries × IsTrue (list_all (is_inside_pair (2 * w.seconds) w.last) w.older.entries) × IsOnce (kept_pairs w.seconds w.last w.older.entries w.late.entries) };
 }
 
 /// Whether that moment was less than so many seconds ago.
-fn is_inside(seconds: u32, now: u64, moment: u64) -> bool
+fn is_inside(seconds: u64, now: u64, moment: u64) -> bool
     ensures { result ≡ is_inside seconds now moment }
 {
-    now.saturating_sub(moment) < u64::from(seconds)
+    now.saturating_sub(moment) < seconds
 }
 
-/// The moment that is kept with a key, where it is inside the window.
-fn moment_of(pairs: &Pairs, seconds: u32, key: &Key, now: u64) -> Option<u64>
-    ensures { result ≡ if_inside seconds now (lookup (is_same_key key.now) pairs.now.entries) }
+/// The moment, where it is inside the window.
+fn if_inside(seconds: u32, now: u64, kept: Option<u64>) -> Option<u64>
+    ensures { result ≡ if_inside seconds now kept }
 {
-    pairs
-        .get(key)
-        .copied()
-        .filter(|moment| is_inside(seconds, now, *moment))
+    kept.filter(|moment| is_inside(u64::from(seconds), now, *moment))
+}
+
+/// The moment that is kept with a key.
+fn moment_of(pairs: &Pairs, key: &Key) -> Option<u64>
+    ensures { result ≡ lookup (is_same_key key.now) pairs.now.entries }
+{
+    pairs.get(key).copied()
+}
+
+/// The moment that is kept with a key, in a packet of late or in an older one that counts. No key is in both, and most copies come soon.
+fn kept_at(older: &Pairs, late: &Pairs, seconds: u32, last: u64, key: &Key) -> Option<u64>
+    requires order { IsInOrder older.now.entries }
+    requires once { IsOnce (kept_pairs seconds last older.now.entries late.now.entries) }
+    ensures { result ≡ lookup (is_same_key key.now) (kept_pairs seconds last older.now.entries late.now.entries) }
+{
+    match moment_of(late, key) {
+        Some(moment) => Some(moment),
+        None => if_inside(seconds, last, moment_of(older, key)),
+    }
 }
 
 /// Keeps a key that is new with the moment at which it came.
 fn put(pairs: &mut Pairs, key: Key, now: u64) -> Result<(), Memory>
     requires new { lookup (is_same_key key) pairs.old.entries ≡ None }
     requires later { IsTrue (list_all (is_up_to now) pairs.old.entries) }
-    requires rising { IsRising pairs.old.entries }
+    requires order { IsInOrder pairs.old.entries }
     ensures ok { OnOk result (pairs.new.entries ≡ pairs.old.entries ++ (key, now) ∷ []) }
     ensures err { OnErr result (pairs.new.entries ≡ pairs.old.entries) }
-    ensures rising { IsRising pairs.new.entries }
-    ensures once { IsDistinct is_same_key (keys_of pairs.new.entries) }
+    ensures order { IsInOrder pairs.new.entries }
+    ensures once { (before : List (Key × ℕ)) → IsOnce (before ++ pairs.old.entries) → lookup (is_same_key key) (before ++ pairs.old.entries) ≡ None → IsOnce (before ++ pairs.new.entries) }
 {
     pairs.insert(key, now)?;
     Ok(())
 }
 
-/// Whether the first that came is inside the window, or none is kept.
-fn begins_inside(pairs: &Pairs, seconds: u32, now: u64) -> bool
-    ensures { result ≡ list_all (is_inside_pair seconds now) (take 1 pairs.now.entries) }
+/// Whether all are inside the window. As the moments rise, the first tells it.
+fn all_inside(pairs: &Pairs, seconds: u64, now: u64) -> bool
+    requires order { IsInOrder pairs.now.entries }
+    ensures { result ≡ list_all (is_inside_pair seconds now) pairs.now.entries }
 {
     match pairs.first() {
         Some((_, moment)) => is_inside(seconds, now, *moment),
@@ -75,25 +95,82 @@ fn begins_inside(pairs: &Pairs, seconds: u32, now: u64) -> bool
     }
 }
 
+/// Whether any is inside the window. As the moments rise, the last tells it.
+fn any_inside(pairs: &Pairs, seconds: u64, now: u64) -> bool
+    requires order { IsInOrder pairs.now.entries }
+    ensures { result ≡ list_any (is_inside_pair seconds now) pairs.now.entries }
+{
+    match pairs.last() {
+        Some((_, moment)) => is_inside(seconds, now, *moment),
+        None => false,
+    }
+}
+
 /// Keeps only what is inside the window.
 fn keep_inside(pairs: &mut Pairs, seconds: u32, now: u64)
+    requires order { IsInOrder pairs.old.entries }
     ensures kept { pairs.new.entries ≡ filter (is_inside_pair seconds now) pairs.old.entries }
-    ensures once { IsDistinct is_same_key (keys_of pairs.new.entries) }
+    ensures order { IsInOrder pairs.new.entries }
 {
+    let seconds = u64::from(seconds);
     pairs.retain(|_, moment| is_inside(seconds, now, *moment));
 }
 
-/// Takes away what is no more inside the window. Where the moments rise, a look at the first tells whether there is anything to do.
+/// Lets go of what is no more inside the window, once some are past twice its seconds.
 fn drop_old(pairs: &mut Pairs, seconds: u32, now: u64)
-    requires rising { IsRising pairs.old.entries }
-    requires once { IsDistinct is_same_key (keys_of pairs.old.entries) }
-    ensures kept { pairs.new.entries ≡ filter (is_inside_pair seconds now) pairs.old.entries }
-    ensures rising { IsRising pairs.new.entries }
-    ensures once { IsDistinct is_same_key (keys_of pairs.new.entries) }
+    requires order { IsInOrder pairs.old.entries }
+    ensures kept { filter (is_inside_pair seconds now) pairs.new.entries ≡ filter (is_inside_pair seconds now) pairs.old.entries }
+    ensures inside { IsTrue (list_all (is_inside_pair (2 * seconds) now) pairs.new.entries) }
+    ensures order { IsInOrder pairs.new.entries }
 {
-    if !begins_inside(pairs, seconds, now) {
+    if !all_inside(pairs, 2 * u64::from(seconds), now) {
         keep_inside(pairs, seconds, now);
     }
+}
+
+/// Makes older packets of those of late.
+fn turn(older: &mut Pairs, late: &mut Pairs)
+    requires order { IsInOrder late.old.entries }
+    ensures older { older.new.entries ≡ late.old.entries }
+    ensures late { late.new.entries ≡ [] }
+    ensures order { IsInOrder late.new.entries }
+{
+    older.clear();
+    swap(older, late);
+}
+
+/// Forgets what came of late and is no more inside the window. Where no older packet counts any more, those of late take their place
+/// as they are; only where moments went back they are gone through.
+fn forget_late(older: &mut Pairs, late: &mut Pairs, seconds: u32, last: u64, now: u64)
+    requires reached { now ≤ last }
+    requires older { IsInOrder older.old.entries }
+    requires late { IsInOrder late.old.entries }
+    ensures kept { kept_pairs seconds last older.new.entries late.new.entries ≡ kept_pairs seconds last older.old.entries (filter (is_inside_pair seconds now) late.old.entries) }
+    ensures older { IsInOrder older.new.entries }
+    ensures late { IsInOrder late.new.entries }
+{
+    if all_inside(late, u64::from(seconds), now) {
+        return;
+    }
+    if last == now && !any_inside(older, u64::from(seconds), now) {
+        turn(older, late);
+    } else {
+        keep_inside(late, seconds, now);
+    }
+}
+
+/// Forgets what is no more inside the window at `now`, where `last` is the latest moment at which any were forgotten.
+fn forget(older: &mut Pairs, late: &mut Pairs, seconds: u32, last: u64, now: u64)
+    requires reached { now ≤ last }
+    requires older { IsInOrder older.old.entries }
+    requires late { IsInOrder late.old.entries }
+    ensures kept { kept_pairs seconds last older.new.entries late.new.entries ≡ kept_pairs seconds last older.old.entries (filter (is_inside_pair seconds now) late.old.entries) }
+    ensures inside { IsTrue (list_all (is_inside_pair (2 * seconds) last) older.new.entries) }
+    ensures older { IsInOrder older.new.entries }
+    ensures late { IsInOrder late.new.entries }
+{
+    forget_late(older, late, seconds, last, now);
+    drop_old(older, seconds, last);
 }
 
 impl Window {
@@ -102,8 +179,10 @@ impl Window {
         ensures { result ≡ empty_window seconds }
     {
         Window {
-            pairs: IndexMap::with_hasher(alloc, hasher),
+            older: IndexMap::with_hasher(alloc, hasher),
+            late: IndexMap::with_hasher(alloc, hasher),
             seconds,
+            last: 0,
         }
     }
 
@@ -111,7 +190,8 @@ impl Window {
     pub fn seen(&self, key: &Key, now: u64) -> Option<u64>
         ensures { result ≡ seen_at now key.now self.now }
     {
-        moment_of(&self.pairs, self.seconds, key, now)
+        let kept = kept_at(&self.older, &self.late, self.seconds, self.last, key);
+        if_inside(self.seconds, now, kept)
     }
 
     /// Keeps a packet that is new with the moment at which it came. For want of memory nothing changes.
@@ -121,13 +201,15 @@ impl Window {
         ensures ok { OnOk result (self.new ≡ with_key key now self.old) }
         ensures err { OnErr result (self.new ≡ self.old) }
     {
-        put(&mut self.pairs, key, now)
+        put(&mut self.late, key, now)
     }
 
     /// Forgets what is no more inside the window.
     pub fn expire(&mut self, now: u64)
         ensures { self.new ≡ expired now self.old }
     {
-        drop_old(&mut self.pairs, self.seconds, now);
+        let last = self.last.max(now);
+        forget(&mut self.older, &mut self.late, self.seconds, last, now);
+        self.last = last;
     }
 }

@@ -1,16 +1,13 @@
-use Rattle.std.proofs.Common.{◌≡◌, true, subst, sym, ◌∙◌, take, rules}
+use Rattle.std.proofs.Common.{◌≡◌, ◌*◌, ◌∙◌, ap, filter, subst, sym, true}
 use Rattle.std.specs.List.{list_all}
-use Rattle.std.proofs.lemmas.List.Kept.{IsNonDecreasingBy-filter}
-use Rattle.dupe_window.specs.Windows.{IsRising, is_inside_pair}
-use Rattle.dupe_window.proofs.WindowLemmas.{all_inside, filter_whole}
+use Rattle.dupe_window.specs.Windows.{is_inside_pair}
+use Rattle.dupe_window.proofs.PartLemmas.{filter_twice, inside_twice, list_all-filter_weaker}
 use Rattle.dupe_window.proofs.windows.drop_old.Goals as goal
 
-pub returns-then-not-begins_inside-clause-rising : goal.returns-then-not-begins_inside-clause-rising
-returns-then-not-begins_inside-clause-rising c =
-    subst IsRising (sym c.keep_inside.ensures.kept)
-    (IsNonDecreasingBy-filter (λ pair. pair.1) (is_inside_pair c.args.seconds c.args.now) c.args.pairs.now.entries c.requires.rising)
+pub returns-then-not-all_inside-clause-kept : goal.returns-then-not-all_inside-clause-kept
+returns-then-not-all_inside-clause-kept c = ap (filter (is_inside_pair c.args.seconds c.args.now)) c.keep_inside.ensures.kept ∙ filter_twice (is_inside_pair c.args.seconds c.args.now) c.args.pairs.now.entries
 
-pub returns-else-not-begins_inside-clause-kept : goal.returns-else-not-begins_inside-clause-kept
-returns-else-not-begins_inside-clause-kept c =
-    let first : list_all (is_inside_pair c.args.seconds c.args.now) (take 1 c.args.pairs.now.entries) ≡ true = sym c.begins_inside.ensures ∙ search rules in
-    sym (filter_whole _ _ (all_inside c.args.seconds c.args.now c.args.pairs.now.entries c.requires.rising first))
+pub returns-then-not-all_inside-clause-inside : goal.returns-then-not-all_inside-clause-inside
+returns-then-not-all_inside-clause-inside c =
+    subst (λ pairs. list_all (is_inside_pair (2 * c.args.seconds) c.args.now) pairs ≡ true) (sym c.keep_inside.ensures.kept)
+    (list_all-filter_weaker (is_inside_pair c.args.seconds c.args.now) (is_inside_pair (2 * c.args.seconds) c.args.now) (λ pair. inside_twice c.args.seconds c.args.now pair.1) c.args.pairs.now.entries)
