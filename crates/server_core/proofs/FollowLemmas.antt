@@ -35,7 +35,6 @@ use Rattle.aprs_history.specs.Trace.{is_from, is_member, last_moment, moment_of,
 use Rattle.aprs_history.specs.Links.{Opening, brought_by, filter_after, filter_by, filter_of, is_client_link, is_client_of, is_submitted, taken_by, session_of, opening_of}
 use Rattle.link_queue.specs.Lines.{Queued, queued, text_bytes, ended_line}
 use Rattle.link_queue.specs.Queues.{QueueSeen}
-use Rattle.link_queue.specs.Queues.{with_line as pushed}
 use Rattle.aprs_history.specs.Texts.{Text, TextLine, comment_line, first_line, is_shown, most_waiting, lines_of, opening_wants, plain, plain_line, refused_lines, relayed, reply_of, shown, shows_duplicates, text_to, waiting_lines, with_text_line, with_text_lines, wants, filter_reply, login_filter_reply, login_reply, refusal_reply, reply_lines}
 use Rattle.aprs_history.specs.Stands.{LinkSeen, link_seen, TookNoMore, friends_kept, place_kept}
 use Rattle.server_core.specs.Pending.{with_line, pending_bytes}

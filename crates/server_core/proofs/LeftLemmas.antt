@@ -1,6 +1,6 @@
 -- The links that are left once those of some numbers have gone.
-use Rattle.std.proofs.Common.{◌≡◌, ℕ, ◌^◌, ◌<◌, ◌==◌, ◌||◌, Bool, true, false, not, List, [], ◌∷◌, filter, get_or, length, suc, refl, sym, ap, ◌∙◌, arith, cond, ⊎_elim}
-use Rattle.std.specs.List.{All, list_any}
+use Rattle.std.proofs.Common.{◌≡◌, ℕ, ◌==◌, ◌||◌, Bool, true, false, not, List, [], ◌∷◌, filter, get_or, suc, refl, ap, ◌∙◌, arith, cond, ⊎_elim}
+use Rattle.std.specs.List.{All}
 use Rattle.std.proofs.lemmas.Bool.{cases_Bool}
 use Rattle.aprs_history.specs.Stands.{LinkSeen}
 use Rattle.aprs_history.specs.Trace.{is_member}

@@ -1,7 +1,7 @@
 -- Lists of links in two halves.
-use Rattle.std.proofs.Common.{◌≡◌, ℕ, zero, suc, ◌+◌, ◌-◌, ◌^◌, ◌≤◌, ◌<◌, ◌==◌, ◌||◌, ◌&&◌, Bool, true, false, not, List, [], ◌∷◌, ◌++◌, length, map, filter, get_or, slice_get, slice_set, min, nat_lt, refl, sym, ap, ◌∙◌, subst, arith, cond, take, take_all, append-nil, ⊎_elim, Option, Some, None, if◌then◌else◌}
+use Rattle.std.proofs.Common.{◌≡◌, ℕ, zero, suc, ◌+◌, ◌-◌, ◌^◌, ◌≤◌, ◌<◌, ◌==◌, ◌||◌, Bool, true, false, not, List, [], ◌∷◌, ◌++◌, length, map, filter, get_or, slice_get, slice_set, min, refl, sym, ap, ◌∙◌, subst, arith, cond, take, take_all, append-nil, ⊎_elim, Some, if◌then◌else◌}
 use Rattle.std.specs.List.{All, flat_map, list_any, position, position_or_len, sum_by}
-use Rattle.std.proofs.lemmas.Bool.{cases_Bool, eqb-true, true≢false}
+use Rattle.std.proofs.lemmas.Bool.{cases_Bool}
 use Rattle.std.proofs.lemmas.List.{map-append}
 use Rattle.std.proofs.lemmas.List.Elements.{filter_more}
 use Rattle.std.proofs.lemmas.List.Sums.{sum_by-append, sum_by-cons}
@@ -9,14 +9,12 @@ use Rattle.std.proofs.lemmas.Option.{get_or_from_slice_get, slice_get-get_or}
 use Rattle.aprs_base.specs.declared.packets.Source.{Source}
 use Rattle.aprs_base.specs.declared.packets.Source.TheVariants as source
 use Rattle.aprs_history.specs.Stands.{LinkSeen}
-use Rattle.aprs_history.specs.Trace.{is_member}
 use Rattle.link_feeds.specs.Feeds.{counted, is_other, is_over, link_of, put_in, put_of}
 use Rattle.link_feeds.proofs.FeedLemmas.{capped}
 use Rattle.worker_match.specs.Seen as worker
 use Rattle.worker_match.specs.Walk.{one_more}
 use Rattle.server_core.specs.Fed.{AllMatch, Matches, joined, joined_all}
-use Rattle.server_core.specs.LinkSteps.{Rises, at_link, client_kept, has_number, has_that, is_none_of, is_overfull, is_ready, login_kept, more, number_of, numbers, other_login, others_from, picked_at, submitted_from}
-use Rattle.server_core.proofs.LinkLemmas.{changed_by, position_some}
+use Rattle.server_core.specs.LinkSteps.{Rises, at_link, client_kept, has_that, is_none_of, is_overfull, is_ready, login_kept, more, number_of, numbers, other_login, others_from, picked_at, submitted_from}
 
 -- ---- both lists are of one length, and hold the halves of one link at one place
 

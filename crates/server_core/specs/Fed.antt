@@ -1,6 +1,5 @@
 -- A link in two halves: what is kept of its session, and what it is fed.
 use Rattle.std.specs.Prelude.{◌≡◌, ℕ, Bool, true, false, List, [], ◌∷◌, length, Option, Some, None, ⊤}
-use Rattle.std.specs.List.Sorted.{IsStrictlyIncreasing}
 use Rattle.aprs_base.specs.Held.{held_after}
 use Rattle.aprs_base.specs.PacketSeen.{PacketSeen}
 use Rattle.aprs_base.specs.declared.packets.PortKind.{PortKind}

@@ -1,5 +1,5 @@
 -- What is true of the links that are served, whose halves are kept side by side.
-use Rattle.std.specs.Prelude.{◌≡◌, ◌^◌, ℕ, List, true}
+use Rattle.std.specs.Prelude.{◌≡◌, ◌^◌, List, true}
 use Rattle.aprs_history.specs.Stands.{LinkSeen}
 use Rattle.link_feeds.specs.Feeds.{FeedsSeen, put_in}
 use Rattle.server_core.specs.Fed.{AllMatch}

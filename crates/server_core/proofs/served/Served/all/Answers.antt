@@ -1,4 +1,4 @@
-use Rattle.std.proofs.Common.{◌≡◌, ap, refl, subst, sym, ◌∙◌, IfOk, List, ℕ}
+use Rattle.std.proofs.Common.{◌≡◌, ap, subst, sym, ◌∙◌, IfOk, List, ℕ}
 use Rattle.server_core.specs.LinkSteps.{numbers}
 use Rattle.server_core.proofs.ServedLemmas.{numbers_same}
 use Rattle.server_core.proofs.served.Served.all.Goals as goal

@@ -1,4 +1,4 @@
-use Rattle.std.proofs.Common.{◌≡◌, ap, refl, subst, sym, ◌∙◌, ◌++◌, IfOk, None, OnOk, map}
+use Rattle.std.proofs.Common.{◌≡◌, ap, refl, subst, sym, ◌∙◌, ◌++◌, None, map}
 use Rattle.std.proofs.lemmas.Result.{on_ok_weaker}
 use Rattle.aprs_base.specs.Held.{held_after}
 use Rattle.server_core.specs.Fed.{joined_all}

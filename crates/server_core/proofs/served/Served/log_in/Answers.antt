@@ -3,9 +3,9 @@ use Rattle.std.specs.Arc.{arc_value}
 use Rattle.std.specs.List.{position}
 use Rattle.aprs_history.specs.Stands.{LinkSeen}
 use Rattle.link_feeds.specs.Feeds.{told, with_login}
-use Rattle.server_core.specs.Fed.{Matches, joined, joined_all}
+use Rattle.server_core.specs.Fed.{joined_all}
 use Rattle.server_core.specs.Halves.{AreHalves}
-use Rattle.server_core.specs.LinkSteps.{at_link, has_that, with_session}
+use Rattle.server_core.specs.LinkSteps.{has_that, with_session}
 use Rattle.server_core.proofs.FedLemmas.{told_matches, told_same, told_uncounted}
 use Rattle.server_core.proofs.ServedLemmas.{match_at, state_at}
 use Rattle.server_core.proofs.ServedSteps.{changed_are, changed_links, changed_nobody, login_matches, within_feeds, within_halves}

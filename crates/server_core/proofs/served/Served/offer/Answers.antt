@@ -1,4 +1,4 @@
-use Rattle.std.proofs.Common.{[], ap, arith, length, min, sym, take, ◌∙◌, ◌≡◌}
+use Rattle.std.proofs.Common.{ap, arith, length, min, sym, take, ◌∙◌, ◌≡◌}
 use Rattle.std.proofs.Math.Seq.{take-nil}
 use Rattle.std.specs.List.{position}
 use Rattle.server_core.specs.LinkSteps.{has_that, pending_at}

@@ -1,9 +1,8 @@
-use Rattle.std.proofs.Common.{◌≤◌, ◌≡◌, ap, length, nat_lt, refl, slice_set, subst, sym, ◌∙◌, List, ℕ, [], Some}
+use Rattle.std.proofs.Common.{◌≤◌, ap, length, nat_lt, refl, slice_set, subst, sym, ◌∙◌}
 use Rattle.std.specs.List.{position}
-use Rattle.std.proofs.lemmas.Option.{get_or_from_slice_get}
 use Rattle.aprs_history.specs.Stands.{LinkSeen}
 use Rattle.link_feeds.specs.Feeds.{with_taken}
-use Rattle.server_core.specs.Fed.{joined, joined_all}
+use Rattle.server_core.specs.Fed.{joined_all}
 use Rattle.server_core.specs.Halves.{AreHalves}
 use Rattle.server_core.specs.LinkSteps.{has_that, pending_of}
 use Rattle.server_core.specs.LinkSteps as link

@@ -1,4 +1,4 @@
-use Rattle.std.proofs.Common.{◌≡◌, ◌++◌, ap, map, refl, sym, ◌∙◌, filter}
+use Rattle.std.proofs.Common.{◌++◌, ap, map, refl, sym, ◌∙◌, filter}
 use Rattle.std.proofs.lemmas.Result.{on_ok_weaker}
 use Rattle.server_core.specs.LinkSteps.{is_lost}
 use Rattle.server_core.specs.Telling.{lost_line}

@@ -1,4 +1,4 @@
-use Rattle.std.proofs.Common.{◌≡◌, ◌++◌, ap, map, refl, sym, ◌∙◌}
+use Rattle.std.proofs.Common.{◌++◌, ap, map, refl, sym, ◌∙◌}
 use Rattle.std.proofs.lemmas.Result.{on_ok_weaker}
 use Rattle.server_core.specs.Telling.{stop_line}
 use Rattle.server_core.proofs.ServedLemmas.{map_same}

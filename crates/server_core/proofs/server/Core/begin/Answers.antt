@@ -1,5 +1,5 @@
-use Rattle.std.proofs.Common.{◌≡◌, [], List, None, ap, filter, subst, sym, ◌∙◌, ℕ}
-use Rattle.aprs_history.specs.Stands.{LinkSeen, ReachSeen}
+use Rattle.std.proofs.Common.{◌≡◌, [], None, ap, filter, subst, sym, ◌∙◌}
+use Rattle.aprs_history.specs.Stands.{ReachSeen}
 use Rattle.server_core.specs.LinkSteps.{ended_all, forgotten_all, is_lost, is_none_of, is_there, numbers}
 use Rattle.server_core.specs.Steps.{Walks}
 use Rattle.server_core.proofs.CoreLemmas.{kept_left, walks_begun}

@@ -1,12 +1,6 @@
-use Rattle.std.proofs.Common.{◌^◌, subst, sym, arith}
-use Rattle.std.proofs.Common.{◌≡◌, ◌∙◌, ℕ, List, ap, if◌then◌else◌}
-use Rattle.aprs_history.specs.Stands.{LinkSeen, ReachSeen}
-use Rattle.uplinks_peers.specs.declared.uplinks.UpEvent.TheVariants as up
-use Rattle.uplinks_peers.specs.Uplinks.{uplinks_after}
-use Rattle.server_core.specs.LinkSteps.{has_number}
+use Rattle.std.proofs.Common.{subst, sym}
 use Rattle.server_core.specs.Steps.{Walks}
 use Rattle.std.proofs.lemmas.Result.{on_ok_weaker}
-use Rattle.server_core.proofs.LinkLemmas.{rises_to}
 use Rattle.aprs_history.specs.Links.{brought_by}
 use Rattle.server_core.proofs.CoreLemmas.{walks_brought, held_now, held_never, walks_unbrought}
 use Rattle.server_core.proofs.server.Core.bring.Goals as goal

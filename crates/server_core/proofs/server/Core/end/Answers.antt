@@ -1,11 +1,6 @@
-use Rattle.server_core.proofs.LinkLemmas.{rises_to}
-use Rattle.std.proofs.Common.{◌^◌, arith}
 use Rattle.std.proofs.Common.{filter, subst, sym}
-use Rattle.std.proofs.Common.{◌≡◌, ◌∙◌, ℕ, List, ap, if◌then◌else◌}
-use Rattle.aprs_history.specs.Stands.{LinkSeen, ReachSeen}
-use Rattle.uplinks_peers.specs.declared.uplinks.UpEvent.TheVariants as up
-use Rattle.uplinks_peers.specs.Uplinks.{uplinks_after}
-use Rattle.server_core.specs.LinkSteps.{has_number, is_another}
+use Rattle.std.proofs.Common.{◌≡◌, ◌∙◌}
+use Rattle.server_core.specs.LinkSteps.{is_another}
 use Rattle.server_core.specs.Steps.{Walks}
 use Rattle.server_core.proofs.CoreLemmas.{kept_left, walks_ended, walks_no_end}
 use Rattle.server_core.proofs.LeftLemmas.{one_left}

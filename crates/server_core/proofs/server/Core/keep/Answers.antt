@@ -1,11 +1,9 @@
-use Rattle.std.proofs.Common.{◌≡◌, ◌∙◌, ◌^◌, ap, arith, false, subst, sym}
+use Rattle.std.proofs.Common.{◌≡◌, ◌∙◌, ap, false, subst, sym}
 use Rattle.aprs_base.specs.PacketSeen.{PacketSeen}
 use Rattle.dupe_window.specs.Keys.{key_of}
 use Rattle.dupe_window.specs.Windows.{has_copy, kept_at, with_key}
 use Rattle.server_core.specs.Kept.{IsCurrent}
-use Rattle.server_core.specs.LinkSteps.{Rises}
 use Rattle.server_core.specs.Meaning.{CoreMeaning}
-use Rattle.server_core.proofs.LinkLemmas.{rises_to}
 use Rattle.server_core.proofs.WindowLemmas.{current_with, not_kept}
 use Rattle.server_core.proofs.server.Core.keep.Goals as goal
 

@@ -1,7 +1,6 @@
-use Rattle.std.proofs.Common.{◌^◌, subst, sym, arith, refl}
+use Rattle.std.proofs.Common.{subst, sym, refl}
 use Rattle.server_core.specs.LinkSteps.{with_room}
 use Rattle.server_core.specs.Steps.{Walks}
-use Rattle.server_core.proofs.LinkLemmas.{rises_to}
 use Rattle.server_core.proofs.CoreLemmas.{kept_at, walks_roomed, walks_no_room}
 use Rattle.server_core.proofs.server.Core.room.Goals as goal
 

@@ -1,8 +1,7 @@
 use Rattle.std.proofs.Common.{◌<◌, ap, arith, refl, subst, sym}
-use Rattle.aprs_history.specs.Stands.{LinkSeen}
 use Rattle.server_core.specs.LinkSteps.{new_link_seen}
 use Rattle.server_core.specs.Meaning.{CoreMeaning}
-use Rattle.server_core.proofs.CoreLemmas.{kept_links, kept_pushed}
+use Rattle.server_core.proofs.CoreLemmas.{kept_pushed}
 use Rattle.server_core.proofs.server.Core.serve.Goals as goal
 
 pub open-requires : goal.open-requires

@@ -1,7 +1,7 @@
-use Rattle.std.proofs.Common.{◌^◌, ◌≤◌, length, subst, sym, ap, ◌∙◌, arith, refl}
+use Rattle.std.proofs.Common.{◌≤◌, length, subst, sym, ap, ◌∙◌, refl}
 use Rattle.server_core.specs.LinkSteps.{numbers, at_link, with_taken, pending_at}
 use Rattle.server_core.specs.Meaning.{CoreMeaning, Stands}
-use Rattle.server_core.proofs.LinkLemmas.{rises_to, numbers_kept, at_keeps}
+use Rattle.server_core.proofs.LinkLemmas.{numbers_kept, at_keeps}
 use Rattle.server_core.proofs.CoreLemmas.{kept_at}
 use Rattle.server_core.proofs.SendLemmas.{stands_took}
 use Rattle.server_core.proofs.server.Core.took.Goals as goal
