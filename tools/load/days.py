@@ -1,11 +1,13 @@
 #!/usr/bin/env python3
 """Sends packets of 50 stations to a server, and prints what it costs and keeps by the way.
 
-    days.py PROGRAM PACKETS [SPEED]     PROGRAM -c FILE is the server
+    days.py PROGRAM PACKETS [SPEED [unpaced]]     PROGRAM -c FILE is the server
 
 Without SPEED they are sent as fast as they go. With it the server's clock runs so many times as fast (by libfaketime), and the
-packets are spread over three of its days. Each line of what is printed: packets sent, processor seconds, kilobytes of memory, packets
-that the other client has got. That client says nothing, so it ends as a silent one after two of the days.
+packets are spread over three of its days, or with `unpaced` sent as fast as they go too, so that many of them are past by the way.
+Each line of what is printed: packets sent, processor seconds, kilobytes of memory, packets that the other client has got. That client
+says nothing, so it ends as a silent one after two of the days. Where it got them all, the last line has the processor seconds of a
+tenth of the packets after the first 10,000, of a tenth before the last 10,000, and how many times the first the last are.
 """
 
 import os
@@ -16,7 +18,7 @@ import tempfile
 import time
 
 LIBRARY = "/usr/lib/x86_64-linux-gnu/faketime/libfaketime.so.1"
-PORT, STATIONS, DAYS = 15010, 50, 3
+PORT, STATIONS, DAYS, MARGIN = 15010, 50, 3, 10_000
 
 CONFIGURATION = f"""ServerId T2TEST
 PassCode 8385
@@ -45,12 +47,11 @@ def log_in(call, code):
 
 
 def cost(server):
-    """Processor seconds and kilobytes of a process."""
-    with open(f"/proc/{server.pid}/stat", encoding="ascii") as file:
-        fields = file.read().rsplit(")", 1)[1].split()
+    """Processor seconds and kilobytes of a process. Its clock has the number that clock_getcpuclockid gives."""
+    seconds = time.clock_gettime(~server.pid << 3 | 2)
     with open(f"/proc/{server.pid}/status", encoding="ascii") as file:
         memory = next(line.split()[1] for line in file if line.startswith("VmRSS"))
-    return (int(fields[11]) + int(fields[12])) / os.sysconf("SC_CLK_TCK"), memory
+    return round(seconds, 3), memory
 
 
 def packets(first):
@@ -72,19 +73,46 @@ def lines_in(client):
         count += piece.count(b"\n")
 
 
+class Marks:
+    """Processor seconds at the numbers of packets between which the first tenth and the last lie."""
+
+    def __init__(self, count):
+        first, last = MARGIN, count - MARGIN
+        self.left = [first, first + count // 10, last - count // 10, last]
+        self.seconds = []
+
+    def pass_by(self, got, server):
+        while self.left and got >= self.left[0]:
+            self.left.pop(0)
+            self.seconds.append(cost(server)[0])
+
+    def print_ratio(self):
+        if not self.left:
+            first, last = self.seconds[1] - self.seconds[0], self.seconds[3] - self.seconds[2]
+            print(f"first tenth {first:.3f} s, last tenth {last:.3f} s, ratio {last / first:.2f}")
+
+
 def main():
     program, count, speed = sys.argv[1], int(sys.argv[2]), int(sys.argv[3]) if len(sys.argv) > 3 else 0
+    paced = speed and sys.argv[4:] != ["unpaced"]
     with tempfile.TemporaryDirectory() as folder:
         server = start(program, folder, speed)
         try:
-            sender, reader, got = log_in("N0CALL", 13023), log_in("K1ABC", 14993), 0
-            began, seconds = time.monotonic(), DAYS * 86_400 / speed if speed else 0
+            sender, reader, got, marks = log_in("N0CALL", 13023), log_in("K1ABC", 14993), 0, Marks(count)
+            began, seconds = time.monotonic(), DAYS * 86_400 / speed if paced else 0
             for sent in range(0, count, STATIONS):
                 sender.sendall(packets(sent))
                 got += lines_in(reader)
+                marks.pass_by(got, server)
                 time.sleep(max(0.0, began + seconds * sent / count - time.monotonic()))
-                if sent in (10_000, count - STATIONS) or sent % (count // 20) == 0:
+                if sent in (MARGIN, count - STATIONS) or sent % (count // 20) == 0:
                     print(sent, *cost(server), got, flush=True)
+            ended = time.monotonic()
+            while marks.left and time.monotonic() < ended + 5:
+                time.sleep(0.01)
+                got += lines_in(reader)
+                marks.pass_by(got, server)
+            marks.print_ratio()
         finally:
             server.terminate()
 

@@ -1,7 +1,8 @@
 #!/usr/bin/env python3
-"""What reading, routing and writing one packet line costs, beside a plain reader: tools/reading/run.py
+"""What reading a packet line costs, and what is done with it then, beside a plain reader: tools/reading/run.py [RUNS]
 
-The program reading_costs.rattle is no crate of the repository. It is proved and built in a copy, with the crates below it.
+The program reading_costs.rattle is no crate of the repository. It is proved and built in a copy, with the crates below it;
+what checks have left in their out/ is copied too, so that it needn't be proved again.
 """
 import os
 import resource
@@ -9,43 +10,65 @@ import shutil
 import subprocess
 import sys
 import tempfile
+import time
 
 HERE = os.path.dirname(os.path.realpath(__file__))
 TOP = os.path.dirname(os.path.dirname(HERE))
-RUNS = 5
+DEPS = "aprs_base tnc2_line aprs_body q_construct parsed_lines"
+BELOW = f"{DEPS} aprs_position mic_e"
+
+# What a row is called, its program and its word.
+ROWS = [
+    ("plain reader", "plain", []),
+    ("plain reader with the class", "plain", ["classify"]),
+    ("read_into", "costs", ["read"]),
+    ("read_into and classify", "costs", ["classify"]),
+    ("read_into and process_into", "costs", ["route"]),
+    ("read_into, process_into and write", "costs", ["write"]),
+    ("parse_all, 400 lines at a time", "costs", ["round"]),
+    ("parse_all, 20,000 lines by 400", "costs", ["rounds"]),
+    ("parse_all, 20,000 lines at a time", "costs", ["many"]),
+]
 
 
-def seconds(words):
-    """The processor time of the quickest of some runs, in seconds. A million lines are read, so it is microseconds a line."""
-    best = None
-    for _ in range(RUNS):
-        before = resource.getrusage(resource.RUSAGE_CHILDREN).ru_utime
-        subprocess.run(words, check=True, stdout=subprocess.DEVNULL)
-        spent = resource.getrusage(resource.RUSAGE_CHILDREN).ru_utime - before
-        best = spent if best is None else min(best, spent)
-    return best
+def run(words):
+    """The processor time and the time of one run, in seconds. A million lines are read, so they are microseconds a line."""
+    before, start = resource.getrusage(resource.RUSAGE_CHILDREN), time.monotonic()
+    subprocess.run(words, check=True, stdout=subprocess.DEVNULL)
+    after, end = resource.getrusage(resource.RUSAGE_CHILDREN), time.monotonic()
+    return after.ru_utime + after.ru_stime - before.ru_utime - before.ru_stime, end - start
+
+
+def built(folder):
+    """The two programs, by name."""
+    plain = f"{folder}/plain"
+    subprocess.run(["rustc", "-O", "--edition", "2021", "-o", plain, f"{HERE}/plain.rs"], check=True)
+    copy = f"{folder}/copy"
+    subprocess.run(["git", "clone", "--quiet", TOP, copy], check=True)
+    for name in BELOW.split():
+        if os.path.isdir(f"{TOP}/crates/{name}/out"):
+            shutil.copytree(f"{TOP}/crates/{name}/out", f"{copy}/crates/{name}/out")
+    crate = f"{copy}/crates/reading_costs"
+    os.makedirs(f"{crate}/src")
+    shutil.copy(f"{HERE}/reading_costs.rattle", f"{crate}/src/main.rt")
+    with open(f"{copy}/crates.txt", "a") as crates:
+        crates.write(f"reading_costs: {DEPS}\n")
+    made = subprocess.run(["rt", "run", "--jobs", "1"], cwd=crate, capture_output=True, text=True)
+    if made.returncode != 0:
+        sys.exit(made.stdout + made.stderr)
+    return {"plain": plain, "costs": f"{crate}/out/reading_costs"}
 
 
 def main():
+    runs = int(sys.argv[1]) if len(sys.argv) > 1 else 5
     with tempfile.TemporaryDirectory() as folder:
-        plain = f"{folder}/plain"
-        subprocess.run(["rustc", "-O", "--edition", "2021", "-o", plain, f"{HERE}/plain.rs"], check=True)
-        copy = f"{folder}/copy"
-        subprocess.run(["git", "clone", "--quiet", TOP, copy], check=True)
-        crate = f"{copy}/crates/reading_costs"
-        os.makedirs(f"{crate}/src")
-        shutil.copy(f"{HERE}/reading_costs.rattle", f"{crate}/src/main.rt")
-        with open(f"{copy}/crates.txt", "a") as crates:
-            crates.write("reading_costs: aprs_base tnc2_line q_construct\n")
-        built = subprocess.run(["rt", "run"], cwd=crate, capture_output=True, text=True)
-        if built.returncode != 0:
-            sys.exit(built.stdout + built.stderr)
-        program = f"{crate}/out/reading_costs"
-        print("microseconds of processor a line, the best of", RUNS)
-        print(f"plain reader                {seconds([plain]):.2f}")
-        print(f"read                        {seconds([program]):.2f}")
-        print(f"read and process            {seconds([program, 'x']):.2f}")
-        print(f"read, process and write     {seconds([program, 'x', 'x']):.2f}")
+        programs = built(folder)
+        # The rows in turn, so that what else the machine does meets them all alike.
+        found = [[run([programs[program], *words]) for _, program, words in ROWS] for _ in range(runs)]
+        print(f"microseconds a line, the best of {runs}     processor     time")
+        for place, (name, _, _) in enumerate(ROWS):
+            cpu, wall = (min(turn[place][which] for turn in found) for which in (0, 1))
+            print(f"{name:36}     {cpu:9.2f}{wall:9.2f}")
 
 
 main()

@@ -1,7 +1,7 @@
 //! The server's program: the top call over the files, the output, the sockets and the journals of the system.
 #![tactic(auto)]
 
-use aprs_base::Slot;
+use aprs_base::{OpenGate, Slot};
 use aprsc_daemon::{ErrorJournal, FileJournal, RealFiles, RealSink, aprsc};
 use mio_wire::MioWire;
 use std::alloc::AllocError;
@@ -51,6 +51,7 @@ where
         &mut out,
         hasher,
         &mut journals,
+        &OpenGate,
     ))
 }
 

@@ -9,7 +9,7 @@ use crate::configuring::read_conf;
 use crate::serving::{End, open, serve};
 use crate::words::DrillWords;
 use aprs_base::{
-    Addr, Event, ListenSpec, MemWire, Memory, Sent, Totals, UplinkSpec, Wire, WireError,
+    Addr, Event, ListenSpec, MemWire, Memory, OpenGate, Sent, Totals, UplinkSpec, Wire, WireError,
 };
 use aprs_conf::Conf;
 use drill_plan::{Events, Plan, copy_events};
@@ -146,7 +146,14 @@ pub(crate) fn drill<R: Threads + Sync + Wait>(
     let Ok(mut core) = open(alloc, conf, asked.workers, &mut wire, hasher) else {
         return Err(Memory);
     };
-    match serve(rt, alloc, &mut core, &mut wire, &mut Vec::new(alloc)) {
+    match serve(
+        rt,
+        alloc,
+        &mut core,
+        &mut wire,
+        &mut Vec::new(alloc),
+        &OpenGate,
+    ) {
         End::Stopped => {}
         End::Failed | End::Memory => return Err(Memory),
     }

@@ -21,7 +21,7 @@ use crate::drill::drill;
 use crate::saying::{listen_failed, summary, too_large, trouble, unread, usage, valid, write_all};
 use crate::serving::{End, ListenError, open, serve};
 use crate::words::{DrillWords, ServerWords, Task, Words, WordsError, read_words};
-use aprs_base::{FileError, Files, Memory, Sink, SinkError, Slot, Wire};
+use aprs_base::{FileError, Files, Gate, Memory, Sink, SinkError, Slot, Wire};
 use aprs_conf::Conf;
 use std::alloc::Global;
 use std::hash::RandomState;
@@ -96,7 +96,7 @@ fn say_made<S: Sink>(out: &mut S, text: Result<Vec<u8>, Memory>, wanted: Status)
 }
 
 /// Runs a configuration.
-fn run_conf<R: Threads + Sync + Wait, W: Wire, S: Sink>(
+fn run_conf<R: Threads + Sync + Wait, W: Wire, S: Sink, G: Gate + Sync>(
     rt: &R,
     alloc: Global,
     conf: Conf,
@@ -105,6 +105,7 @@ fn run_conf<R: Threads + Sync + Wait, W: Wire, S: Sink>(
     out: &mut S,
     hasher: &RandomState,
     journals: &mut Vec<Slot>,
+    gate: &G,
 ) -> Status
     requires sound { IsSound conf }
     requires some { 1 ≤ workers }
@@ -117,14 +118,14 @@ fn run_conf<R: Threads + Sync + Wait, W: Wire, S: Sink>(
         (W.shown wire.old) (W.shown wire.new) (S.shown out.old) (S.shown out.new)) }
 {
     match open(alloc, conf, workers, wire, hasher) {
-        Ok(mut core) => ended(serve(rt, alloc, &mut core, wire, journals)),
+        Ok(mut core) => ended(serve(rt, alloc, &mut core, wire, journals, gate)),
         Err(ListenError::Failed(n)) => say_made(out, listen_failed(alloc, n), Status::NoListener),
         Err(ListenError::Memory) => Status::NoMemory,
     }
 }
 
 /// Runs or checks the configuration that a text is.
-fn run_text<R: Threads + Sync + Wait, W: Wire, S: Sink>(
+fn run_text<R: Threads + Sync + Wait, W: Wire, S: Sink, G: Gate + Sync>(
     rt: &R,
     alloc: Global,
     asked: &ServerWords<'_>,
@@ -133,6 +134,7 @@ fn run_text<R: Threads + Sync + Wait, W: Wire, S: Sink>(
     out: &mut S,
     hasher: &RandomState,
     journals: &mut Vec<Slot>,
+    gate: &G,
 ) -> Status
     requires short { length text.now ≤ 65536 }
     requires some { 1 ≤ asked.now.workers }
@@ -149,7 +151,17 @@ fn run_text<R: Threads + Sync + Wait, W: Wire, S: Sink>(
 {
     match read_conf(alloc, text) {
         Ok(conf) => match asked.task {
-            Task::Serve => run_conf(rt, alloc, conf, asked.workers, wire, out, hasher, journals),
+            Task::Serve => run_conf(
+                rt,
+                alloc,
+                conf,
+                asked.workers,
+                wire,
+                out,
+                hasher,
+                journals,
+                gate,
+            ),
             Task::Check => say_made(out, valid(alloc, asked.file), Status::Checked),
         },
         Err(Unfit::Trouble(why)) => say_made(out, trouble(alloc, asked.file, why), Status::BadFile),
@@ -158,7 +170,7 @@ fn run_text<R: Threads + Sync + Wait, W: Wire, S: Sink>(
 }
 
 /// Runs or checks the configuration that a file holds.
-fn run_file<R: Threads + Sync + Wait, F: Files, W: Wire, S: Sink>(
+fn run_file<R: Threads + Sync + Wait, F: Files, W: Wire, S: Sink, G: Gate + Sync>(
     rt: &R,
     alloc: Global,
     asked: &ServerWords<'_>,
@@ -167,6 +179,7 @@ fn run_file<R: Threads + Sync + Wait, F: Files, W: Wire, S: Sink>(
     out: &mut S,
     hasher: &RandomState,
     journals: &mut Vec<Slot>,
+    gate: &G,
 ) -> Status
     requires some { 1 ≤ asked.now.workers }
     requires most { asked.now.workers ≤ 64 }
@@ -192,6 +205,7 @@ fn run_file<R: Threads + Sync + Wait, F: Files, W: Wire, S: Sink>(
             out,
             hasher,
             journals,
+            gate,
         ),
         Err(FileError::Big) => say_made(out, too_large(alloc, asked.file), Status::BadFile),
         Err(FileError::Failed) => say_made(out, unread(alloc, asked.file), Status::UnreadFile),
@@ -218,7 +232,7 @@ fn run_drill<R: Threads + Sync + Wait, S: Sink>(
     }
 }
 
-fn run<R: Threads + Sync + Wait, F: Files, W: Wire, S: Sink>(
+fn run<R: Threads + Sync + Wait, F: Files, W: Wire, S: Sink, G: Gate + Sync>(
     rt: &R,
     alloc: Global,
     words: &[String],
@@ -227,6 +241,7 @@ fn run<R: Threads + Sync + Wait, F: Files, W: Wire, S: Sink>(
     out: &mut S,
     hasher: &RandomState,
     journals: &mut Vec<Slot>,
+    gate: &G,
 ) -> Status
     ensures journals { (conf : ConfSeen) (told_files : List MemFile) → (F.shown files.old).told ≡ Some told_files
         → HasNamed Task.Serve (map string_bytes words.now) (F.shown files.old).told conf
@@ -242,7 +257,9 @@ fn run<R: Threads + Sync + Wait, F: Files, W: Wire, S: Sink>(
         (W.shown wire.old) (W.shown wire.new) (S.shown out.old) (S.shown out.new)) }
 {
     match read_words(alloc, words) {
-        Ok(Words::Server(asked)) => run_file(rt, alloc, &asked, files, wire, out, hasher, journals),
+        Ok(Words::Server(asked)) => run_file(
+            rt, alloc, &asked, files, wire, out, hasher, journals, gate,
+        ),
         Ok(Words::Drill(asked)) => run_drill(rt, alloc, asked, out, hasher),
         Err(WordsError::Refused) => say(out, usage(), Status::BadWords),
         Err(WordsError::Memory) => Status::NoMemory,
@@ -250,7 +267,7 @@ fn run<R: Threads + Sync + Wait, F: Files, W: Wire, S: Sink>(
 }
 
 /// Runs the server: the words are `-c FILE` and perhaps `-w N`, and the file holds the configuration. N is the most workers,
-/// 1 to 64, and 1 where it isn't given. What happens on the wire is a run for this configuration, and the bytes that each link
+/// 1 to 64, and 1 where it isn't given; each part of the links that they match goes through the gate. What happens on the wire is a run for this configuration, and the bytes that each link
 /// takes are a prefix of its defined text. With `-y` beside them the configuration is read and nothing else. `hasher` is the
 /// key of the tables in memory, on which no text depends.
 ///
@@ -261,7 +278,7 @@ fn run<R: Threads + Sync + Wait, F: Files, W: Wire, S: Sink>(
 /// call for another mode by `net`, or whose drill has more than 4,000,000 lines times links; 2 for a bad configuration; 3
 /// where its file can't be read; 4 where a listener failed; 5 where the wire failed; 6 for want of memory; and 7 where the
 /// sink failed in the writing of a text for 0 to 4. A file of more than 65,536 bytes is a bad configuration.
-pub fn aprsc<R: Threads + Sync + Wait, F: Files, W: Wire, S: Sink>(
+pub fn aprsc<R: Threads + Sync + Wait, F: Files, W: Wire, S: Sink, G: Gate + Sync>(
     rt: &R,
     alloc: Global,
     words: &[String],
@@ -270,6 +287,7 @@ pub fn aprsc<R: Threads + Sync + Wait, F: Files, W: Wire, S: Sink>(
     out: &mut S,
     hasher: &RandomState,
     journals: &mut Vec<Slot>,
+    gate: &G,
 ) -> u8
     // Where the words ask for a run and the files tell what they hold, the happenings that the call appended are a run for
     // the named configuration.
@@ -314,5 +332,5 @@ pub fn aprsc<R: Threads + Sync + Wait, F: Files, W: Wire, S: Sink>(
         → result ≡ 7
         → AppendsRun (setting_of conf) (W.shown wire.old).told (W.shown wire.new).told (Opening (setting_of conf)) }
 {
-    run(rt, alloc, words, files, wire, out, hasher, journals).code()
+    run(rt, alloc, words, files, wire, out, hasher, journals, gate).code()
 }

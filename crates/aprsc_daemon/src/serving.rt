@@ -24,7 +24,7 @@ ghost use Rattle.server_core.specs.Steps.{SameRest};
 
 use crate::configuring::listeners;
 use crate::journals::tell_all;
-use aprs_base::{Event, Line, ListenSpec, Memory, Sent, Slot, UplinkSpec, Wire, WireError};
+use aprs_base::{Event, Gate, Line, ListenSpec, Memory, Sent, Slot, UplinkSpec, Wire, WireError};
 use aprs_conf::{Conf, PeerSpec};
 use arrayvec::ArrayVec;
 use server_core::{Acts, CastOut, Core};
@@ -315,12 +315,13 @@ fn reach_out<W: Wire>(wire: &mut W, conf: &Conf, acts: &Acts) -> Result<(), Memo
 }
 
 /// The core takes one whole round of events, and the journals are told its lines.
-fn tell_round<R: Threads + Sync>(
+fn tell_round<R: Threads + Sync, G: Gate + Sync>(
     rt: &R,
     alloc: Global,
     core: &mut Core,
     events: &[Event],
     journals: &mut Vec<Slot>,
+    gate: &G,
 ) -> Result<Acts, Memory>
     requires whole { is_whole 0 events.now ≡ true }
     requires fresh { AreFresh core.old.seen.greatest events.now }
@@ -337,14 +338,14 @@ fn tell_round<R: Threads + Sync>(
         → IfOk result (λ acts. AreActs (setting_of core.new.conf) (with_events events.now h) acts) }
 {
     let mut lines = Vec::new(alloc);
-    let acts = core.round(rt, alloc, events, &mut lines)?;
+    let acts = core.round(rt, alloc, events, &mut lines, gate)?;
     tell_all(journals, lines.as_slice());
     Ok(acts)
 }
 
 /// Does what is due after a round, and says whether the server stopped with it. The journals are told the round's lines
 /// before anything else is done.
-fn act<R: Threads + Sync, W: Wire>(
+fn act<R: Threads + Sync, W: Wire, G: Gate + Sync>(
     rt: &R,
     alloc: Global,
     core: &mut Core,
@@ -352,6 +353,7 @@ fn act<R: Threads + Sync, W: Wire>(
     events: &[Event],
     journals: &mut Vec<Slot>,
     buffer: &mut [u8],
+    gate: &G,
 ) -> Result<bool, Memory>
     requires whole { is_whole 0 events.now ≡ true }
     requires fresh { AreFresh core.old.seen.greatest events.now }
@@ -369,7 +371,7 @@ fn act<R: Threads + Sync, W: Wire>(
     ensures stops { (W.shown wire.new).stops ≡ (W.shown wire.old).stops }
     ensures links { (W.shown wire.new).links ≡ (W.shown wire.old).links }
 {
-    let acts = tell_round(rt, alloc, core, events, journals)?;
+    let acts = tell_round(rt, alloc, core, events, journals, gate)?;
     reach_out(wire, core.conf(), &acts)?;
     send_all(core, wire, acts.offers.as_slice(), buffer)?;
     close_all(wire, acts.closes.as_slice())?;
@@ -378,7 +380,7 @@ fn act<R: Threads + Sync, W: Wire>(
 
 /// Serves one round, and says whether the server stopped with it. The events are those of a whole round; where the wire
 /// tells what happened, it brought them and no other in this call. The journals are told the round's lines, or none.
-fn serve_round<R: Threads + Sync, W: Wire>(
+fn serve_round<R: Threads + Sync, W: Wire, G: Gate + Sync>(
     rt: &R,
     alloc: Global,
     core: &mut Core,
@@ -386,6 +388,7 @@ fn serve_round<R: Threads + Sync, W: Wire>(
     events: &mut Vec<Event>,
     journals: &mut Vec<Slot>,
     buffer: &mut [u8],
+    gate: &G,
 ) -> Result<bool, WireError>
     requires going { core.old.seen.stopped ≡ false }
     requires numbered { core.old.seen.greatest ≤ (W.shown wire.old).links }
@@ -406,7 +409,16 @@ fn serve_round<R: Threads + Sync, W: Wire>(
 {
     events.clear();
     gather(wire, events)?;
-    match act(rt, alloc, core, wire, events.as_slice(), journals, buffer) {
+    match act(
+        rt,
+        alloc,
+        core,
+        wire,
+        events.as_slice(),
+        journals,
+        buffer,
+        gate,
+    ) {
         Ok(done) => Ok(done),
         Err(Memory) => Err(WireError::Memory),
     }
@@ -423,12 +435,13 @@ pub(crate) enum End {
 }
 
 /// Serves a wire, round after round, until a stop or a fault. The journals are told the lines of the rounds.
-pub(crate) fn serve<R: Threads + Sync + Wait, W: Wire>(
+pub(crate) fn serve<R: Threads + Sync + Wait, W: Wire, G: Gate + Sync>(
     rt: &R,
     alloc: Global,
     core: &mut Core,
     wire: &mut W,
     journals: &mut Vec<Slot>,
+    gate: &G,
 ) -> End
     requires going { core.old.seen.stopped ≡ false }
     requires numbered { core.old.seen.greatest ≤ (W.shown wire.old).links }
@@ -445,7 +458,16 @@ pub(crate) fn serve<R: Threads + Sync + Wait, W: Wire>(
     let mut events = Vec::new(alloc);
     let mut buffer = [0u8; MOST_OFFERED];
     for _ in rt.forever() {
-        match serve_round(rt, alloc, core, wire, &mut events, journals, &mut buffer) {
+        match serve_round(
+            rt,
+            alloc,
+            core,
+            wire,
+            &mut events,
+            journals,
+            &mut buffer,
+            gate,
+        ) {
             Ok(false) => {}
             Ok(true) => return End::Stopped,
             Err(WireError::Failed) => return End::Failed,

@@ -33,22 +33,46 @@ fn counts_two_lines(rt: HostRuntime) -> Result<(), Fail> {
     Ok(())
 }
 
+/// Whether each of these drills leaves the line that the first leaves.
+fn leave_one_line<R: Threads + Sync + Wait + RandomSource>(
+    rt: &R,
+    alloc: Global,
+    first: &'static [&'static str],
+    others: &[&'static [&'static str]],
+) -> Result<bool, Fail> {
+    let first = drilled(rt, alloc, first, Vec::new(alloc))?;
+    let mut same = first.status == 0 && !first.text.is_empty();
+    for words in others {
+        let left = drilled(rt, alloc, words, Vec::new(alloc))?;
+        same = same && left.status == 0 && left.text.as_slice() == first.text.as_slice();
+    }
+    Ok(same)
+}
+
 #[test]
 fn counts_the_same_by_any_workers(rt: HostRuntime) -> Result<(), Fail> {
-    let alloc = rt.alloc();
-    let cases: [&'static [&'static str]; 3] = [
-        &["drill", "7", "200", "20", "-w", "1"],
-        &["drill", "7", "200", "20", "-w", "8"],
-        &["drill", "-w", "64", "7", "200", "20"],
+    let others: [&'static [&'static str]; 5] = [
+        &["drill", "7", "2000", "100", "-w", "1"],
+        &["drill", "7", "2000", "100", "-w", "2"],
+        &["drill", "7", "2000", "100", "-w", "4"],
+        &["drill", "7", "2000", "100", "-w", "8"],
+        &["drill", "-w", "64", "7", "2000", "100"],
     ];
-    let first = drilled(&rt, alloc, &["drill", "7", "200", "20"], Vec::new(alloc))?;
-    assert!(rt; first.status == 0);
-    assert!(rt; !first.text.is_empty());
-    for words in cases {
-        let left = drilled(&rt, alloc, words, Vec::new(alloc))?;
-        assert!(rt; left.status == 0);
-        assert!(rt; left.text.as_slice() == first.text.as_slice());
-    }
+    assert!(rt; leave_one_line(&rt, rt.alloc(), &["drill", "7", "2000", "100"], &others)?);
+    Ok(())
+}
+
+#[test]
+fn counts_many_lines_the_same_by_one_and_by_eight_workers(rt: HostRuntime) -> Result<(), Fail> {
+    let others: [&'static [&'static str]; 1] = [&["drill", "7", "20000", "200", "-w", "8"]];
+    assert!(rt;
+        leave_one_line(
+            &rt,
+            rt.alloc(),
+            &["drill", "7", "20000", "200", "-w", "1"],
+            &others
+        )?
+    );
     Ok(())
 }
 

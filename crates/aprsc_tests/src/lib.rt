@@ -8,6 +8,8 @@ mod crowd_tests;
 #[cfg(test)]
 mod drill_runs;
 #[cfg(test)]
+mod gate_runs;
+#[cfg(test)]
 mod journal_runs;
 #[cfg(test)]
 mod journal_tests;

@@ -1,7 +1,7 @@
 //! A run of the program over files, a wire and a sink in memory, and what it left.
 use aprs_base::{
-    Addr, Came, Chunk, Event, Happening, ListenSpec, MemFile, MemFiles, MemSink, MemWire, Sent,
-    Slot, Take, Text, UplinkSpec,
+    Addr, Came, Chunk, Event, Gate, Happening, ListenSpec, MemFile, MemFiles, MemSink, MemWire,
+    OpenGate, Sent, Slot, Take, Text, UplinkSpec,
 };
 use aprsc_daemon::aprsc;
 use std::alloc::Global;
@@ -110,7 +110,19 @@ pub(crate) fn run_over<R: Threads + Sync + Wait + RandomSource>(
     alloc: Global,
     conf: &[u8],
     events: Vec<Event>,
+    outside: Outside,
+) -> Result<Left, Fail> {
+    run_through(rt, alloc, conf, events, outside, &OpenGate)
+}
+
+/// The same, where parts that are matched go through this gate.
+pub(crate) fn run_through<R: Threads + Sync + Wait + RandomSource, G: Gate + Sync>(
+    rt: &R,
+    alloc: Global,
+    conf: &[u8],
+    events: Vec<Event>,
     mut outside: Outside,
+    gate: &G,
 ) -> Result<Left, Fail> {
     let mut words = Vec::new(alloc);
     for word in outside.words {
@@ -140,6 +152,7 @@ pub(crate) fn run_over<R: Threads + Sync + Wait + RandomSource>(
         &mut sink,
         &RandomState::new(rt)?,
         &mut outside.journals,
+        gate,
     );
     Ok(Left {
         status,

@@ -1,6 +1,6 @@
 //! Servers on ports of loopback.
 
-use aprs_base::{MemFile, MemFiles, MemSink, Memory, Text};
+use aprs_base::{MemFile, MemFiles, MemSink, Memory, OpenGate, Text};
 use aprsc_daemon::aprsc;
 use mio_wire::MioWire;
 use std::alloc::{AllocError, Global};
@@ -57,6 +57,7 @@ where
         &mut sink,
         &hasher,
         &mut Vec::new(alloc),
+        &OpenGate,
     ))
 }
 

@@ -1,3 +1,4 @@
+pub mod PackedLemmas
 pub mod PartLemmas
 pub mod RecalledLemmas
 pub mod WindowLemmas

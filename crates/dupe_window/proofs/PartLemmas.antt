@@ -3,7 +3,7 @@ use Rattle.std.proofs.Common.{◌≡◌, ℕ, ◌-◌, ◌*◌, ◌≤◌, ◌<�
 use Rattle.std.specs.Cmp.{IsEquivalence, and_equiv, on_equiv}
 use Rattle.std.specs.List.{IsDistinct, list_all, list_any}
 use Rattle.std.specs.Map.{keys_of, lookup}
-use Rattle.std.specs.Option.{option_or}
+use Rattle.std.specs.Option.{option_map, option_or}
 use Rattle.std.proofs.lemmas.Bool.{ltb-true}
 use Rattle.std.proofs.lemmas.Bool.Decides.{nat_tests}
 use Rattle.std.proofs.lemmas.Cmp.{nat_list_eq_equiv}
@@ -14,14 +14,14 @@ use Rattle.std.proofs.lemmas.Map.{lookup-none}
 use Rattle.std.proofs.lemmas.Map.Entries.{lookup-filter-values, none_past_head, option_filter}
 use Rattle.std.proofs.lemmas.Map.Keys.{IsDistinct-push, IsDistinct-tail}
 use Rattle.std.proofs.lemmas.Map.Made.{is_some-lookup}
-use Rattle.std.proofs.lemmas.Option.{get_or_from_slice_get, slice_get_within}
+use Rattle.std.proofs.lemmas.Option.{get_or_from_slice_get, slice_get-get_or, slice_get_within}
 use Rattle.dupe_window.specs.Keys.{Key, is_same_key}
-use Rattle.dupe_window.specs.Windows.{IsOnce, IsRising, if_inside, is_inside, is_inside_pair, kept_pairs}
+use Rattle.dupe_window.specs.Windows.{IsInOrder, IsOnce, IsRising, if_inside, is_inside, is_inside_pair, kept_pairs, moment_in}
 use Rattle.dupe_window.proofs.WindowLemmas.{all_inside, filter_stronger, inside_after}
 
 -- ---- look-ups
 
-same_key_equiv : IsEquivalence is_same_key
+pub same_key_equiv : IsEquivalence is_same_key
 same_key_equiv = and_equiv (on_equiv (λ key. key.source) nat_list_eq_equiv) (and_equiv (on_equiv (λ key. key.dest) nat_list_eq_equiv) (on_equiv (λ key. key.body) nat_list_eq_equiv))
 
 lookup-append : (test : Key → Bool) (xs ys : List (Key × ℕ)) → lookup test (xs ++ ys) ≡ option_or (lookup test xs) (lookup test ys)
@@ -121,20 +121,28 @@ list_all-filter_weaker p q gives (x ∷ xs) = by (p x) refl (list_all-filter_wea
     by false is rest = rw is rest
 
 -- where moments rise, the first tells whether all are inside
-pub first_tells : (seconds now : ℕ) (pairs : List (Key × ℕ)) (pair : Key × ℕ) → IsRising pairs → slice_get pairs 0 ≡ Some pair → list_all (is_inside_pair seconds now) pairs ≡ is_inside seconds now pair.1
-first_tells seconds now [] pair rising is = absurd (cc)
-first_tells seconds now (first ∷ pairs) pair rising is = by (is_inside seconds now first.1) refl
+pub first_tells : (seconds now : ℕ) (pairs : List (Key × ℕ)) (moment : ℕ) → IsRising pairs → Some moment ≡ option_map moment_in (slice_get pairs 0)
+    → list_all (is_inside_pair seconds now) pairs ≡ is_inside seconds now moment
+first_tells seconds now [] moment rising is = absurd (cc)
+first_tells seconds now (first ∷ pairs) moment rising is = by (is_inside seconds now first.1) refl
   where
-    same : first ≡ pair
-    same = get_or_from_slice_get (first ∷ pairs) 0 pair first is
+    same : first.1 ≡ moment
+    same = cc
 
-    by : (b : Bool) → is_inside seconds now first.1 ≡ b → list_all (is_inside_pair seconds now) (first ∷ pairs) ≡ is_inside seconds now pair.1
-    by true inside = all_inside seconds now (first ∷ pairs) rising (rw inside refl) ∙ sym inside ∙ ap (λ p. is_inside seconds now p.1) same
-    by false past = rw past refl ∙ sym past ∙ ap (λ p. is_inside seconds now p.1) same
+    by : (b : Bool) → is_inside seconds now first.1 ≡ b → list_all (is_inside_pair seconds now) (first ∷ pairs) ≡ is_inside seconds now moment
+    by true inside = all_inside seconds now (first ∷ pairs) rising (rw inside refl) ∙ sym inside ∙ ap (is_inside seconds now) same
+    by false past = rw past refl ∙ sym past ∙ ap (is_inside seconds now) same
+
+no_first : (pairs : List (Key × ℕ)) → None ≡ option_map moment_in (slice_get pairs 0) → pairs ≡ []
+no_first [] is = refl
+no_first (first ∷ pairs) is = absurd (cc)
+
+pub none_tells_all : (seconds now : ℕ) (pairs : List (Key × ℕ)) → None ≡ option_map moment_in (slice_get pairs 0) → true ≡ list_all (is_inside_pair seconds now) pairs
+none_tells_all seconds now pairs is = ap (list_all (is_inside_pair seconds now)) (sym (no_first pairs is))
 
 -- and the last whether any is
-pub last_tells : (seconds now : ℕ) (pairs : List (Key × ℕ)) (pair : Key × ℕ) → IsRising pairs → slice_get pairs (length pairs - 1) ≡ Some pair → list_any (is_inside_pair seconds now) pairs ≡ is_inside seconds now pair.1
-last_tells seconds now pairs pair rising is = by (is_inside seconds now pair.1) refl
+last_pair_tells : (seconds now : ℕ) (pairs : List (Key × ℕ)) (pair : Key × ℕ) → IsRising pairs → slice_get pairs (length pairs - 1) ≡ Some pair → list_any (is_inside_pair seconds now) pairs ≡ is_inside seconds now pair.1
+last_pair_tells seconds now pairs pair rising is = by (is_inside seconds now pair.1) refl
   where
     within : length pairs - 1 < length pairs
     within = slice_get_within pairs (length pairs - 1) pair is
@@ -154,6 +162,27 @@ last_tells seconds now pairs pair rising is = by (is_inside seconds now pair.1) 
     by : (b : Bool) → is_inside seconds now pair.1 ≡ b → list_any (is_inside_pair seconds now) pairs ≡ is_inside seconds now pair.1
     by true inside = list_any-from_Any (is_inside_pair seconds now) pairs (length pairs - 1, pair, within, at pair, inside) ∙ sym inside
     by false out = list_any_none (is_inside_pair seconds now) pairs (past out) ∙ sym out
+
+pub last_tells : (seconds now : ℕ) (pairs : List (Key × ℕ)) (moment : ℕ) → IsRising pairs → Some moment ≡ option_map moment_in (slice_get pairs (length pairs - 1))
+    → list_any (is_inside_pair seconds now) pairs ≡ is_inside seconds now moment
+last_tells seconds now pairs moment rising is = by (slice_get pairs (length pairs - 1)) refl is
+  where
+    by : (o : Option (Key × ℕ)) → slice_get pairs (length pairs - 1) ≡ o → Some moment ≡ option_map moment_in o → list_any (is_inside_pair seconds now) pairs ≡ is_inside seconds now moment
+    by None at h = absurd (cc)
+    by (Some pair) at h = let same : pair.1 ≡ moment = cc in last_pair_tells seconds now pairs pair rising at ∙ ap (is_inside seconds now) same
+
+pub none_tells_any : (seconds now : ℕ) (pairs : List (Key × ℕ)) → None ≡ option_map moment_in (slice_get pairs (length pairs - 1)) → false ≡ list_any (is_inside_pair seconds now) pairs
+none_tells_any seconds now [] is = refl
+none_tells_any seconds now (first ∷ pairs) is =
+    absurd (some≢none (sym (ap (option_map moment_in) (slice_get-get_or (first ∷ pairs) (length (first ∷ pairs) - 1) first (omega arith))) ∙ sym is))
+  where
+    some≢none : {moment : ℕ} → Some moment ≡ None → ⊥
+    some≢none h = absurd (cc)
+
+-- no pairs are in order
+pub none_in_order : (pairs : List (Key × ℕ)) → pairs ≡ [] → IsInOrder pairs
+unfolding IsDistinct
+none_in_order pairs none = subst IsInOrder (sym none) (tt, λ i j d le within. absurd (omega arith))
 
 -- ---- the two parts
 

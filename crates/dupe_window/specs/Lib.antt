@@ -1,3 +1,5 @@
+pub mod Hashing
 pub mod Keys
+pub mod Packed
 pub mod Recalled
 pub mod Windows

@@ -18,6 +18,9 @@ empty_window seconds = record { pairs = []; seconds = seconds }
 abbrev pub is_inside : ℕ → ℕ → ℕ → Bool
 is_inside seconds now moment = nat_lt (now - moment) seconds
 
+abbrev pub moment_in : Key × ℕ → ℕ
+moment_in pair = pair.1
+
 abbrev pub is_inside_pair : ℕ → ℕ → Key × ℕ → Bool
 is_inside_pair seconds now pair = is_inside seconds now pair.1
 

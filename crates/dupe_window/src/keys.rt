@@ -3,6 +3,7 @@ ghost use Rattle.std.specs.Prelude.{◌≡◌, ◌≤◌, [], length};
 ghost use Rattle.std.specs.List.{suffix_len};
 ghost use Rattle.aprs_base.specs.Bytes.{base_of, is_blank};
 ghost use Rattle.dupe_window.specs.Keys.{key_of, without_last_blanks};
+ghost use Rattle.dupe_window.specs.Packed.{packed};
 
 use aprs_base::{Call, Parts, Word9, copy_call, first_place};
 use arrayvec::ArrayVec;
@@ -71,5 +72,55 @@ impl Key {
         };
         put_body(&mut key.body, without_blanks(parts.body.as_slice()));
         key
+    }
+
+    /// The bytes of the key's text.
+    fn text(&self) -> ArrayVec<u8, 530>
+        ensures { result.items ≡ packed self.now }
+    {
+        let source = self.source.bytes();
+        let dest = self.dest.bytes();
+        let body = self.body.as_slice();
+        let mut text = ArrayVec::new();
+        text.push(source.len() as u8);
+        text.push(dest.len() as u8);
+        text.try_extend_from_slice(source).unwrap();
+        text.try_extend_from_slice(dest).unwrap();
+        text.try_extend_from_slice(body).unwrap();
+        text
+    }
+
+    /// The key as one text.
+    pub(crate) fn packed(&self) -> Packed
+        ensures { result ≡ self.now }
+    {
+        Packed { text: self.text() }
+    }
+}
+
+/// A key as one text.
+#[derive(Drop)]
+pub struct Packed {
+    text: ArrayVec<u8, 530>,
+}
+
+impl Model for Packed {
+    ghost use Rattle.std.specs.Prelude.{◌≡◌};
+    ghost use Rattle.dupe_window.specs.Keys.{Key};
+    ghost use Rattle.dupe_window.specs.Packed.{packed, unpacked};
+
+    ghost Value = { Key };
+
+    ghost view = { λ p. unpacked p.text.items };
+
+    ghost invariant = { λ p. packed (unpacked p.text.items) ≡ p.text.items };
+}
+
+impl Packed {
+    /// The bytes of the text.
+    pub fn bytes(&self) -> &[u8]
+        ensures { result.now ≡ packed self.now }
+    {
+        self.text.as_slice()
     }
 }

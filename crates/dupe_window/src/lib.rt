@@ -1,7 +1,9 @@
 //! The packets that came a moment ago, so that their copies are told from new packets.
 #![tactic(auto)]
 
+mod hashing;
 mod keys;
+mod pairs;
 mod windows;
 
 pub use keys::Key;

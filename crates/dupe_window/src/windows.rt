@@ -6,14 +6,12 @@ ghost use Rattle.dupe_window.specs.Keys.{Key, is_same_key};
 ghost use Rattle.dupe_window.specs.Windows.{IsInOrder, IsOnce, IsUpTo, empty_window, expired, if_inside, is_inside, is_inside_pair, is_up_to, kept_at, kept_pairs, seen_at, with_key};
 
 use crate::keys::Key;
+use crate::pairs::{Pairs, is_inside};
 use aprs_base::Memory;
-use indexmap::IndexMap;
 use std::alloc::Global;
 use std::hash::RandomState;
 use std::marker::Model;
 use std::mem::swap;
-
-type Pairs = IndexMap<Key, u64, RandomState>;
 
 /// Packets by their keys, and when they came. They are in two maps, so that none is moved as time goes by: those of late, and
 /// older ones. Of the older ones those count that are inside the window at `last`, the latest moment at which any were forgotten.
@@ -32,16 +30,9 @@ impl Model for Window {
 
     ghost Value = { WindowSeen };
 
-    ghost view = { λ w. record { pairs = kept_pairs w.seconds w.last w.older.entries w.late.entries; seconds = w.seconds } };
+    ghost view = { λ w. record { pairs = kept_pairs w.seconds w.last w.older w.late; seconds = w.seconds } };
 
-    ghost invariant = { λ w. IsInOrder w.older.entries × IsInOrder w.late.entries × IsTrue (list_all (is_inside_pair (2 * w.seconds) w.last) w.older.entries) × IsOnce (kept_pairs w.seconds w.last w.older.entries w.late.entries) };
-}
-
-/// Whether that moment was less than so many seconds ago.
-fn is_inside(seconds: u64, now: u64, moment: u64) -> bool
-    ensures { result ≡ is_inside seconds now moment }
-{
-    now.saturating_sub(moment) < seconds
+    ghost invariant = { λ w. IsInOrder w.older × IsInOrder w.late × IsTrue (list_all (is_inside_pair (2 * w.seconds) w.last) w.older) × IsOnce (kept_pairs w.seconds w.last w.older w.late) };
 }
 
 /// The moment, where it is inside the window.
@@ -51,77 +42,70 @@ fn if_inside(seconds: u32, now: u64, kept: Option<u64>) -> Option<u64>
     kept.filter(|moment| is_inside(u64::from(seconds), now, *moment))
 }
 
-/// The moment that is kept with a key.
-fn moment_of(pairs: &Pairs, key: &Key) -> Option<u64>
-    ensures { result ≡ lookup (is_same_key key.now) pairs.now.entries }
-{
-    pairs.get(key).copied()
-}
-
 /// The moment that is kept with a key, in a packet of late or in an older one that counts. No key is in both, and most copies come soon.
 fn kept_at(older: &Pairs, late: &Pairs, seconds: u32, last: u64, key: &Key) -> Option<u64>
-    requires order { IsInOrder older.now.entries }
-    requires once { IsOnce (kept_pairs seconds last older.now.entries late.now.entries) }
-    ensures { result ≡ lookup (is_same_key key.now) (kept_pairs seconds last older.now.entries late.now.entries) }
+    requires order { IsInOrder older.now }
+    requires once { IsOnce (kept_pairs seconds last older.now late.now) }
+    ensures { result ≡ lookup (is_same_key key.now) (kept_pairs seconds last older.now late.now) }
 {
-    match moment_of(late, key) {
+    let packed = key.packed();
+    match late.moment_of(&packed) {
         Some(moment) => Some(moment),
-        None => if_inside(seconds, last, moment_of(older, key)),
+        None => if_inside(seconds, last, older.moment_of(&packed)),
     }
 }
 
 /// Keeps a key that is new with the moment at which it came.
-fn put(pairs: &mut Pairs, key: Key, now: u64) -> Result<(), Memory>
-    requires new { lookup (is_same_key key) pairs.old.entries ≡ None }
-    requires later { IsTrue (list_all (is_up_to now) pairs.old.entries) }
-    requires order { IsInOrder pairs.old.entries }
-    ensures ok { OnOk result (pairs.new.entries ≡ pairs.old.entries ++ (key, now) ∷ []) }
-    ensures err { OnErr result (pairs.new.entries ≡ pairs.old.entries) }
-    ensures order { IsInOrder pairs.new.entries }
-    ensures once { (before : List (Key × ℕ)) → IsOnce (before ++ pairs.old.entries) → lookup (is_same_key key) (before ++ pairs.old.entries) ≡ None → IsOnce (before ++ pairs.new.entries) }
+fn put(pairs: &mut Pairs, key: &Key, now: u64) -> Result<(), Memory>
+    requires new { lookup (is_same_key key.now) pairs.old ≡ None }
+    requires later { IsTrue (list_all (is_up_to now) pairs.old) }
+    requires order { IsInOrder pairs.old }
+    ensures ok { OnOk result (pairs.new ≡ pairs.old ++ (key.now, now) ∷ []) }
+    ensures err { OnErr result (pairs.new ≡ pairs.old) }
+    ensures order { IsInOrder pairs.new }
+    ensures once { (before : List (Key × ℕ)) → IsOnce (before ++ pairs.old) → lookup (is_same_key key.now) (before ++ pairs.old) ≡ None → IsOnce (before ++ pairs.new) }
 {
-    pairs.insert(key, now)?;
+    pairs.push(key, now)?;
     Ok(())
 }
 
 /// Whether all are inside the window. As the moments rise, the first tells it.
 fn all_inside(pairs: &Pairs, seconds: u64, now: u64) -> bool
-    requires order { IsInOrder pairs.now.entries }
-    ensures { result ≡ list_all (is_inside_pair seconds now) pairs.now.entries }
+    requires order { IsInOrder pairs.now }
+    ensures { result ≡ list_all (is_inside_pair seconds now) pairs.now }
 {
     match pairs.first() {
-        Some((_, moment)) => is_inside(seconds, now, *moment),
+        Some(moment) => is_inside(seconds, now, moment),
         None => true,
     }
 }
 
 /// Whether any is inside the window. As the moments rise, the last tells it.
 fn any_inside(pairs: &Pairs, seconds: u64, now: u64) -> bool
-    requires order { IsInOrder pairs.now.entries }
-    ensures { result ≡ list_any (is_inside_pair seconds now) pairs.now.entries }
+    requires order { IsInOrder pairs.now }
+    ensures { result ≡ list_any (is_inside_pair seconds now) pairs.now }
 {
     match pairs.last() {
-        Some((_, moment)) => is_inside(seconds, now, *moment),
+        Some(moment) => is_inside(seconds, now, moment),
         None => false,
     }
 }
 
 /// Keeps only what is inside the window.
 fn keep_inside(pairs: &mut Pairs, seconds: u32, now: u64)
-    requires order { IsInOrder pairs.old.entries }
-    ensures kept { pairs.new.entries ≡ filter (is_inside_pair seconds now) pairs.old.entries }
-    ensures order { IsInOrder pairs.new.entries }
+    requires order { IsInOrder pairs.old }
+    ensures kept { pairs.new ≡ filter (is_inside_pair seconds now) pairs.old }
+    ensures order { IsInOrder pairs.new }
 {
-    let seconds = u64::from(seconds);
-    pairs.retain(|_, moment| is_inside(seconds, now, *moment));
+    pairs.keep_inside(seconds, now);
 }
 
 /// Lets go of what is no more inside the window, once some are past twice its seconds.
 fn drop_old(pairs: &mut Pairs, seconds: u32, now: u64)
-    requires order { IsInOrder pairs.old.entries }
-    ensures kept { filter (is_inside_pair seconds now) pairs.new.entries ≡ filter (is_inside_pair seconds now) pairs.old.entries }
-    ensures inside { IsTrue (list_all (is_inside_pair (2 * seconds) now) pairs.new.entries) }
-    ensures order { IsInOrder pairs.new.entries }
+    requires order { IsInOrder pairs.old }
+    ensures kept { filter (is_inside_pair seconds now) pairs.new ≡ filter (is_inside_pair seconds now) pairs.old }
+    ensures inside { IsTrue (list_all (is_inside_pair (2 * seconds) now) pairs.new) }
+    ensures order { IsInOrder pairs.new }
 {
     if !all_inside(pairs, 2 * u64::from(seconds), now) {
         keep_inside(pairs, seconds, now);
@@ -130,10 +114,10 @@ fn drop_old(pairs: &mut Pairs, seconds: u32, now: u64)
 
 /// Makes older packets of those of late.
 fn turn(older: &mut Pairs, late: &mut Pairs)
-    requires order { IsInOrder late.old.entries }
-    ensures older { older.new.entries ≡ late.old.entries }
-    ensures late { late.new.entries ≡ [] }
-    ensures order { IsInOrder late.new.entries }
+    requires order { IsInOrder late.old }
+    ensures older { older.new ≡ late.old }
+    ensures late { late.new ≡ [] }
+    ensures order { IsInOrder late.new }
 {
     older.clear();
     swap(older, late);
@@ -143,11 +127,11 @@ fn turn(older: &mut Pairs, late: &mut Pairs)
 /// as they are; only where moments went back they are gone through.
 fn forget_late(older: &mut Pairs, late: &mut Pairs, seconds: u32, last: u64, now: u64)
     requires reached { now ≤ last }
-    requires older { IsInOrder older.old.entries }
-    requires late { IsInOrder late.old.entries }
-    ensures kept { kept_pairs seconds last older.new.entries late.new.entries ≡ kept_pairs seconds last older.old.entries (filter (is_inside_pair seconds now) late.old.entries) }
-    ensures older { IsInOrder older.new.entries }
-    ensures late { IsInOrder late.new.entries }
+    requires older { IsInOrder older.old }
+    requires late { IsInOrder late.old }
+    ensures kept { kept_pairs seconds last older.new late.new ≡ kept_pairs seconds last older.old (filter (is_inside_pair seconds now) late.old) }
+    ensures older { IsInOrder older.new }
+    ensures late { IsInOrder late.new }
 {
     if all_inside(late, u64::from(seconds), now) {
         return;
@@ -162,12 +146,12 @@ fn forget_late(older: &mut Pairs, late: &mut Pairs, seconds: u32, last: u64, now
 /// Forgets what is no more inside the window at `now`, where `last` is the latest moment at which any were forgotten.
 fn forget(older: &mut Pairs, late: &mut Pairs, seconds: u32, last: u64, now: u64)
     requires reached { now ≤ last }
-    requires older { IsInOrder older.old.entries }
-    requires late { IsInOrder late.old.entries }
-    ensures kept { kept_pairs seconds last older.new.entries late.new.entries ≡ kept_pairs seconds last older.old.entries (filter (is_inside_pair seconds now) late.old.entries) }
-    ensures inside { IsTrue (list_all (is_inside_pair (2 * seconds) last) older.new.entries) }
-    ensures older { IsInOrder older.new.entries }
-    ensures late { IsInOrder late.new.entries }
+    requires older { IsInOrder older.old }
+    requires late { IsInOrder late.old }
+    ensures kept { kept_pairs seconds last older.new late.new ≡ kept_pairs seconds last older.old (filter (is_inside_pair seconds now) late.old) }
+    ensures inside { IsTrue (list_all (is_inside_pair (2 * seconds) last) older.new) }
+    ensures older { IsInOrder older.new }
+    ensures late { IsInOrder late.new }
 {
     forget_late(older, late, seconds, last, now);
     drop_old(older, seconds, last);
@@ -179,8 +163,8 @@ impl Window {
         ensures { result ≡ empty_window seconds }
     {
         Window {
-            older: IndexMap::with_hasher(alloc, hasher),
-            late: IndexMap::with_hasher(alloc, hasher),
+            older: Pairs::new(alloc, hasher),
+            late: Pairs::new(alloc, hasher),
             seconds,
             last: 0,
         }
@@ -201,7 +185,7 @@ impl Window {
         ensures ok { OnOk result (self.new ≡ with_key key now self.old) }
         ensures err { OnErr result (self.new ≡ self.old) }
     {
-        put(&mut self.late, key, now)
+        put(&mut self.late, &key, now)
     }
 
     /// Forgets what is no more inside the window.

@@ -2,7 +2,7 @@
 ghost use Rattle.std.specs.Prelude.{◌≡◌, IsTrue};
 ghost use Rattle.std.specs.List.{list_any, zip};
 ghost use Rattle.filter_lang.specs.Terms.{is_in_range};
-ghost use Rattle.filter_eval.specs.Passes.{comes_by, fits, has_class, is_excluding, is_passing, passes_of, sight_at, term_fits};
+ghost use Rattle.filter_eval.specs.Passes.{comes_by, fits, fresh_place, has_class, is_excluding, is_passing, passes_of, sight_at, term_fits};
 
 use crate::names::{begins_with_one, matches_one, matches_word};
 use crate::paths::{has_letter, matches_entry, matches_used};
@@ -45,31 +45,34 @@ fn comes_by(packet: &Packet, gate: bool, letters: &Marks, gates: bool) -> bool
     has_letter(letters, &packet.parts) || (gates && has_class(&packet.body, POSITION) && gate)
 }
 
-/// Whether the packet is what a term asks for, with the place of the call that the term names.
+/// Whether the packet is what a term asks for, with where the call that the term names was last seen.
 #[tactic(auto, unfolding(crate::specs::Passes::fits))]
-fn fits(packet: &Packet, sight: &Sight, friend: Option<Place>, what: &What) -> bool
+fn fits(packet: &Packet, sight: &Sight, friend: &Option<Seen>, what: &What) -> bool
     requires { IsTrue (is_in_range what.now) }
-    ensures { result ≡ fits packet.now sight.now friend what.now }
+    ensures { result ≡ fits packet.now sight.now (fresh_place packet.now.moment friend.now) what.now }
 {
     let body = &packet.body;
     let parts = &packet.parts;
     match what {
-        What::Range { lat, lon, km } => is_by(*lat, *lon, *km, body.place),
+        What::Range { lat, lon, km } => is_by(*lat, *lon, *km, &body.place),
         What::Prefix(names) => begins_with_one(names, parts.source.bytes()),
         What::Buddy(names) => matches_one(names, parts.source.bytes()),
         What::Object(names) => matches_word(names, &body.name),
         What::Class { mask } => has_class(body, *mask),
         What::ClassNear { mask, km, .. } => {
+            let friend = fresh_place(packet.moment, *friend);
             let place = body.place.or(sight.source);
-            has_class(body, *mask) && is_near(friend, *km, place)
+            has_class(body, *mask) && is_near(&friend, *km, &place)
         }
         What::Symbol { pri, alt, over } => is_shown(pri, alt, over, body.place),
         What::Digi(names) => matches_used(names, parts),
         What::Entry(names) => matches_entry(names, parts),
         What::Group(names) => has_class(body, MESSAGE) && matches_word(names, &body.to),
         What::Dest(names) => matches_one(names, parts.dest.bytes()),
-        What::Friend { km, .. } => is_near(friend, *km, body.place),
-        What::Mine { km } => is_near(sight.mine, *km, body.place),
+        What::Friend { km, .. } => {
+            is_near(&fresh_place(packet.moment, *friend), *km, &body.place)
+        }
+        What::Mine { km } => is_near(&sight.mine, *km, &body.place),
         What::Area {
             north,
             west,
@@ -80,11 +83,10 @@ fn fits(packet: &Packet, sight: &Sight, friend: Option<Place>, what: &What) -> b
     }
 }
 
-/// Whether the packet is what a term asks for, with where the call that the term names was last seen.
-fn term_fits(packet: &Packet, sight: &Sight, term: &Term, friend: Option<Seen>) -> bool
-    ensures { result ≡ term_fits packet.now sight.now (term.now, friend) }
+/// The same of a term with what it asks for.
+fn term_fits(packet: &Packet, sight: &Sight, term: &Term, friend: &Option<Seen>) -> bool
+    ensures { result ≡ term_fits packet.now sight.now (term.now, friend.now) }
 {
-    let friend = fresh_place(packet.moment, friend);
     fits(packet, sight, friend, &term.what)
 }
 
@@ -93,7 +95,7 @@ fn is_passed(packet: &Packet, sight: &Sight, terms: &[Term], friends: &[Option<S
     ensures { result ≡ list_any (is_passing packet.now sight.now) (zip terms.now friends.now) }
 {
     let mut pairs = terms.iter().zip(friends);
-    pairs.any(|(term, friend)| !term.exclude && term_fits(packet, sight, term, *friend))
+    pairs.any(|(term, friend)| !term.exclude && term_fits(packet, sight, term, friend))
 }
 
 /// Whether an excluding term fits.
@@ -101,7 +103,7 @@ fn is_excluded(packet: &Packet, sight: &Sight, terms: &[Term], friends: &[Option
     ensures { result ≡ list_any (is_excluding packet.now sight.now) (zip terms.now friends.now) }
 {
     let mut pairs = terms.iter().zip(friends);
-    pairs.any(|(term, friend)| term.exclude && term_fits(packet, sight, term, *friend))
+    pairs.any(|(term, friend)| term.exclude && term_fits(packet, sight, term, friend))
 }
 
 /// What is known of stations at the moment `now`.

@@ -8,11 +8,11 @@ use filter_lang::Marks;
 use fixed_distance::within;
 
 /// Whether the place is known, and within `km` kilometres of a point in millionths of a degree.
-pub fn is_by(lat: i32, lon: i32, km: u32, place: Option<Place>) -> bool
+pub fn is_by(lat: i32, lon: i32, km: u32, place: &Option<Place>) -> bool
     requires lat { IsTrue (is_latitude lat) }
     requires lon { IsTrue (is_longitude lon) }
     requires km { IsTrue (is_distance km) }
-    ensures { result ≡ is_by lat lon km place }
+    ensures { result ≡ is_by lat lon km place.now }
 {
     let point = Place {
         lat,
@@ -21,16 +21,19 @@ pub fn is_by(lat: i32, lon: i32, km: u32, place: Option<Place>) -> bool
         code: b'/',
         used: 0,
     };
-    is_near(Some(point), km, place)
+    match place {
+        Some(place) => within(&point, place, km),
+        None => false,
+    }
 }
 
 /// Whether both places are known, and within `km` kilometres of each other.
-pub fn is_near(centre: Option<Place>, km: u32, place: Option<Place>) -> bool
+pub fn is_near(centre: &Option<Place>, km: u32, place: &Option<Place>) -> bool
     requires { IsTrue (is_distance km) }
-    ensures { result ≡ is_near centre km place }
+    ensures { result ≡ is_near centre.now km place.now }
 {
     match (centre, place) {
-        (Some(centre), Some(place)) => within(&centre, &place, km),
+        (Some(centre), Some(place)) => within(centre, place, km),
         _ => false,
     }
 }

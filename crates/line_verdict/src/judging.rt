@@ -7,7 +7,7 @@ ghost use Rattle.dupe_window.specs.Windows.{has_copy};
 ghost use Rattle.aprs_history.specs.Verdicts.{after_filter, answer_by, answer_of, filter_command, is_comment, login_answer, login_verdict, packet_verdict, read_and_routed, text_at, unpadded};
 ghost use Rattle.login_pass.specs.Login.{login_of};
 ghost use Rattle.line_verdict.specs.Voices.{comment_verdict, filtered};
-ghost use Rattle.q_construct.specs.Filling.{Fills};
+ghost use Rattle.tnc2_line.specs.Pieces.{Fills};
 ghost use Rattle.q_construct.specs.Rule.{has_station};
 ghost use Rattle.tnc2_line.specs.Packet.{IsParts, parts_of, text_of};
 
@@ -196,8 +196,10 @@ fn judge_whole(moment: u64, window: &Window, parts: Parts) -> Verdict
     }
 }
 
-/// Puts the packet with these parts as it goes on into parts that are still to be filled.
-fn route_parts<O: Calls>(
+/// Puts the packet with these parts, which is from there, as it goes on into parts that are still to be filled, or says why it is
+/// refused, which leaves them as they happen to be. `others` are the logins of the other verified links. That it may be a copy
+/// isn't looked at.
+pub fn route_parts<O: Calls>(
     whole: &mut Parts,
     server: &Call,
     origin: &Origin,
@@ -212,6 +214,7 @@ fn route_parts<O: Calls>(
     ensures exact { Fills result whole.new (read_and_routed server.now origin.now (O.calls others.now) (Ok parts.now)) }
     ensures sound { OnOk result (IsParts whole.new) }
     ensures short { OnOk result (length (text_of whole.new) ≤ 510) }
+    ensures stays { OnOk result ((whole.new.source ≡ parts.now.source) × (whole.new.dest ≡ parts.now.dest) × (whole.new.body ≡ parts.now.body)) }
 {
     match process_into(whole, parts, origin, server, others) {
         Err(why) => Err(Refusal::Path(why)),

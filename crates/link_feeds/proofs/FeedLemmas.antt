@@ -6,7 +6,7 @@ use Rattle.std.proofs.lemmas.Option.{get_or_from_slice_get}
 use Rattle.std.proofs.lemmas.List.Sums.{sum_by_more}
 use Rattle.std.specs.List.{All}
 use Rattle.std.proofs.lemmas.Bool.{cases_Bool, leb-true, leb-false, true≢false}
-use Rattle.std.proofs.lemmas.List.{drop_all, length-map, map-append}
+use Rattle.std.proofs.lemmas.List.{drop_all, drop_more, length-map, map-append}
 use Rattle.std.proofs.lemmas.List.Elements.{All-append, All-cons, All-nil}
 use Rattle.std.proofs.lemmas.List.Sums.{fold-append}
 use Rattle.link_queue.specs.Queues.{QueueSeen, without_bytes}
@@ -42,6 +42,14 @@ brought items item links =
     ap (seen_after links) (map-append item_seen items (item ∷ []))
     ∙ ap (λ (met : List LinkSeen). record { links = met; settled = is_nothing (items_seen items ++ item_seen item ∷ []) }) (walked_more (items_seen items) (item_seen item) links)
     ∙ ap (λ b. record { links = met_by (item_seen item) (map (walked (items_seen items)) links); settled = b }) (not_nothing (items_seen items) (item_seen item))
+
+-- one that came is met
+pub walk_more : (items : List Item) (i : ℕ) (x : Item) (link new total : LinkSeen) → i < length items → x ≡ get_or items i x → new ≡ after link (item_seen x)
+    → walked (items_seen (drop i items)) link ≡ total → walked (items_seen (drop (i + 1) items)) new ≡ total
+walk_more items i x link new total lt at is so_far =
+    ap (walked (items_seen (drop (i + 1) items))) (is ∙ ap (λ y. after link (item_seen y)) at)
+    ∙ sym (ap (λ left. walked (items_seen left) link) (drop_more items i x lt))
+    ∙ so_far
 
 -- where nothing came links stay
 pub unwalked : (links : List LinkSeen) → map (walked []) links ≡ links

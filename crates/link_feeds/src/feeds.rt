@@ -8,7 +8,7 @@ ghost use Rattle.worker_match.specs.Seen.{LinkSeen};
 ghost use Rattle.worker_match.specs.Walk.{IsOrdered};
 
 use crate::states::{
-    count_each, drop_each, forget_each, log_in, opened, overfull, set_filter, take_each,
+    count_each, drop_each, forget_each, log_in, opened, overfull, put_by, set_filter, walk_each,
 };
 use aprs_base::{Call, Gate, Line, Memory};
 use filter_eval::{Friends, Seen};
@@ -28,6 +28,8 @@ const MEETINGS: usize = 4096;
 pub struct Feeds {
     states: Vec<LinkState>,
     items: Vec<Item>,
+    /// How many links have come since.
+    news: usize,
 }
 
 impl Model for Feeds {
@@ -43,13 +45,13 @@ impl Model for Feeds {
     ghost invariant = { λ f. All IsOrdered (items_seen f.items.items) };
 }
 
-/// In how many parts so many links meet so many items: no more than there are workers, and none that is too small.
-fn parts_for(links: usize, items: usize, workers: u32) -> u32
+/// In how many parts so many links meet so many things: no more than there are workers, and none that is too small.
+fn parts_for(links: usize, things: usize, workers: u32) -> u32
     requires { 1 ≤ workers }
     ensures some { 1 ≤ result }
     ensures most { result ≤ workers }
 {
-    let more = links.saturating_mul(items) / MEETINGS;
+    let more = links.saturating_mul(things) / MEETINGS;
     match u32::try_from(more) {
         Ok(more) => workers.min(more.saturating_add(1)),
         Err(_) => workers,
@@ -65,6 +67,7 @@ impl Feeds {
         Feeds {
             states: Vec::new(alloc),
             items: Vec::new(alloc),
+            news: 0,
         }
     }
 
@@ -98,6 +101,7 @@ impl Feeds {
     {
         self.states
             .push(opened(alloc, link, feed, inbound, first)?)?;
+        self.news = self.news.saturating_add(1);
         Ok(())
     }
 
@@ -111,8 +115,8 @@ impl Feeds {
         Ok(())
     }
 
-    /// What came is matched with the links by at most so many workers, 1 to 64, each part of the links through the gate. After
-    /// `Memory` nothing is said of the links.
+    /// What came is matched with the links by at most so many workers, 1 to 64, each part of the links through the gate. Links
+    /// that have come since count as things that came. After `Memory` nothing is said of the links.
     pub fn settle<R: Threads + Sync, G: Gate + Sync>(
         &mut self,
         rt: &R,
@@ -122,10 +126,11 @@ impl Feeds {
         requires { (1 ≤ workers) × (workers ≤ 64) }
         ensures { OnOk result (self.new ≡ record self.old { settled = true }) }
     {
-        if self.items.is_empty() {
+        let things = self.items.len().saturating_add(self.news);
+        if things == 0 {
             return Ok(());
         }
-        let parts = parts_for(self.states.len(), self.items.len(), workers);
+        let parts = parts_for(self.states.len(), things, workers);
         spread(
             rt,
             self.states.as_mut_slice(),
@@ -134,27 +139,40 @@ impl Feeds {
             gate,
         )?;
         self.items.clear();
+        self.news = 0;
         Ok(())
     }
 
-    /// Something comes to the links, and is matched with each at once, by this thread alone. What came before must have been
-    /// matched. After `Memory` nothing is said of the links.
-    pub fn meet(&mut self, item: &Item) -> Result<(), Memory>
-        requires settled { self.old.settled ≡ true }
-        requires ordered { IsOrdered (item_seen item.now) }
-        ensures { OnOk result (self.new ≡ record self.old { links = met_by (item_seen item.now) self.old.links }) }
+    /// The same by this thread alone, through no gate.
+    pub fn settle_alone(&mut self) -> Result<(), Memory>
+        ensures { OnOk result (self.new ≡ record self.old { settled = true }) }
     {
-        take_each(self.states.as_mut_slice(), item)
+        if self.items.is_empty() {
+            return Ok(());
+        }
+        walk_each(self.states.as_mut_slice(), self.items.as_slice())?;
+        self.items.clear();
+        Ok(())
     }
 
-    /// How many packet lines were put into the queues since this was last asked, at most the greatest u64. What came must have
+    /// How many packet lines were put into the queues since that was last counted, at most the greatest u64. What came must have
     /// been matched.
+    pub fn put(&self) -> u64
+        requires { self.now.settled ≡ true }
+        ensures { result ≡ put_in self.now.links }
+    {
+        put_by(self.states.as_slice())
+    }
+
+    /// Says how many packet lines were put into the queues, and counts from then on anew. What came must have been matched.
     pub fn count_put(&mut self) -> u64
         requires { self.old.settled ≡ true }
         ensures count { result ≡ put_in self.old.links }
         ensures counted { self.new ≡ record self.old { links = map counted self.old.links } }
     {
-        count_each(self.states.as_mut_slice())
+        let put = self.put();
+        count_each(self.states.as_mut_slice());
+        put
     }
 
     /// Positions that are too old at that moment, in seconds, are let go. What came must have been matched.
@@ -179,6 +197,7 @@ impl Feeds {
     {
         self.states.clear();
         self.items.clear();
+        self.news = 0;
     }
 
     /// The numbers of the links that had no room for a line, in the order in which they came. What came must have been matched.

@@ -1,10 +1,10 @@
 //! What is done to links that have met all that came.
-ghost use Rattle.std.specs.Prelude.{◌≡◌, ◌==◌, IfOk, OnOk, filter, length, map};
+ghost use Rattle.std.specs.Prelude.{◌≡◌, ◌==◌, All, IfOk, OnOk, filter, length, map};
 ghost use Rattle.std.specs.List.{list_any};
 ghost use Rattle.std.specs.Arc.{arc_value};
-ghost use Rattle.link_feeds.specs.Feeds.{counted, forgotten, is_other, is_over, link_of, met_by, new_feed, put_in, told, with_login, with_terms};
-ghost use Rattle.worker_match.specs.Items.{item_seen};
-ghost use Rattle.worker_match.specs.Walk.{IsOrdered};
+ghost use Rattle.link_feeds.specs.Feeds.{counted, forgotten, is_other, is_over, link_of, new_feed, put_in, told, with_login, with_terms};
+ghost use Rattle.worker_match.specs.Items.{items_seen};
+ghost use Rattle.worker_match.specs.Walk.{IsOrdered, walked};
 
 use crate::places::{forget_friends, still_seen};
 use aprs_base::{Call, Line, Memory};
@@ -31,56 +31,71 @@ pub(crate) fn opened(
 {
     let mut queue = Queue::with_limit(alloc, MOST_LINES)?;
     queue.push(first).unwrap();
+    let at = ArrayVec::new();
+    let friends = Box::new(alloc, Friends { at })?;
     Ok(LinkState {
         link,
         feed,
         inbound,
         alive: true,
         over: false,
+        put: 0,
+        queue,
         me: None,
         filter: None,
-        friends: Friends {
-            at: ArrayVec::new(),
-        },
+        friends,
         mine: None,
-        queue,
-        put: 0,
     })
 }
 
-/// Each meets the same thing.
-pub(crate) fn take_each(states: &mut [LinkState], item: &Item) -> Result<(), Memory>
-    requires { IsOrdered (item_seen item.now) }
-    ensures ok { OnOk result (states.new ≡ met_by (item_seen item.now) states.old) }
-    ensures many { length states.new ≡ length states.old }
+/// One meets all that came, in order.
+fn walk_one(state: &mut LinkState, items: &[Item]) -> Result<(), Memory>
+    requires { All IsOrdered (items_seen items.now) }
+    ensures { OnOk result (state.new ≡ walked (items_seen items.now) state.old) }
 {
-    for state in states.iter_mut() {
+    for item in items {
         state.take(item)?;
     }
     Ok(())
 }
 
-/// What was put into its queue since it was last counted.
-fn count(state: &mut LinkState) -> u64
-    ensures count { result ≡ state.old.put }
-    ensures counted { state.new ≡ counted state.old }
+/// Each meets all that came, in order.
+pub(crate) fn walk_each(states: &mut [LinkState], items: &[Item]) -> Result<(), Memory>
+    requires { All IsOrdered (items_seen items.now) }
+    ensures ok { OnOk result (states.new ≡ map (walked (items_seen items.now)) states.old) }
+    ensures many { length states.new ≡ length states.old }
 {
-    let put = state.put;
-    state.put = 0;
-    put
+    for state in states.iter_mut() {
+        walk_one(state, items)?;
+    }
+    Ok(())
 }
 
-pub(crate) fn count_each(states: &mut [LinkState]) -> u64
-    ensures count { result ≡ put_in states.old }
+/// How many packet lines were put into their queues since that was last counted, at most the greatest u64.
+pub(crate) fn put_by(states: &[LinkState]) -> u64
+    ensures { result ≡ put_in states.now }
+{
+    let mut sum = 0u64;
+    for state in states {
+        sum = sum.saturating_add(state.put);
+    }
+    sum
+}
+
+/// What was put into its queue is counted.
+fn count(state: &mut LinkState)
+    ensures { state.new ≡ counted state.old }
+{
+    state.put = 0;
+}
+
+pub(crate) fn count_each(states: &mut [LinkState])
     ensures counted { states.new ≡ map counted states.old }
     ensures many { length states.new ≡ length states.old }
 {
-    let mut sum = 0u64;
     for state in states.iter_mut() {
-        let put = count(state);
-        sum = sum.saturating_add(put);
+        count(state);
     }
-    sum
 }
 
 fn forget(state: &mut LinkState, now: u64)
@@ -153,6 +168,6 @@ pub(crate) fn set_filter(
     ensures { state.new ≡ told (arc_value reply) (with_terms (arc_value filter) friends state.old) }
 {
     state.filter = Some(filter);
-    state.friends = friends;
+    *state.friends = friends;
     state.tell(reply);
 }

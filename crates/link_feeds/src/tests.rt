@@ -46,12 +46,10 @@ fn are_over(feeds: &Feeds, alloc: Global, want: &[u32]) -> Result<bool, Memory> 
     Ok(numbers.as_slice() == want)
 }
 
-/// A line comes to all clients, and is matched at once: how many packet lines were put into queues.
+/// A line comes to all clients, and is matched by this thread: how many packet lines were put into queues.
 fn tell_all(feeds: &mut Feeds, line: Arc<Line>) -> Result<u64, Memory> {
-    if !feeds.is_settled() {
-        return Ok(1);
-    }
-    feeds.meet(&Item::All { line })?;
+    feeds.bring(Item::All { line })?;
+    feeds.settle_alone()?;
     Ok(feeds.count_put())
 }
 

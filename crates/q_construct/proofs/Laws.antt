@@ -1,7 +1,7 @@
 -- What the rule keeps: a rewritten packet's parts are again parts of a text, with one construct at most.
 use Rattle.std.proofs.Common.{◌≡◌, ℕ, suc, ◌+◌, ◌-◌, ◌<◌, ◌≤◌, Bool, true, false, cond, not, ◌||◌, ◌&&◌, List, [], ◌∷◌, ◌++◌, map, take, drop, length, Option, Result, Ok, Err, refl, sym, ap, ◌∙◌, subst, leb, ltb, arith}
 use Rattle.std.specs.Prelude.{count_by, codes, IfOk, OnOk, if◌then◌else◌}
-use Rattle.q_construct.specs.Filling.{Fills}
+use Rattle.tnc2_line.specs.Pieces.{Fills}
 use Rattle.std.specs.List.{list_all, list_any, position_or_len}
 use Rattle.std.proofs.lemmas.Bool.{and_parts, and_from, or_parts, or_from, or_left, ltb-false, not-true, not_from_false, leb-true}
 use Rattle.std.proofs.lemmas.List.Folds.{list_all-append, list_any-append}

@@ -3,7 +3,7 @@ ghost use Rattle.std.specs.Prelude.{◌≡◌, ℕ, ◌+◌, ◌<◌, ◌≤◌,
 ghost use Rattle.std.specs.List.{flat_map};
 ghost use Rattle.aprs_base.specs.Bytes.{is_station};
 ghost use Rattle.tnc2_line.specs.Packet.{IsParts, text_of, with_comma};
-ghost use Rattle.q_construct.specs.Filling.{Fills};
+ghost use Rattle.tnc2_line.specs.Pieces.{Fills};
 ghost use Rattle.q_construct.specs.Rule.{among, has_station, is_long, keeps_names, name_of, names_after, process_of, traced, with_name, with_path};
 
 use crate::building::{Built, build};

@@ -24,6 +24,8 @@ mod mic_e_tests;
 #[cfg(test)]
 mod packet_tests;
 #[cfg(test)]
+mod parsed_tests;
+#[cfg(test)]
 mod passing_tests;
 #[cfg(test)]
 mod position_tests;

@@ -1,5 +1,6 @@
 -- The steps of the core, and the trace that it follows.
-use Rattle.std.proofs.Common.{◌≡◌, ℕ, ◌<◌, ◌==◌, ◌/◌, nat_lt, length, if◌then◌else◌, ◌∷◌, ◌++◌, [], List, map, filter, refl, sym, ap, ◌∙◌, subst, Bool, true, false, Option, Some, None, max, append-nil, arith, ⊎_elim, ◌||◌, not, cond, ◌^◌, IfOk, Result, Ok, Err, Vec, Global, ◌≤◌}
+use Rattle.std.proofs.Common.{◌≡◌, ℕ, ◌<◌, ◌==◌, ◌/◌, nat_lt, length, if◌then◌else◌, ◌∷◌, ◌++◌, [], List, map, filter, refl, sym, ap, ◌∙◌, subst, Bool, true, false, Option, Some, None, max, append-nil, arith, ⊎_elim, ◌||◌, not, cond, ◌^◌, IfOk, OnOk, OnErr, Result, Ok, Err, Vec, Global, ◌≤◌}
+use Rattle.std.specs.Bool.{⊤}
 use Rattle.std.specs.List.{flat_map}
 use Rattle.std.proofs.lemmas.Bool.{true≢false, cases_Bool}
 use Rattle.std.proofs.lemmas.List.{length-map}
@@ -37,6 +38,7 @@ use Rattle.server_core.specs.LinkSteps.{at_link, has_that, has_number, is_in_tim
 use Rattle.heard_routing.specs.Heard.{HeardSeen, without_link}
 use Rattle.aprs_conf.specs.Seen.{ConfSeen}
 use Rattle.server_core.specs.Meaning.{CoreMeaning, setting_of, timeouts_of}
+use Rattle.server_core.specs.Halves.{ServedSeen}
 use Rattle.server_core.specs.Kept.{IsKept}
 use Rattle.server_core.specs.Steps.{SameRest, Walks, carried_at, scene_at, with_verdict}
 use Rattle.server_core.proofs.LinkLemmas.{changed_none, rises_at, rises_filter, rises_to, rises_push}
@@ -52,6 +54,10 @@ use Rattle.station_table.specs.Stations.{young}
 -- the core with other links
 abbrev pub relinked : List LinkSeen → CoreMeaning → CoreMeaning
 relinked links core = record core { seen = record core.seen { links = links } }
+
+-- the same with all that is known of the links
+abbrev pub with_served : ServedSeen → CoreMeaning → CoreMeaning
+with_served served core = record { conf = core.conf; seen = record core.seen { links = served.links; totals = record core.seen.totals { queued = served.queued } }; rests = served.rests }
 
 -- and with what was heard
 abbrev pub reheard : HeardSeen → CoreMeaning → CoreMeaning
@@ -337,16 +343,24 @@ walks_no_end core t walks number links heard reach dead new forgotten reached =
     })
 
 -- bytes of a link that isn't there are nobody's
-pub walks_unbrought : {E : Type 0} (core : CoreMeaning) (t : Trace) → Walks core t → (number : ℕ) (links : List LinkSeen) (reach : ReachSeen) (result : Result (Vec Cut Global) E) → is_live t number ≡ false
+pub walks_unbrought : {E : Type 0} (core : CoreMeaning) (t : Trace) → Walks core t → (number : ℕ) (served new : ServedSeen) (reach : ReachSeen) (result : Result (Vec Cut Global) E) → is_live t number ≡ false → with_served served core ≡ core
     → reach ≡ (if has_number number core.seen.links then record core.seen.reach { uplinks = uplinks_after (up.Heard number) core.seen.moment core.seen.reach.uplinks } else core.seen.reach)
-    → IfOk result (λ cuts. (cuts.items ≡ []) × (links ≡ core.seen.links))
-    → IfOk result (λ cuts. (cuts.items ≡ []) × Walks (record core { seen = record core.seen { links = links; reach = reach } }) t)
-walks_unbrought core t walks number links reach (Err e) dead reached h = h
-walks_unbrought core t walks number links reach (Ok cuts) dead reached h =
+    → IfOk result (λ cuts. (cuts.items ≡ []) × (new ≡ served))
+    → IfOk result (λ cuts. (cuts.items ≡ []) × Walks (with_served new (record core { seen = record core.seen { reach = reach } })) t)
+walks_unbrought core t walks number served new reach (Err e) dead same reached h = h
+walks_unbrought core t walks number served new reach (Ok cuts) dead same reached h =
     let stays : reach ≡ core.seen.reach =
-    reached ∙ ap (λ b. if b then record core.seen.reach { uplinks = uplinks_after (up.Heard number) core.seen.moment core.seen.reach.uplinks } else core.seen.reach) (no_number core t walks number dead) in
-    let same : record core.seen { links = links; reach = reach } ≡ core.seen = rw stays (ap (λ ls. record core.seen { links = ls }) h.1) in
-    (h.0, subst (λ seen. Walks (record core { seen = seen }) t) (sym same) walks)
+    reached ∙ ap (λ b. if b then record core.seen.reach { uplinks = uplinks_after (up.Heard number) core.seen.moment core.seen.reach.uplinks } else core.seen.reach) (no_number core t walks number dead) in (
+      h.0,
+      subst (λ (s : ServedSeen). Walks (with_served s (record core { seen = record core.seen { reach = reach } })) t) (sym h.1)
+          (subst (λ (r : ReachSeen). Walks (with_served served (record core { seen = record core.seen { reach = r } })) t) (sym stays)
+          (subst (λ (c : CoreMeaning). Walks c t) (sym same) walks)),
+    )
+
+-- two facts of one answer
+pub on_ok_both : {X E : Type 0} {A B C : Type 0} (r : Result X E) → (A → B → C) → OnOk r A → OnOk r B → OnOk r C
+on_ok_both (Ok x) f a b = f a b
+on_ok_both (Err e) f a b = tt
 
 pub max_above : (a b : ℕ) → b ≤ a → max a b ≡ a
 max_above a b le = omega arith
@@ -372,6 +386,18 @@ kept_above core k kept above small = record { rising = rises_to 0 core.seen.grea
 pub kept_turned : (core : CoreMeaning) (turned : List ℕ) → IsKept core → IsKept (record core { seen = record core.seen { turned = turned } })
 kept_turned core turned kept = record { rising = kept.rising; small = kept.small; station = kept.station; group = kept.group; few = kept.few; window = kept.window }
 
+-- other links, of rising numbers
+pub kept_risen : (core : CoreMeaning) (served : ServedSeen) → Rises 0 (numbers served.links) core.seen.greatest → IsKept core → IsKept (with_served served core)
+kept_risen core served rises kept = record { rising = rises; small = kept.small; station = kept.station; group = kept.group; few = kept.few; window = kept.window }
+
+-- a link changes, or want of memory leaves fewer
+pub risen_by : {E : Type 0} (r : Result ⊤ E) (number : ℕ) (step : LinkSeen → LinkSeen) (old new : ServedSeen) (high : ℕ) → ((link : LinkSeen) → (step link).link ≡ link.link)
+    → OnErr r ((high : ℕ) → Rises 0 (numbers old.links) high → Rises 0 (numbers new.links) high) → OnOk r (new ≡ record old { links = map (at_link number step) old.links; settled = true })
+    → Rises 0 (numbers old.links) high → Rises 0 (numbers new.links) high
+risen_by (Ok done) number step old new high same gone is rises =
+    subst (λ (s : ServedSeen). Rises 0 (numbers s.links) high) (sym is) (rises_at number step same high old.links (map (at_link number step) old.links) refl rises)
+risen_by (Err e) number step old new high same gone is rises = gone high rises
+
 pub kept_links : (core : CoreMeaning) (links : List LinkSeen) → links ≡ core.seen.links → IsKept core → IsKept (record core { seen = record core.seen { links = links } })
 kept_links core links same kept = subst (λ ls. IsKept (record core { seen = record core.seen { links = ls } })) (sym same) kept
 
@@ -389,16 +415,19 @@ kept_pushed core k link links kept above small is new =
     }
 
 -- some links leave
-pub kept_left : (core : CoreMeaning) (keep : LinkSeen → Bool) (links : List LinkSeen) (heard : HeardSeen) (reach : ReachSeen) (turned closing : List ℕ) → links ≡ filter keep core.seen.links → IsKept core
-    → IsKept (record core { seen = record core.seen { links = links; heard = heard; reach = reach; turned = turned; closing = closing } })
-kept_left core keep links heard reach turned closing left kept = record {
-  rising = subst (λ ls. Rises 0 (numbers ls) core.seen.greatest) (sym left) (rises_filter keep 0 core.seen.greatest core.seen.links kept.rising);
-  small = kept.small;
-  station = kept.station;
-  group = kept.group;
-  few = kept.few;
-  window = kept.window;
-}
+pub kept_left : (core : CoreMeaning) (served : ServedSeen) (heard : HeardSeen) (reach : ReachSeen) (turned closing : List ℕ) → Rises 0 (numbers served.links) core.seen.greatest → IsKept core
+    → IsKept (with_served served (record core { seen = record core.seen { heard = heard; reach = reach; turned = turned; closing = closing } }))
+kept_left core served heard reach turned closing rises kept = record { rising = rises; small = kept.small; station = kept.station; group = kept.group; few = kept.few; window = kept.window }
+
+-- some links leave, or want of memory leaves fewer
+pub left_by : {E : Type 0} (r : Result ⊤ E) (keep : LinkSeen → Bool) (old new : ServedSeen) (high : ℕ) → OnErr r ((high : ℕ) → Rises 0 (numbers old.links) high → Rises 0 (numbers new.links) high)
+    → OnOk r (new ≡ record old { links = filter keep old.links; settled = true }) → Rises 0 (numbers old.links) high → Rises 0 (numbers new.links) high
+left_by (Ok done) keep old new high gone is rises = subst (λ (s : ServedSeen). Rises 0 (numbers s.links) high) (sym is) (rises_filter keep 0 high old.links rises)
+left_by (Err e) keep old new high gone is rises = gone high rises
+
+-- that the links rest is no part of it
+pub walks_resting : (core : CoreMeaning) (t : Trace) (rests : Bool) → Walks core t → Walks (record core { rests = rests }) t
+walks_resting core t rests walks = record { follows = walks.follows; going = walks.going }
 
 -- one link changes
 pub kept_at : (core : CoreMeaning) (number : ℕ) (step : LinkSeen → LinkSeen) (links : List LinkSeen) → ((link : LinkSeen) → (step link).link ≡ link.link) → links ≡ map (at_link number step) core.seen.links → IsKept core

@@ -217,6 +217,14 @@ module _ (h : LinkSeen) where
         by true false = refl
         by false c = refl
 
+    pub date_uncounted : (line : List ℕ) → (after s (ToldAll line)).put ≡ s.put
+    date_uncounted line = by (is_open s) s.inbound
+      where
+        by : (b c : Bool) → (if b then (if c then walk.with_text line s else s) else s).put ≡ s.put
+        by true true = put_text line
+        by true false = refl
+        by false c = refl
+
     -- a packet that it wants, or doesn't
     module _ (offer : OfferSeen) (wanted : Bool) (is : s.over ≡ false → walk.wants offer s ≡ wanted) where
       pub offer_same : joined h (after s (Came offer)) ≡ with_seen offer.packet.parts.source (told_by offer) (if wanted then with_text offer.packet.line link else link)

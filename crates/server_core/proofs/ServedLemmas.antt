@@ -206,15 +206,11 @@ module _ (g : worker.LinkSeen → worker.LinkSeen) where
             ∙ capped (before + n) a top
             ∙ ap (λ m. min m top) (let here : before + n + a ≡ a + (before + n) = omega arith in here)
 
-    -- how many lines are put, where none were before
+    -- how many lines are put
     pub put_changed : (takes : LinkSeen → Bool) → ((h : LinkSeen) (s : worker.LinkSeen) → Q h → Matches h s → (g s).put ≡ (if takes (joined h s) then one_more s.put else s.put))
-        → (hs : List LinkSeen) (ss : List worker.LinkSeen) → All Q hs → AllMatch hs ss → put_in ss ≡ 0 → put_in (map g ss) ≡ more (length (filter takes (joined_all hs ss))) 0
-    put_changed takes is hs ss each all none =
-        let n = length (filter takes (joined_all hs ss)) in
-        let top = 2 ^ 64 - 1 in
-        sums_changed takes is hs ss each all
-        ∙ sym (capped (sum_by put_of ss) n top)
-        ∙ ap (λ m. min (m + n) top) none
+        → (hs : List LinkSeen) (ss : List worker.LinkSeen) → All Q hs → AllMatch hs ss → put_in (map g ss) ≡ more (length (filter takes (joined_all hs ss))) (put_in ss)
+    put_changed takes is hs ss each all =
+        sums_changed takes is hs ss each all ∙ sym (capped (sum_by put_of ss) (length (filter takes (joined_all hs ss))) (2 ^ 64 - 1))
 
 pub any_half : (hs : List LinkSeen) → All (λ h. h ≡ h) hs
 any_half hs = λ k d lt. refl
@@ -236,13 +232,15 @@ none_put ss = ap (λ n. min n (2 ^ 64 - 1)) (none ss)
     none (s ∷ ss) = let first = sum_by-cons put_of (counted s) (map counted ss) in let rest = none ss in omega (arith, first, rest)
 
 -- a step that puts no packet line
-pub put_kept : (g : worker.LinkSeen → worker.LinkSeen) → ((s : worker.LinkSeen) → (g s).put ≡ s.put) → (ss : List worker.LinkSeen) → put_in (map g ss) ≡ put_in ss
-put_kept g same ss = ap (λ n. min n (2 ^ 64 - 1)) (sums ss)
+pub put_kept : (g : worker.LinkSeen → worker.LinkSeen) → ((h : LinkSeen) (s : worker.LinkSeen) → Matches h s → (g s).put ≡ s.put) → (hs : List LinkSeen) (ss : List worker.LinkSeen) → AllMatch hs ss → put_in (map g ss) ≡ put_in ss
+put_kept g same hs ss all = ap (λ n. min n (2 ^ 64 - 1)) (sums hs ss all)
   where
-    sums : (ss : List worker.LinkSeen) → sum_by put_of (map g ss) ≡ sum_by put_of ss
-    sums [] = refl
-    sums (s ∷ ss) =
-        sum_by-cons put_of (g s) (map g ss) ∙ ap (λ n. n + sum_by put_of (map g ss)) (same s) ∙ ap (λ n. s.put + n) (sums ss) ∙ sym (sum_by-cons put_of s ss)
+    sums : (hs : List LinkSeen) (ss : List worker.LinkSeen) → AllMatch hs ss → sum_by put_of (map g ss) ≡ sum_by put_of ss
+    sums [] [] all = refl
+    sums [] (s ∷ ss) all = absurd all
+    sums (h ∷ hs) [] all = absurd all
+    sums (h ∷ hs) (s ∷ ss) all =
+        sum_by-cons put_of (g s) (map g ss) ∙ ap (λ n. n + sum_by put_of (map g ss)) (same h s all.0) ∙ ap (λ n. s.put + n) (sums hs ss all.1) ∙ sym (sum_by-cons put_of s ss)
 
 -- ---- a link comes
 

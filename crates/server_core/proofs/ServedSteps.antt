@@ -1,8 +1,9 @@
 -- What comes to the links that are served, and what it leaves of them.
-use Rattle.std.proofs.Common.{◌≡◌, ℕ, ◌^◌, ◌<◌, Bool, true, false, List, [], ◌∷◌, ◌++◌, length, map, filter, get_or, slice_get, slice_set, refl, sym, ap, ◌∙◌, subst, arith, Option, Some, None, Result, Ok, Err, OnOk, OnErr, IfOk, ⊎_elim, zero, suc, not, ◌||◌, ◌&&◌, cond, if◌then◌else◌}
+use Rattle.std.proofs.Common.{◌≡◌, ◌==◌, ℕ, ◌^◌, ◌<◌, ◌+◌, ◌-◌, Bool, true, false, List, [], ◌∷◌, ◌++◌, length, map, min, filter, get_or, slice_get, slice_set, refl, sym, ap, ◌∙◌, subst, arith, Option, Some, None, Result, Ok, Err, OnOk, OnErr, ⊎_elim, zero, suc, not, ◌||◌, ◌&&◌, cond, if◌then◌else◌}
+use Rattle.std.specs.Bool.{⊤}
 use Rattle.std.specs.List.{All, list_any, position}
 use Rattle.std.proofs.Math.Seq.{map-set_same}
-use Rattle.std.proofs.lemmas.Bool.{cases_Bool, true≢false}
+use Rattle.std.proofs.lemmas.Bool.{cases_Bool, eqb-true, true≢false}
 use Rattle.std.proofs.lemmas.List.{length-map}
 use Rattle.std.proofs.lemmas.Option.{get_or_from_slice_get}
 use Rattle.aprs_base.specs.PacketSeen.{PacketSeen}
@@ -13,6 +14,7 @@ use Rattle.aprs_history.specs.Stands.{LinkSeen}
 use Rattle.aprs_history.specs.Trace.{is_from}
 use Rattle.filter_eval.specs.Passes.{fresh}
 use Rattle.filter_eval.specs.declared.seen.Seen.{Seen}
+use Rattle.link_feeds.proofs.FeedLemmas.{capped}
 use Rattle.link_feeds.specs.Feeds.{FeedsSeen, counted, forgotten, is_other, met_by, new_feed, put_in, told, with_login, with_taken, with_terms}
 use Rattle.filter_lang.specs.Terms.{TermSeen}
 use Rattle.heard_routing.specs.Heard.{is_among}
@@ -22,59 +24,107 @@ use Rattle.worker_match.specs.Seen.{Came, ToldAll}
 use Rattle.worker_match.specs.Seen as worker
 use Rattle.worker_match.specs.Walk.{after}
 use Rattle.server_core.specs.Fed.{AllMatch, Matches, feed_of, joined, joined_all, new_half, offer_of, opening_feed, refused_of, shows_kept}
-use Rattle.server_core.specs.Halves.{AreHalves}
+use Rattle.server_core.specs.Halves.{AreHalves, ServedSeen, served_seen}
 use Rattle.server_core.specs.LinkSteps.{Rises, at_link, at_moment, has_room, has_that, is_asked_at, is_none_of, is_shown_at, more, number_of, numbers, pending_at, pending_of, takes_packet, takes_shown, with_date, with_packet, with_shown, with_text}
 use Rattle.server_core.specs.declared.link.SourcePlace.{SourcePlace}
 use Rattle.server_core.proofs.AskedLemmas.{listed_at}
-use Rattle.server_core.proofs.FedLemmas.{date_same, heard_counted, heard_same, shown_counted, shown_same, told_matches, told_same, told_uncounted}
+use Rattle.server_core.proofs.FedLemmas.{date_same, date_uncounted, heard_counted, heard_same, shown_counted, shown_same, told_matches, told_same, told_uncounted}
 use Rattle.server_core.proofs.LinkLemmas.{changed_by, changed_nowhere, picked_found, picked_none, position_some, rises_filter, rises_push, rises_to}
 use Rattle.server_core.proofs.ServedLemmas.{any_half, as_many, counted_all, counted_match, joined_at, joined_left, joined_push, match_at, match_left, match_push, match_set, none_put, numbers_same, position_same, put_changed, put_kept, put_left, put_push, put_set, rises_same, state_at, state_set, states_changed, states_match}
 
+abbrev pub links_of : ServedSeen → List LinkSeen
+links_of served = served.links
+
+abbrev pub settled_of : ServedSeen → Bool
+settled_of served = served.settled
+
+abbrev pub rests_of : ServedSeen → Bool
+rests_of served = served.rests
+
 -- no link is left
 pub none_served : AreHalves [] (record { links = []; settled = true })
-none_served = record { match = tt; rising = omega arith; settled = refl; counted = refl }
+none_served = record { match = tt; rising = omega arith }
 
--- ---- something comes to all links, and is matched at once
+-- a step of what the links are, which puts no packet line
+pub seen_changed : (hs new_hs : List LinkSeen) (feeds new : FeedsSeen) (queued : ℕ) (rests : Bool) (now : ServedSeen) (links : List LinkSeen) → served_seen hs feeds queued rests ≡ now
+    → joined_all new_hs new.links ≡ links → put_in new.links ≡ put_in feeds.links → new.settled ≡ feeds.settled → served_seen new_hs new queued rests ≡ record now { links = links }
+seen_changed hs new_hs feeds new queued rests now links is changed put settled =
+    ap (λ (ls : List LinkSeen). record { links = ls; queued = more (put_in new.links) queued; settled = new.settled; rests = rests }) changed
+    ∙ ap (λ n. record { links = links; queued = more n queued; settled = new.settled; rests = rests }) put
+    ∙ ap (λ b. record { links = links; queued = more (put_in feeds.links) queued; settled = b; rests = rests }) settled
+    ∙ ap (λ (s : ServedSeen). record s { links = links }) is
+
+-- ---- something comes to all links
+
+-- as many more were put
+pub more_later : (n put queued : ℕ) → more (more n put) queued ≡ more n (more put queued)
+more_later n put queued =
+    let top = 2 ^ 64 - 1 in
+    let first : min (queued + min (put + n) top) top ≡ min (queued + (put + n)) top = ap (λ m. min m top) (let here : queued + min (put + n) top ≡ min (put + n) top + queued = omega arith in here) ∙ capped (put + n) queued top ∙ ap (λ m. min m top) (let here : put + n + queued ≡ queued + (put + n) = omega arith in here) in
+    first ∙ ap (λ m. min m top) (let here : queued + (put + n) ≡ queued + put + n = omega arith in here) ∙ sym (capped (queued + put) n top)
+
+pub none_later : (queued put : ℕ) → more 0 (more put queued) ≡ more put queued
+none_later queued put = sym (more_later 0 put queued) ∙ ap (λ n. more n queued) (let here : more 0 put ≡ min put (2 ^ 64 - 1) = ap (λ n. min n (2 ^ 64 - 1)) (let same : put + 0 ≡ put = omega arith in same) in here) ∙ more_small put queued
+  where
+    more_small : (put queued : ℕ) → more (min put (2 ^ 64 - 1)) queued ≡ more put queued
+    more_small put queued =
+        let top = 2 ^ 64 - 1 in
+        ap (λ m. min m top) (let here : queued + min put top ≡ min put top + queued = omega arith in here) ∙ capped put queued top ∙ ap (λ m. min m top) (let here : put + queued ≡ queued + put = omega arith in here)
+
+pub none_more : (hs : List LinkSeen) (feeds : FeedsSeen) (queued : ℕ) (rests : Bool) (now : ServedSeen) → served_seen hs feeds queued rests ≡ now → more 0 now.queued ≡ now.queued
+none_more hs feeds queued rests now view =
+    let is = ap (λ (s : ServedSeen). s.queued) view in ap (more 0) (sym is) ∙ none_later queued (put_in feeds.links) ∙ is
 
 -- after want of memory no link is left
-pub met_are : {E : Type 0} (r : Result ℕ E) (hs left_hs : List LinkSeen) (feeds left : FeedsSeen) (item : worker.ItemSeen) → AreHalves hs feeds
-    → ((h : LinkSeen) (s : worker.LinkSeen) → Matches h s → Matches h (after s item)) → OnOk r (left_hs ≡ hs) → OnOk r (left ≡ record feeds { links = map counted (met_by item feeds.links) })
+pub met_are : {E : Type 0} (r : Result ⊤ E) (hs left_hs : List LinkSeen) (feeds left : FeedsSeen) (item : worker.ItemSeen) → AreHalves hs feeds
+    → ((h : LinkSeen) (s : worker.LinkSeen) → Matches h s → Matches h (after s item)) → OnOk r (left_hs ≡ hs) → OnOk r (left.links ≡ met_by item feeds.links)
     → OnErr r ((left_hs ≡ []) × (left ≡ record { links = []; settled = true })) → AreHalves left_hs left
-met_are (Ok put) hs left_hs feeds left item are kept same met gone =
-    subst (λ ls. AreHalves ls left) (sym same)
-    (subst (AreHalves hs) (sym met) (record {
-      match = states_match counted counted_match hs (met_by item feeds.links) (states_match (λ s. after s item) kept hs feeds.links are.match);
+met_are (Ok done) hs left_hs feeds left item are kept same met gone =
+    subst (λ ls. AreHalves ls left) (sym same) (record {
+      match = subst (AllMatch hs) (sym met) (states_match (λ s. after s item) kept hs feeds.links are.match);
       rising = are.rising;
-      settled = are.settled;
-      counted = none_put (met_by item feeds.links);
-    }))
+    })
 met_are (Err e) hs left_hs feeds left item are kept same met gone = subst (λ ls. AreHalves ls left) (sym gone.0) (subst (AreHalves []) (sym gone.1) none_served)
 
-pub met_rises : {E : Type 0} (r : Result ℕ E) (hs left_hs now : List LinkSeen) (feeds left : FeedsSeen) → AreHalves hs feeds → AreHalves left_hs left → OnOk r (left_hs ≡ hs) → OnErr r ((left_hs ≡ []) × (left ≡ record { links = []; settled = true }))
+pub met_rest : {E : Type 0} (r : Result ⊤ E) (rests : Bool) (left_hs : List LinkSeen) (left : FeedsSeen) → OnOk r (left.settled ≡ rests) → OnErr r ((left_hs ≡ []) × (left ≡ record { links = []; settled = true }))
+    → rests ≡ true → left.settled ≡ true
+met_rest (Ok done) rests left_hs left settled gone rest = settled ∙ rest
+met_rest (Err e) rests left_hs left settled gone rest = ap (λ (f : FeedsSeen). f.settled) gone.1
+
+pub met_rises : {E : Type 0} (r : Result ⊤ E) (hs left_hs now : List LinkSeen) (feeds left : FeedsSeen) → AreHalves hs feeds → AreHalves left_hs left → OnOk r (left_hs ≡ hs) → OnErr r ((left_hs ≡ []) × (left ≡ record { links = []; settled = true }))
     → joined_all hs feeds.links ≡ now → (high : ℕ) → Rises 0 (numbers now) high → Rises 0 (numbers (joined_all left_hs left.links)) high
-met_rises (Ok put) hs left_hs now feeds left are left_are same gone is high rises =
+met_rises (Ok done) hs left_hs now feeds left are left_are same gone is high rises =
     subst (λ ns. Rises 0 ns high)
     (sym (numbers_same left_hs left.links left_are.match ∙ ap numbers same ∙ sym (numbers_same hs feeds.links are.match) ∙ ap numbers is))
     rises
 met_rises (Err e) hs left_hs now feeds left are left_are same gone is high rises =
     subst (λ ls. Rises 0 (numbers (joined_all ls left.links)) high) (sym gone.0) (omega arith)
 
-pub met_links : {E : Type 0} (r : Result ℕ E) (step : LinkSeen → LinkSeen) (hs left_hs now : List LinkSeen) (feeds left : FeedsSeen) (item : worker.ItemSeen)
-    → joined_all hs (met_by item feeds.links) ≡ map step (joined_all hs feeds.links) → OnOk r (left_hs ≡ hs) → OnOk r (left ≡ record feeds { links = map counted (met_by item feeds.links) })
-    → joined_all hs feeds.links ≡ now → OnOk r (joined_all left_hs left.links ≡ map step now)
-met_links (Ok put) step hs left_hs now feeds left item stepped same met is =
-    ap (λ ls. joined_all ls left.links) same
-    ∙ ap (λ (f : FeedsSeen). joined_all hs f.links) met
-    ∙ counted_all hs (met_by item feeds.links)
-    ∙ stepped
-    ∙ ap (map step) is
-met_links (Err e) step hs left_hs now feeds left item stepped same met is = tt
+pub met_seen : {E : Type 0} (r : Result ⊤ E) (step : LinkSeen → LinkSeen) (count : ServedSeen → ℕ) (hs left_hs : List LinkSeen) (feeds left : FeedsSeen) (item : worker.ItemSeen) (queued : ℕ) (rests : Bool) (now : ServedSeen)
+    → joined_all hs (met_by item feeds.links) ≡ map step (joined_all hs feeds.links) → more (put_in (met_by item feeds.links)) queued ≡ count (served_seen hs feeds queued rests)
+    → OnOk r (left_hs ≡ hs) → OnOk r (left.links ≡ met_by item feeds.links) → OnOk r (left.settled ≡ rests)
+    → served_seen hs feeds queued rests ≡ now → OnOk r (served_seen left_hs left queued rests ≡ record now { links = map step now.links; queued = count now; settled = now.rests })
+met_seen (Ok done) step count hs left_hs feeds left item queued rests now stepped counts same met settled is =
+    ap (λ ls. served_seen ls left queued rests) same
+    ∙ ap (λ (ls : List worker.LinkSeen). record { links = joined_all hs ls; queued = more (put_in ls) queued; settled = left.settled; rests = rests }) met
+    ∙ ap (λ b. record { links = joined_all hs (met_by item feeds.links); queued = more (put_in (met_by item feeds.links)) queued; settled = b; rests = rests }) settled
+    ∙ ap (λ (ls : List LinkSeen). record { links = ls; queued = more (put_in (met_by item feeds.links)) queued; settled = rests; rests = rests }) stepped
+    ∙ ap (λ m. record { links = map step (joined_all hs feeds.links); queued = m; settled = rests; rests = rests }) counts
+    ∙ ap (λ (s : ServedSeen). record s { links = map step s.links; queued = count s; settled = s.rests }) is
+met_seen (Err e) step count hs left_hs feeds left item queued rests now stepped counts same met settled is = tt
 
-pub met_put : {E : Type 0} (r : Result ℕ E) (takes : LinkSeen → Bool) (hs now : List LinkSeen) (feeds : FeedsSeen) (item : worker.ItemSeen)
-    → put_in (met_by item feeds.links) ≡ more (length (filter takes (joined_all hs feeds.links))) 0 → IfOk r (λ put. put ≡ put_in (met_by item feeds.links))
-    → joined_all hs feeds.links ≡ now → IfOk r (λ count. count ≡ more (length (filter takes now)) 0)
-met_put (Ok put) takes hs now feeds item counts is same = is ∙ counts ∙ ap (λ ls. more (length (filter takes ls)) 0) same
-met_put (Err e) takes hs now feeds item counts is same = tt
+-- all that came is matched
+pub settled_are : {E : Type 0} (r : Result ⊤ E) (hs left_hs : List LinkSeen) (feeds left : FeedsSeen) → AreHalves hs feeds → OnOk r (left_hs ≡ hs) → OnOk r (left ≡ record feeds { settled = true })
+    → OnErr r ((left_hs ≡ []) × (left ≡ record { links = []; settled = true })) → AreHalves left_hs left × (left.settled ≡ true)
+settled_are (Ok done) hs left_hs feeds left are same is gone =
+    (subst (λ ls. AreHalves ls left) (sym same) (subst (AreHalves hs) (sym is) (record { match = are.match; rising = are.rising })), ap (λ (f : FeedsSeen). f.settled) is)
+settled_are (Err e) hs left_hs feeds left are same is gone = (subst (λ ls. AreHalves ls left) (sym gone.0) (subst (AreHalves []) (sym gone.1) none_served), ap (λ (f : FeedsSeen). f.settled) gone.1)
+
+pub settled_seen : {E : Type 0} (r : Result ⊤ E) (hs left_hs : List LinkSeen) (feeds left : FeedsSeen) (queued : ℕ) (rests : Bool) (now : ServedSeen) → OnOk r (left_hs ≡ hs) → OnOk r (left ≡ record feeds { settled = true })
+    → served_seen hs feeds queued rests ≡ now → OnOk r (served_seen left_hs left queued rests ≡ record now { settled = true })
+settled_seen (Ok done) hs left_hs feeds left queued rests now same is view =
+    ap (λ ls. served_seen ls left queued rests) same ∙ ap (λ f. served_seen hs f queued rests) is ∙ ap (λ (s : ServedSeen). record s { settled = true }) view
+settled_seen (Err e) hs left_hs feeds left queued rests now same is view = tt
 
 -- a duplicate that is shown to nobody
 module _ (from : Source) (line : List ℕ) where
@@ -108,11 +158,9 @@ module _ (from : Source) (line : List ℕ) where
 -- ---- links that have met all that came
 
 -- all of them change
-pub fed_on : (g : worker.LinkSeen → worker.LinkSeen) → ((h : LinkSeen) (s : worker.LinkSeen) → Matches h s → Matches h (g s)) → ((s : worker.LinkSeen) → (g s).put ≡ s.put)
+pub fed_on : (g : worker.LinkSeen → worker.LinkSeen) → ((h : LinkSeen) (s : worker.LinkSeen) → Matches h s → Matches h (g s))
     → (hs : List LinkSeen) (feeds left : FeedsSeen) → AreHalves hs feeds → left ≡ record feeds { links = map g feeds.links } → AreHalves hs left
-fed_on g kept same hs feeds left are is =
-    subst (AreHalves hs) (sym is)
-    (record { match = states_match g kept hs feeds.links are.match; rising = are.rising; settled = are.settled; counted = put_kept g same feeds.links ∙ are.counted })
+fed_on g kept hs feeds left are is = subst (AreHalves hs) (sym is) (record { match = states_match g kept hs feeds.links are.match; rising = are.rising })
 
 pub forgotten_matches : (now : ℕ) (h : LinkSeen) (s : worker.LinkSeen) → Matches h s → Matches h (forgotten now s)
 forgotten_matches now h s m =
@@ -125,35 +173,50 @@ forgotten_same now h s =
     (λ (under : s.over ≡ false). rw under refl)
     (cases_Bool s.over)
 
--- some of them leave
-pub left_are : (ns : List ℕ) (hs left_hs : List LinkSeen) (feeds left : FeedsSeen) → AreHalves hs feeds → left_hs ≡ filter (is_none_of ns) hs → left ≡ record feeds { links = filter (is_other ns) feeds.links } → AreHalves left_hs left
-left_are ns hs left_hs feeds left are halves is =
+-- some of them leave, once what was put is counted
+pub left_are : (ns : List ℕ) (hs left_hs : List LinkSeen) (feeds counts left : FeedsSeen) → AreHalves hs feeds → left_hs ≡ filter (is_none_of ns) hs
+    → counts ≡ record feeds { links = map counted feeds.links } → left ≡ record counts { links = filter (is_other ns) counts.links } → AreHalves left_hs left
+left_are ns hs left_hs feeds counts left are halves put is =
     subst (λ ls. AreHalves ls left) (sym halves)
-    (subst (AreHalves (filter (is_none_of ns) hs)) (sym is) (record {
-      match = match_left ns hs feeds.links are.match;
+    (subst (AreHalves (filter (is_none_of ns) hs)) (sym is)
+    (subst (λ (f : FeedsSeen). AreHalves (filter (is_none_of ns) hs) (record f { links = filter (is_other ns) f.links })) (sym put) (record {
+      match = match_left ns hs (map counted feeds.links) (states_match counted counted_match hs feeds.links are.match);
       rising = rises_filter (is_none_of ns) 0 (2 ^ 32) hs are.rising;
-      settled = are.settled;
-      counted = put_left ns feeds.links are.counted;
-    }))
+    })))
 
-pub left_links : (ns : List ℕ) (hs left_hs now : List LinkSeen) (feeds left : FeedsSeen) → AreHalves hs feeds → left_hs ≡ filter (is_none_of ns) hs → left ≡ record feeds { links = filter (is_other ns) feeds.links }
-    → joined_all hs feeds.links ≡ now → joined_all left_hs left.links ≡ filter (is_none_of ns) now
-left_links ns hs left_hs now feeds left are halves is view =
-    ap (λ ls. joined_all ls left.links) halves
-    ∙ ap (λ (f : FeedsSeen). joined_all (filter (is_none_of ns) hs) f.links) is
-    ∙ joined_left ns hs feeds.links are.match
-    ∙ ap (filter (is_none_of ns)) view
+pub left_seen : (ns : List ℕ) (hs left_hs : List LinkSeen) (feeds counts left : FeedsSeen) (put queued total : ℕ) (rests : Bool) (now : ServedSeen) → AreHalves hs feeds → left_hs ≡ filter (is_none_of ns) hs
+    → put ≡ put_in feeds.links → counts ≡ record feeds { links = map counted feeds.links } → left ≡ record counts { links = filter (is_other ns) counts.links } → total ≡ min (queued + put) (2 ^ 64 - 1)
+    → served_seen hs feeds queued rests ≡ now → served_seen left_hs left total rests ≡ record now { links = filter (is_none_of ns) now.links }
+left_seen ns hs left_hs feeds counts left put queued total rests now are halves is_put counting is sum view =
+    let ss = map counted feeds.links in
+    let is_total : total ≡ more (put_in feeds.links) queued = sum ∙ ap (λ n. min (queued + n) (2 ^ 64 - 1)) is_put in
+    let none : put_in (filter (is_other ns) ss) ≡ 0 = put_left ns ss (none_put feeds.links) in
+    let match = states_match counted counted_match hs feeds.links are.match in
+    ap (λ ls. served_seen ls left total rests) halves
+    ∙ ap (λ f. served_seen (filter (is_none_of ns) hs) f total rests) is
+    ∙ ap (λ (f : FeedsSeen). served_seen (filter (is_none_of ns) hs) (record f { links = filter (is_other ns) f.links }) total rests) counting
+    ∙ ap (λ (ls : List LinkSeen). record { links = ls; queued = more (put_in (filter (is_other ns) ss)) total; settled = feeds.settled; rests = rests }) (joined_left ns hs ss match ∙ ap (filter (is_none_of ns)) (counted_all hs feeds.links))
+    ∙ ap (λ n. record { links = filter (is_none_of ns) (joined_all hs feeds.links); queued = more n total; settled = feeds.settled; rests = rests }) none
+    ∙ ap (λ n. record { links = filter (is_none_of ns) (joined_all hs feeds.links); queued = n; settled = feeds.settled; rests = rests }) (ap (more 0) is_total ∙ none_later queued (put_in feeds.links))
+    ∙ ap (λ (s : ServedSeen). record s { links = filter (is_none_of ns) s.links }) view
+
+pub none_there : (ns : List ℕ) → (length ns == 0) ≡ true → ns ≡ []
+none_there [] none = refl
+none_there (n ∷ ns) none = let is : length (n ∷ ns) ≡ 0 = eqb-true (length (n ∷ ns)) 0 none in absurd (omega (arith, is))
+
+-- where no number is named none leaves
+pub none_leaves : (links : List LinkSeen) → filter (is_none_of []) links ≡ links
+none_leaves [] = refl
+none_leaves (l ∷ links) = ap (λ ls. l ∷ ls) (none_leaves links)
 
 -- one more comes
-pub more_are : (hs left_hs : List LinkSeen) (feeds left : FeedsSeen) (h : LinkSeen) (s : worker.LinkSeen) (high : ℕ) → AreHalves hs feeds → Matches h s → s.put ≡ 0 → Rises 0 (numbers (joined_all hs feeds.links)) high → high < h.link
+pub more_are : (hs left_hs : List LinkSeen) (feeds left : FeedsSeen) (h : LinkSeen) (s : worker.LinkSeen) (high : ℕ) → AreHalves hs feeds → Matches h s → Rises 0 (numbers (joined_all hs feeds.links)) high → high < h.link
     → h.link < 2 ^ 32 → left_hs ≡ hs ++ h ∷ [] → left ≡ record feeds { links = feeds.links ++ s ∷ [] } → AreHalves left_hs left
-more_are hs left_hs feeds left h s high are new none rises above small halves is =
+more_are hs left_hs feeds left h s high are new rises above small halves is =
     subst (λ ls. AreHalves ls left) (sym halves)
     (subst (AreHalves (hs ++ h ∷ [])) (sym is) (record {
       match = match_push hs feeds.links h s are.match new;
       rising = rises_to 0 h.link (2 ^ 32) (numbers (hs ++ h ∷ [])) (rises_push 0 high hs h (subst (λ ns. Rises 0 ns high) (numbers_same hs feeds.links are.match) rises) above) (omega arith);
-      settled = are.settled;
-      counted = put_push feeds.links s none ∙ are.counted;
     }))
 
 pub more_links : (hs left_hs now : List LinkSeen) (feeds left : FeedsSeen) (h link : LinkSeen) (s : worker.LinkSeen) → AreHalves hs feeds → left_hs ≡ hs ++ h ∷ [] → left ≡ record feeds { links = feeds.links ++ s ∷ [] }
@@ -164,6 +227,9 @@ more_links hs left_hs now feeds left h link s are halves is new view =
     ∙ joined_push hs feeds.links h s are.match
     ∙ ap (λ l. joined_all hs feeds.links ++ l ∷ []) new
     ∙ ap (λ ls. ls ++ link ∷ []) view
+
+pub more_put : (feeds left : FeedsSeen) (s : worker.LinkSeen) → s.put ≡ 0 → left ≡ record feeds { links = feeds.links ++ s ∷ [] } → put_in left.links ≡ put_in feeds.links
+more_put feeds left s none is = ap (λ (f : FeedsSeen). put_in f.links) is ∙ put_push feeds.links s none
 
 -- ---- one of them changes
 
@@ -187,14 +253,20 @@ half_kept (x ∷ hs) (suc place) h at = ap (λ ls. x ∷ ls) (half_kept hs place
 
 module _ (hs : List LinkSeen) (feeds left : FeedsSeen) (are : AreHalves hs feeds) (place : ℕ) (h new : LinkSeen) (s t : worker.LinkSeen) (within : place < length hs) (at : h ≡ get_or hs place h)
     (there : s ≡ get_or feeds.links place s) (is : left ≡ record feeds { links = slice_set feeds.links place t }) where
-  pub changed_are : Matches new t → new.link ≡ h.link → t.put ≡ s.put → AreHalves (slice_set hs place new) left
-  changed_are matches same put =
+  pub changed_are : Matches new t → new.link ≡ h.link → AreHalves (slice_set hs place new) left
+  changed_are matches same =
       subst (AreHalves (slice_set hs place new)) (sym is) (record {
         match = match_set hs feeds.links place new t are.match matches;
         rising = subst (λ ns. Rises 0 ns (2 ^ 32)) (sym (map-set_same number_of hs place new h (same ∙ ap number_of at))) are.rising;
-        settled = are.settled;
-        counted = put_set feeds.links place t (λ d found. put ∙ ap (λ (x : worker.LinkSeen). x.put) (there ∙ same_there feeds.links place s d (omega (arith, as_many hs feeds.links are.match, within)) ∙ sym found)) ∙ are.counted;
       })
+
+  pub changed_settled : left.settled ≡ feeds.settled
+  changed_settled = ap (λ (f : FeedsSeen). f.settled) is
+
+  pub changed_put : t.put ≡ s.put → put_in left.links ≡ put_in feeds.links
+  changed_put put =
+      ap (λ (f : FeedsSeen). put_in f.links) is
+      ∙ put_set feeds.links place t (λ d found. put ∙ ap (λ (x : worker.LinkSeen). x.put) (there ∙ same_there feeds.links place s d (omega (arith, as_many hs feeds.links are.match, within)) ∙ sym found))
     where
       same_there : (ss : List worker.LinkSeen) (i : ℕ) (d e : worker.LinkSeen) → i < length ss → get_or ss i d ≡ get_or ss i e
       same_there [] i d e lt = absurd (omega arith)
@@ -228,18 +300,60 @@ module _ (number : ℕ) (hs searched : List LinkSeen) (feeds left : FeedsSeen) (
   fed : Matches half.0 (f state.0)
   fed = kept half.0 state.0 (match_at hs feeds.links place half.0 state.0 are.match within half.1 state.2)
 
-  pub told_are : ((s : worker.LinkSeen) → (f s).put ≡ s.put) → AreHalves hs left
-  told_are put =
+  pub told_are : AreHalves hs left
+  told_are =
       subst (λ ls. AreHalves ls left) (half_kept hs place half.0 half.1)
       (changed_are hs feeds left are place half.0 half.0 state.0 (told line (f state.0)) within half.1 state.2 (is state.0 state.1)
-      (told_matches half.0 (f state.0).link line (f state.0) fed) refl (told_uncounted half.0 (f state.0) fed (f state.0).link line ∙ put state.0))
+      (told_matches half.0 (f state.0).link line (f state.0) fed) refl)
 
-  pub told_links : (step : LinkSeen → LinkSeen) (now : List LinkSeen) → ((h : LinkSeen) (s : worker.LinkSeen) → with_text line (joined h (f s)) ≡ step (joined h s)) → joined_all hs feeds.links ≡ now
+  pub told_settled : left.settled ≡ feeds.settled
+  told_settled = changed_settled hs feeds left are place half.0 half.0 state.0 (told line (f state.0)) within half.1 state.2 (is state.0 state.1)
+
+  told_links : (step : LinkSeen → LinkSeen) (now : List LinkSeen) → ((h : LinkSeen) (s : worker.LinkSeen) → with_text line (joined h (f s)) ≡ step (joined h s)) → joined_all hs feeds.links ≡ now
       → joined_all hs left.links ≡ map (at_link number step) now
   told_links step now stepped view =
       ap (λ ls. joined_all ls left.links) (sym (half_kept hs place half.0 half.1))
       ∙ changed_links hs feeds left are place half.0 half.0 state.0 (told line (f state.0)) within half.1 state.2 (is state.0 state.1)
       number step now (found ∙ ap (position (has_that number)) same) (told_same half.0 (f state.0) fed line ∙ stepped half.0 state.0) view
+
+  pub told_seen : (step : LinkSeen → LinkSeen) → ((h : LinkSeen) (s : worker.LinkSeen) → with_text line (joined h (f s)) ≡ step (joined h s)) → ((s : worker.LinkSeen) → (f s).put ≡ s.put)
+      → (queued : ℕ) (rests : Bool) (now : ServedSeen) → served_seen hs feeds queued rests ≡ now → served_seen hs left queued rests ≡ record now { links = map (at_link number step) now.links }
+  told_seen step stepped put queued rests now view =
+      seen_changed hs hs feeds left queued rests now (map (at_link number step) now.links) view (told_links step now.links stepped (ap links_of view))
+      (changed_put hs feeds left are place half.0 half.0 state.0 (told line (f state.0)) within half.1 state.2 (is state.0 state.1) (told_uncounted half.0 (f state.0) fed (f state.0).link line ∙ put state.0))
+      told_settled
+
+-- both halves of the link of that number change
+module _ (number : ℕ) (hs searched : List LinkSeen) (feeds left : FeedsSeen) (are : AreHalves hs feeds) (place : ℕ) (same : searched ≡ hs) (found : Some place ≡ position (has_that number) searched)
+    (h new half : LinkSeen) (at : h ≡ get_or hs place h) (link : new.link ≡ h.link) (becomes : half ≡ new)
+    (f : worker.LinkSeen → worker.LinkSeen) (kept : (s : worker.LinkSeen) → Matches h s → Matches new (f s))
+    (is : (s : worker.LinkSeen) → slice_get feeds.links place ≡ Some s → left ≡ record feeds { links = slice_set feeds.links place (f s) }) where
+  here : place < length hs
+  here = within_halves number place hs searched same found
+
+  fed_there : (s : worker.LinkSeen) × (slice_get feeds.links place ≡ Some s) × (s ≡ get_or feeds.links place s)
+  fed_there = state_at feeds.links place (within_feeds place hs feeds are here)
+
+  matches : Matches h fed_there.0
+  matches = match_at hs feeds.links place h fed_there.0 are.match here at fed_there.2
+
+  pub both_are : AreHalves (slice_set hs place half) left
+  both_are =
+      subst (λ (x : LinkSeen). AreHalves (slice_set hs place x) left) (sym becomes)
+      (changed_are hs feeds left are place h new fed_there.0 (f fed_there.0) here at fed_there.2 (is fed_there.0 fed_there.1) (kept fed_there.0 matches) link)
+
+  pub both_settled : left.settled ≡ feeds.settled
+  both_settled = changed_settled hs feeds left are place h new fed_there.0 (f fed_there.0) here at fed_there.2 (is fed_there.0 fed_there.1)
+
+  pub both_seen : (step : LinkSeen → LinkSeen) → ((s : worker.LinkSeen) → Matches h s → joined new (f s) ≡ step (joined h s)) → ((s : worker.LinkSeen) → Matches h s → (f s).put ≡ s.put)
+      → (queued : ℕ) (rests : Bool) (now : ServedSeen) → served_seen hs feeds queued rests ≡ now → served_seen (slice_set hs place half) left queued rests ≡ record now { links = map (at_link number step) now.links }
+  both_seen step stepped put queued rests now view =
+      let s = fed_there.0 in
+      ap (λ (x : LinkSeen). served_seen (slice_set hs place x) left queued rests) becomes
+      ∙ seen_changed hs (slice_set hs place new) feeds left queued rests now (map (at_link number step) now.links) view
+      (changed_links hs feeds left are place h new s (f s) here at fed_there.2 (is s fed_there.1) number step now.links (found ∙ ap (position (has_that number)) same) (stepped s matches) (ap links_of view))
+      (changed_put hs feeds left are place h new s (f s) here at fed_there.2 (is s fed_there.1) (put s matches))
+      both_settled
 
 -- or none, where there is none of that number
 pub changed_nobody : (number : ℕ) (step : LinkSeen → LinkSeen) (hs now : List LinkSeen) (feeds : FeedsSeen) → AreHalves hs feeds → None ≡ position (has_that number) hs → joined_all hs feeds.links ≡ now
@@ -302,11 +416,11 @@ module _ (packet : PacketSeen) (source : SourcePlace) (hearers owed : List ℕ) 
       (λ h s asked m. heard_same h s m packet source hearers owed extra (ap (λ n. is_among n extra) m.link ∙ asked))
       hs ss listed all
 
-  pub shared_put : put_in ss ≡ 0 → put_in (met_by (Came (offer_of packet source extra)) ss) ≡ more (length (filter (takes_packet packet source hearers owed) (joined_all hs ss))) 0
-  shared_put none =
+  pub shared_put : put_in (met_by (Came (offer_of packet source extra)) ss) ≡ more (length (filter (takes_packet packet source hearers owed) (joined_all hs ss))) (put_in ss)
+  shared_put =
       put_changed (λ s. after s (Came (offer_of packet source extra))) (λ h. is_among h.link extra ≡ asks h) (takes_packet packet source hearers owed)
       (λ h s asked m. heard_counted h s m packet source hearers owed extra (ap (λ n. is_among n extra) m.link ∙ asked))
-      hs ss listed all none
+      hs ss listed all
 
 -- ---- a duplicate is refused
 
@@ -314,10 +428,13 @@ module _ (packet : PacketSeen) (hs : List LinkSeen) (ss : List worker.LinkSeen) 
   pub shown_links : joined_all hs (met_by (Came (refused_of packet)) ss) ≡ map (with_shown packet.from packet.line) (joined_all hs ss)
   shown_links = states_changed (λ s. after s (Came (refused_of packet))) (λ h. h ≡ h) (with_shown packet.from packet.line) (λ h s same m. shown_same h s m packet) hs ss (any_half hs) all
 
-  pub shown_put : put_in ss ≡ 0 → put_in (met_by (Came (refused_of packet)) ss) ≡ more (length (filter (takes_shown packet.from) (joined_all hs ss))) 0
-  shown_put none = put_changed (λ s. after s (Came (refused_of packet))) (λ h. h ≡ h) (takes_shown packet.from) (λ h s same m. shown_counted h s m packet) hs ss (any_half hs) all none
+  pub shown_put : put_in (met_by (Came (refused_of packet)) ss) ≡ more (length (filter (takes_shown packet.from) (joined_all hs ss))) (put_in ss)
+  shown_put = put_changed (λ s. after s (Came (refused_of packet))) (λ h. h ≡ h) (takes_shown packet.from) (λ h s same m. shown_counted h s m packet) hs ss (any_half hs) all
 
 -- ---- the clients are told the date
 
 pub dated_links : (line : List ℕ) (hs : List LinkSeen) (ss : List worker.LinkSeen) → AllMatch hs ss → joined_all hs (met_by (ToldAll line) ss) ≡ map (with_date line) (joined_all hs ss)
 dated_links line hs ss all = states_changed (λ s. after s (ToldAll line)) (λ h. h ≡ h) (with_date line) (λ h s same m. date_same h s m line) hs ss (any_half hs) all
+
+pub dated_put : (line : List ℕ) (hs : List LinkSeen) (ss : List worker.LinkSeen) → AllMatch hs ss → put_in (met_by (ToldAll line) ss) ≡ put_in ss
+dated_put line hs ss all = put_kept (λ s. after s (ToldAll line)) (λ h s m. date_uncounted h s m line) hs ss all

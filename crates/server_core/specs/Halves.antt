@@ -1,13 +1,28 @@
--- What is true of the links that are served, whose halves are kept side by side.
-use Rattle.std.specs.Prelude.{◌≡◌, ◌^◌, List, true}
+-- The links that are served, whose halves are kept side by side.
+use Rattle.std.specs.Prelude.{ℕ, ◌^◌, Bool, List}
 use Rattle.aprs_history.specs.Stands.{LinkSeen}
 use Rattle.link_feeds.specs.Feeds.{FeedsSeen, put_in}
-use Rattle.server_core.specs.Fed.{AllMatch}
-use Rattle.server_core.specs.LinkSteps.{Rises, numbers}
+use Rattle.server_core.specs.Fed.{AllMatch, joined_all}
+use Rattle.server_core.specs.LinkSteps.{Rises, more, numbers}
 
--- they stand in the order of their numbers, all that came to them is matched, and what was put is counted
+-- the links as what came leaves them, matched or not; how many packet lines were ever put into queues; whether all that came is
+-- matched; and whether they rest, since no round is walked
+pub record ServedSeen : Type 0 where
+  pub links : List LinkSeen
+  pub queued : ℕ
+  pub settled : Bool
+  pub rests : Bool
+
+-- what was counted so far, and what wasn't yet
+abbrev pub served_seen : List LinkSeen → FeedsSeen → ℕ → Bool → ServedSeen
+served_seen halves feeds queued rests = record {
+  links = joined_all halves feeds.links;
+  queued = more (put_in feeds.links) queued;
+  settled = feeds.settled;
+  rests = rests;
+}
+
+-- the halves stand in the order of their numbers
 pub record AreHalves (halves : List LinkSeen) (feeds : FeedsSeen) : Type 0 where
   pub match : AllMatch halves feeds.links
   pub rising : Rises 0 (numbers halves) (2 ^ 32)
-  pub settled : feeds.settled ≡ true
-  pub counted : put_in feeds.links ≡ 0

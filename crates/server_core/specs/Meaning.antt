@@ -1,5 +1,5 @@
--- The core as contracts see it: its configuration, and what it keeps.
-use Rattle.std.specs.Prelude.{◌≡◌, List, [], ◌∷◌, ◌++◌, map, Option, Some, None, if◌then◌else◌}
+-- The core as contracts see it: its configuration, what it keeps, and whether it rests, since no round is walked.
+use Rattle.std.specs.Prelude.{◌≡◌, Bool, List, [], ◌∷◌, ◌++◌, map, Option, Some, None, if◌then◌else◌}
 use Rattle.aprs_base.specs.declared.packets.ListenSpec.{ListenSpec}
 use Rattle.aprs_base.specs.declared.packets.PortKind.TheVariants as kind
 use Rattle.aprs_base.specs.declared.texts.Addr.{Addr}
@@ -48,6 +48,7 @@ timeouts_of conf = record { client = conf.client_timeout; uplink = conf.up_timeo
 pub record CoreMeaning : Type 0 where
   pub conf : ConfSeen
   pub seen : CoreSeen
+  pub rests : Bool
 
 -- the core stands for a history
 abbrev pub Stands : CoreMeaning → History → Type 0

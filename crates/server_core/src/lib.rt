@@ -3,6 +3,7 @@
 
 mod acts;
 mod conf;
+mod cores;
 mod link;
 mod links;
 mod logins;
@@ -14,4 +15,4 @@ mod server;
 mod telling;
 
 pub use acts::{Acts, CastOut};
-pub use server::Core;
+pub use cores::Core;

@@ -153,6 +153,13 @@ impl Link {
         Ok(())
     }
 
+    /// A copy of its cutter.
+    pub fn cutter(&self) -> Cutter
+        ensures { result ≡ self.now.held }
+    {
+        self.cutter.clone().unwrap()
+    }
+
     /// The link has logged in: what it is fed from then on.
     pub fn log_in(&mut self, session: Session) -> Feed
         requires { IsTrue (is_station session.call) }

@@ -17,7 +17,7 @@ ghost use Rattle.worker_match.specs.Walk.{IsOrdered};
 
 use crate::link::{Link, SourcePlace, Timeouts};
 use crate::messages::is_message;
-use aprs_base::{Cut, Memory, Packet, Shared, Source};
+use aprs_base::{Cut, Cutter, Memory, Packet, Shared, Source};
 use line_verdict::Voice;
 use std::alloc::Global;
 use worker_match::Item;
@@ -28,6 +28,17 @@ pub(crate) fn place_of(links: &[Link], number: u32) -> Option<usize>
     ensures { result ≡ position (has_that number) links.now }
 {
     links.binary_search_by_key(&number, |link| link.number).ok()
+}
+
+/// A copy of that link's cutter.
+pub(crate) fn cutter_at(links: &[Link], number: u32) -> Option<Cutter>
+    requires { Rises 0 (numbers links.now) (2 ^ 32) }
+    ensures { result ≡ held_at number links.now }
+{
+    match place_of(links, number) {
+        Some(place) => Some(links[place].cutter()),
+        None => None,
+    }
 }
 
 /// The link has room again.

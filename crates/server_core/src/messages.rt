@@ -106,7 +106,7 @@ pub(crate) fn owed_to(
 
 /// Whether a link may be promised the next position of a sender from elsewhere.
 fn may_promise(links: &Served, from: &Source, link: u32) -> bool
-    ensures { result ≡ may_promise links.now from.now link }
+    ensures { result ≡ may_promise links.now.links from.now link }
 {
     !is_from(link, from) && links.has_filters_at(link)
 }
@@ -121,7 +121,7 @@ fn promise_one(
     now: u64,
     link: u32,
 ) -> Result<(), Memory>
-    ensures { OnOk result (heard.new ≡ promised_one links.now from.now sender.now now link heard.old) }
+    ensures { OnOk result (heard.new ≡ promised_one links.now.links from.now sender.now now link heard.old) }
 {
     if may_promise(links, from, link) {
         heard.promise(alloc, link, sender, now)?;
@@ -139,7 +139,7 @@ pub(crate) fn promise_all(
     now: u64,
     hearers: &[u32],
 ) -> Result<(), Memory>
-    ensures { OnOk result (heard.new ≡ promised_all links.now from.now sender.now now hearers.now heard.old) }
+    ensures { OnOk result (heard.new ≡ promised_all links.now.links from.now sender.now now hearers.now heard.old) }
 {
     for link in hearers {
         promise_one(alloc, heard, links, from, sender, now, *link)?;
@@ -156,7 +156,7 @@ pub(crate) fn note_from(
     call: &Call,
     now: u64,
 ) -> Result<(), Memory>
-    ensures { OnOk result (heard.new ≡ noted_from links.now from.now call.now now heard.old) }
+    ensures { OnOk result (heard.new ≡ noted_from links.now.links from.now call.now now heard.old) }
 {
     match from {
         Source::Link(number) if links.is_client_at(*number) => {

@@ -88,7 +88,7 @@ impl Reach {
 
     /// A link brought bytes, where it is there.
     pub fn hear_at(&mut self, links: &Served, link: u32, now: u64)
-        ensures { self.new ≡ (if has_number link links.now then record self.old { uplinks = uplinks_after (up.Heard link) now self.old.uplinks } else self.old) }
+        ensures { self.new ≡ (if has_number link links.now.links then record self.old { uplinks = uplinks_after (up.Heard link) now self.old.uplinks } else self.old) }
     {
         if links.has_link(link) {
             self.uplinks.step(UpEvent::Heard(link), now);
@@ -97,7 +97,7 @@ impl Reach {
 
     /// A link ended, where it was there.
     pub fn end_at(&mut self, links: &Served, link: u32, now: u64)
-        ensures { self.new ≡ (if has_number link links.now then record self.old { uplinks = uplinks_after (up.Ended link) now self.old.uplinks } else self.old) }
+        ensures { self.new ≡ (if has_number link links.now.links then record self.old { uplinks = uplinks_after (up.Ended link) now self.old.uplinks } else self.old) }
     {
         if links.has_link(link) {
             self.end(link, now);

@@ -1,19 +1,18 @@
-//! The core: it takes a round of events, and says what is to be done.
+//! What a core keeps, and the walk over a round's events.
 ghost use Rattle.std.specs.Prelude.{◌≡◌, ◌∷◌, ◌++◌, [], ◌≤◌, ℕ, IsTrue, IfOk, OnOk, List, length, false, true, min, take};
 ghost use Rattle.aprs_base.specs.Bytes.{is_station};
 ghost use Rattle.aprs_conf.specs.Sound.{IsGroup};
 ghost use Rattle.aprs_history.specs.Stands.{reach_of};
 ghost use Rattle.aprs_history.specs.History.{History, trace_of};
-ghost use Rattle.aprs_history.specs.Counts.{totals_of};
 ghost use Rattle.aprs_history.specs.Journal.{round_lines};
 ghost use Rattle.aprs_history.specs.Rounds.{AreFresh, greatest_after, is_whole, only_listens, stopped_after, with_events};
-ghost use Rattle.aprs_history.specs.Texts.{untaken};
 ghost use Rattle.server_core.specs.LinkSteps.{AreServed, Rises, has_number, more, numbers, pending_at};
 ghost use Rattle.aprs_base.specs.declared.events.Happening.{Happening};
 ghost use Rattle.aprs_base.specs.declared.events.Sent.{Sent};
 ghost use Rattle.server_core.specs.Meaning.{AreActs, Stands, numbered, setting_of};
 ghost use Rattle.server_core.specs.Steps.{SameRest};
 
+mod ahead;
 mod answers;
 mod datagrams;
 mod endings;
@@ -29,10 +28,11 @@ use crate::acts::Acts;
 use crate::conf::uplink_timeout;
 use crate::reach::Reach;
 use crate::served::Served;
-use aprs_base::{Event, JournalLine, Memory, Totals};
+use aprs_base::{Event, Gate, JournalLine, Memory, Totals};
 use aprs_conf::Conf;
 use dupe_window::Window;
 use heard_routing::Heard;
+use parsed_lines::Ahead;
 use station_table::Stations;
 use std::alloc::Global;
 use std::hash::RandomState;
@@ -61,9 +61,17 @@ fn raised(count: u64, n: u64) -> u64
     count.saturating_add(n)
 }
 
-/// The core of a server.
+/// What was counted since the core was made, beside what was put into queues.
 #[derive(Drop)]
-pub struct Core {
+struct Counts {
+    accepted: u64,
+    duplicate: u64,
+    refused: u64,
+}
+
+/// What a core keeps. In the middle of a round, when it doesn't rest, what came to the links may wait to be matched.
+#[derive(Drop)]
+pub(crate) struct Walker {
     conf: Conf,
     moment: u64,
     links: Served,
@@ -80,41 +88,36 @@ pub struct Core {
     reach: Reach,
     greatest: u32,
     stopped: bool,
-    totals: Totals,
+    counts: Counts,
+    /// The lines of the round, parsed before it is walked.
+    ahead: Ahead,
+    hasher: RandomState,
 }
 
-impl Model for Core {
+impl Model for Walker {
     ghost use Rattle.server_core.specs.Meaning.{CoreMeaning};
     ghost use Rattle.server_core.specs.Kept.{IsKept};
 
     ghost Value = { CoreMeaning };
 
-    ghost view = { λ c. record { conf = c.conf; seen = record { moment = c.moment; links = c.links; turned = c.turned.items; closing = c.closing.items; window = c.window; stations = c.stations; heard = c.heard; reach = c.reach; greatest = c.greatest; stopped = c.stopped; totals = c.totals } } };
+    ghost view = { λ c. record { conf = c.conf; seen = record { moment = c.moment; links = c.links.links; turned = c.turned.items; closing = c.closing.items; window = c.window; stations = c.stations; heard = c.heard; reach = c.reach; greatest = c.greatest; stopped = c.stopped; totals = record { accepted = c.counts.accepted; duplicate = c.counts.duplicate; refused = c.counts.refused; queued = c.links.queued } }; rests = c.links.rests } };
 
-    ghost invariant = { λ c. IsKept (record { conf = c.conf; seen = record { moment = c.moment; links = c.links; turned = c.turned.items; closing = c.closing.items; window = c.window; stations = c.stations; heard = c.heard; reach = c.reach; greatest = c.greatest; stopped = c.stopped; totals = c.totals } }) };
+    ghost invariant = { λ c. IsKept (record { conf = c.conf; seen = record { moment = c.moment; links = c.links.links; turned = c.turned.items; closing = c.closing.items; window = c.window; stations = c.stations; heard = c.heard; reach = c.reach; greatest = c.greatest; stopped = c.stopped; totals = record { accepted = c.counts.accepted; duplicate = c.counts.duplicate; refused = c.counts.refused; queued = c.links.queued } }; rests = c.links.rests }) };
 }
 
-impl Core {
-    /// A core for this configuration and this many workers, which have no effect yet. It stands for the history of its
-    /// listeners alone.
-    pub fn new(
-        alloc: Global,
-        hasher: &RandomState,
-        conf: Conf,
-        _workers: u32,
-    ) -> Result<Core, Memory>
-        requires some { 1 ≤ _workers }
-        requires most { _workers ≤ 64 }
+impl Walker {
+    /// For this configuration. It stands for the history of its listeners alone.
+    pub fn new(alloc: Global, hasher: &RandomState, conf: Conf) -> Result<Walker, Memory>
         requires listens { length (numbered conf.listens) ≤ 16 }
         requires station { IsTrue (is_station conf.server) }
         requires uplinks { length conf.uplinks ≤ 8 }
         requires peers { IsGroup conf.group conf.peers }
         ensures conf { IfOk result (λ core. core.conf ≡ conf) }
         ensures stands { IfOk result (λ core. Stands core (only_listens (setting_of conf))) }
-        ensures fresh { IfOk result (λ core. (core.seen.greatest ≡ 0) × (core.seen.stopped ≡ false)) }
+        ensures fresh { IfOk result (λ core. (core.seen.greatest ≡ 0) × (core.seen.stopped ≡ false) × (core.rests ≡ true)) }
     {
         let reach = reach_for(alloc, &conf);
-        Ok(Core {
+        Ok(Walker {
             conf,
             moment: 0,
             links: Served::new(alloc),
@@ -126,12 +129,13 @@ impl Core {
             reach,
             greatest: 0,
             stopped: false,
-            totals: Totals {
+            counts: Counts {
                 accepted: 0,
                 duplicate: 0,
                 refused: 0,
-                queued: 0,
             },
+            ahead: Ahead::none(alloc),
+            hasher: *hasher,
         })
     }
 
@@ -172,27 +176,36 @@ impl Core {
 
     /// What it has counted since it was made.
     pub fn totals(&self) -> Totals
-        ensures kept { result ≡ self.now.seen.totals }
-        ensures counts { (h : History) → Stands self.now h → result ≡ totals_of (setting_of self.now.conf) (trace_of (setting_of self.now.conf) h) }
+        requires { self.now.rests ≡ true }
+        ensures { result ≡ self.now.seen.totals }
     {
-        self.totals
+        Totals {
+            accepted: self.counts.accepted,
+            duplicate: self.counts.duplicate,
+            refused: self.counts.refused,
+            queued: self.links.queued(),
+        }
     }
 
-    /// Takes one whole round of events, and says what is to be done. The lines that the round has for the journals come
-    /// after those that are there. After `Memory` the core is spent.
-    pub fn round<R: Threads + Sync>(
+    /// Takes one whole round of events, and says what is to be done. What comes to the links is matched by at most so many
+    /// workers, each part of them through the gate. The lines that the round has for the journals come after those that are there.
+    pub fn round<R: Threads + Sync, G: Gate + Sync>(
         &mut self,
-        _rt: &R,
+        rt: &R,
         alloc: Global,
         events: &[Event],
         lines: &mut Vec<JournalLine>,
+        workers: u32,
+        gate: &G,
     ) -> Result<Acts, Memory>
+        requires workers { (1 ≤ workers) × (workers ≤ 64) }
         requires whole { is_whole 0 events.now ≡ true }
         requires fresh { AreFresh self.old.seen.greatest events.now }
         requires going { self.old.seen.stopped ≡ false }
         ensures conf { OnOk result (self.new.conf ≡ self.old.conf) }
         ensures greatest { OnOk result (self.new.seen.greatest ≡ greatest_after events.now self.old.seen.greatest) }
         ensures stopped { OnOk result (self.new.seen.stopped ≡ stopped_after events.now false) }
+        ensures rests { OnOk result (self.new.rests ≡ true) }
         ensures done { IfOk result (λ acts. acts.done ≡ self.new.seen.stopped) }
         ensures rising { IfOk result (λ acts. Rises 0 acts.offers self.new.seen.greatest) }
         ensures served { IfOk result (λ acts. AreServed acts.offers self.new.seen.links) }
@@ -205,24 +218,16 @@ impl Core {
     {
         self.tell_lost(lines)?;
         self.begin(alloc)?;
-        self.walk(alloc, events, lines)?;
-        self.finish(alloc, events, lines)?;
+        self.look_ahead(rt, alloc, events)?;
+        self.walk(rt, alloc, events, lines, workers, gate)?;
+        self.finish(rt, alloc, events, lines, workers, gate)?;
         self.acts(alloc)
     }
 
     /// Writes the next bytes that the link has still to take, as many as there are and as fit, at most 65,536, and says
     /// how many.
     pub fn offer(&self, link: u32, out: &mut [u8]) -> usize
-        requires served { IsTrue (has_number link self.now.seen.links) }
-        ensures count { result ≡ min (min (length out.old) 65536) (length (pending_at link self.now.seen.links)) }
-        ensures bytes { take result out.new ≡ take (min (length out.old) 65536) (pending_at link self.now.seen.links) }
-        ensures next { (h : History) → Stands self.now h
-            → take result out.new ≡ take (min (length out.old) 65536) (untaken (setting_of self.now.conf) (trace_of (setting_of self.now.conf) h) link) }
-    {
-        self.next_bytes(link, out)
-    }
-
-    fn next_bytes(&self, link: u32, out: &mut [u8]) -> usize
+        requires { self.now.rests ≡ true }
         ensures count { result ≡ min (min (length out.old) 65536) (length (pending_at link self.now.seen.links)) }
         ensures bytes { take result out.new ≡ take (min (length out.old) 65536) (pending_at link self.now.seen.links) }
     {
@@ -235,9 +240,11 @@ impl Core {
         requires part { n ≤ offered }
         requires small { offered ≤ 65536 }
         requires pending { offered ≤ length (pending_at link self.old.seen.links) }
+        requires rests { self.old.rests ≡ true }
         ensures stands { (h : History) (bytes : List ℕ) → length bytes ≡ offered → Stands self.old h → Stands self.new (Happening.Sent link bytes (Sent.Took n) ∷ h) }
         ensures numbers { numbers self.new.seen.links ≡ numbers self.old.seen.links }
         ensures rest { SameRest self.old self.new }
+        ensures rests { self.new.rests ≡ self.old.rests }
     {
         self.links.take(link, offered, n);
     }
@@ -247,7 +254,15 @@ impl Core {
         ensures stands { (h : History) (bytes : List ℕ) → Stands self.old h → Stands self.new (Happening.Sent link bytes Sent.Gone ∷ h) }
         ensures numbers { numbers self.new.seen.links ≡ numbers self.old.seen.links }
         ensures rest { SameRest self.old self.new }
+        ensures rests { self.new.rests ≡ self.old.rests }
     {
         self.links.lose(link);
+    }
+
+    /// Nothing is said of it any more, but that it rests.
+    pub fn give_up(&mut self)
+        ensures { self.new.rests ≡ true }
+    {
+        self.links.clear();
     }
 }

@@ -7,7 +7,9 @@ ghost use Rattle.aprs_history.specs.History.{is_round_event};
 ghost use Rattle.aprs_history.specs.Rounds.{AreFresh, is_whole};
 ghost use Rattle.server_core.specs.Meaning.{numbered};
 
-use aprs_base::{Addr, Call, Chunk, Event, JournalLine, ListenSpec, PortKind, Text, UplinkSpec};
+use aprs_base::{
+    Addr, Call, Chunk, Event, JournalLine, ListenSpec, OpenGate, PortKind, Text, UplinkSpec,
+};
 use aprs_conf::{Conf, Listen, PeerSpec};
 use arrayvec::ArrayVec;
 use server_core::{Acts, Core};
@@ -207,7 +209,8 @@ pub(crate) fn round<R: Threads + Sync + Abort>(
     lines: &mut Vec<JournalLine>,
 ) -> Acts {
     check_round(rt, core, events);
-    core.round(rt, alloc, events, lines).expect(rt, "memory")
+    core.round(rt, alloc, events, lines, &OpenGate)
+        .expect(rt, "memory")
 }
 
 fn is_wanted(bytes: &[u8], want: Option<&[u8]>) -> bool {

@@ -15,6 +15,8 @@ mod journals;
 #[cfg(test)]
 mod logins;
 #[cfg(test)]
+mod many;
+#[cfg(test)]
 mod messages;
 #[cfg(test)]
 mod network;

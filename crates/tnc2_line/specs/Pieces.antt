@@ -16,7 +16,7 @@ Gives view (Ok x) read = read ≡ Ok (view x)
 Gives view (Err fault) read = read ≡ Err fault
 
 -- what a call left, where it gave no fault, is what the definition gives
-abbrev pub Fills : {X Y : Type 0} → Result X LineFault → Y → Result Y LineFault → Type 0
+abbrev pub Fills : {X Y E : Type 0} → Result X E → Y → Result Y E → Type 0
 Fills (Ok _) left read = read ≡ Ok left
 Fills (Err fault) left read = read ≡ Err fault
 

@@ -10,7 +10,7 @@ item_seen (item.Text link line) = Told link (arc_value line)
 item_seen (item.All line) = ToldAll (arc_value line)
 item_seen (item.End link) = Ended link
 item_seen (item.Session link feed me filter friends mine) =
-    Became (record { link = link; feed = feed; me = me; filter = option_map arc_value filter; friends = friends; mine = mine })
+    Became (record { link = link; feed = feed; me = me; filter = option_map arc_value filter; friends = friends.value; mine = mine })
 item_seen (item.Packet packet dupe submitted known gate extra) =
     Came (record { packet = arc_value packet; dupe = dupe; submitted = submitted; known = known; gate = gate; extra = extra.items })
 

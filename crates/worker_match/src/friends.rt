@@ -19,14 +19,12 @@ fn names(call: &Call, what: &What) -> bool
     }
 }
 
-/// Where a term's call was last seen, once a station was seen.
-fn friend_seen(call: &Call, seen: Seen, term: &Term, friend: Option<Seen>) -> Option<Seen>
-    ensures { result ≡ friend_seen call.now seen term.now friend }
+/// A station was seen: so was a term's call, where it is that.
+fn see_one(call: &Call, seen: Seen, term: &Term, friend: &mut Option<Seen>)
+    ensures { friend.new ≡ friend_seen call.now seen term.now friend.old }
 {
     if names(call, &term.what) {
-        Some(seen)
-    } else {
-        friend
+        *friend = Some(seen);
     }
 }
 
@@ -35,7 +33,7 @@ fn see_each(call: &Call, seen: Seen, terms: &[Term], friends: &mut [Option<Seen>
     ensures many { length friends.new ≡ length friends.old }
 {
     for place in 0..terms.len().min(friends.len()) {
-        friends[place] = friend_seen(call, seen, &terms[place], friends[place]);
+        see_one(call, seen, &terms[place], &mut friends[place]);
     }
 }
 
@@ -52,17 +50,12 @@ pub(crate) fn see_friends(call: &Call, seen: Seen, filter: &FilterSet, friends: 
 }
 
 /// The same of a link's own login.
-pub(crate) fn see_mine(
-    call: &Call,
-    seen: Seen,
-    me: &Option<Call>,
-    mine: Option<Seen>,
-) -> Option<Seen>
-    ensures { result ≡ mine_seen call.now seen me.now mine }
+pub(crate) fn see_mine(call: &Call, seen: Seen, me: &Option<Call>, mine: &mut Option<Seen>)
+    ensures { mine.new ≡ mine_seen call.now seen me.now mine.old }
 {
     match me {
-        Some(own) if own == call => Some(seen),
-        _ => mine,
+        Some(own) if own == call => *mine = Some(seen),
+        _ => {}
     }
 }
 

@@ -28,7 +28,7 @@ pub enum Item {
         feed: Feed,
         me: Option<Call>,
         filter: Option<Arc<FilterSet>>,
-        friends: Friends,
+        friends: Box<Friends>,
         mine: Option<Seen>,
     },
     /// A packet, or a duplicate that is refused.

@@ -31,7 +31,7 @@ pub enum Feed {
     Filter,
 }
 
-/// A link: what it is fed, and the lines that it has still to take.
+/// A link: what it is fed, and the lines that it has still to take. What every walk over items needs stands first.
 #[derive(Drop)]
 pub struct LinkState {
     pub link: u32,
@@ -41,15 +41,16 @@ pub struct LinkState {
     pub alive: bool,
     /// A line didn't fit into the queue: nothing changes the link any more.
     pub over: bool,
+    /// How many packet lines were put into the queue. It stays at its greatest value.
+    pub put: u64,
+    pub queue: Queue,
     /// Its login.
     pub me: Option<Call>,
     pub filter: Option<Arc<FilterSet>>,
-    /// Where the calls of the filter's terms were last seen, and its own login.
-    pub friends: Friends,
+    /// Where the calls of the filter's terms were last seen. They take far more room than the rest, so they stand apart.
+    pub friends: Box<Friends>,
+    /// Where its own login was last seen.
     pub mine: Option<Seen>,
-    pub queue: Queue,
-    /// How many packet lines were put into the queue. It stays at its greatest value.
-    pub put: u64,
 }
 
 impl Model for LinkState {
@@ -67,7 +68,7 @@ impl Model for LinkState {
       over = l.over;
       me = l.me;
       filter = option_map arc_value l.filter;
-      friends = l.friends;
+      friends = l.friends.value;
       mine = l.mine;
       queue = l.queue;
       put = l.put;
@@ -111,7 +112,7 @@ impl LinkState {
                 offer.packet,
                 &self.friends,
                 self.mine,
-                offer.known,
+                *offer.known,
                 offer.gate,
             ),
             None => false,
@@ -166,7 +167,7 @@ impl LinkState {
         if let Some(filter) = &self.filter {
             see_friends(call, seen, filter, &mut self.friends);
         }
-        self.mine = see_mine(call, seen, &self.me, self.mine);
+        see_mine(call, seen, &self.me, &mut self.mine);
     }
 
     /// Meets a packet: takes its line, where it wants it, and sees where its source is.
@@ -229,7 +230,7 @@ impl LinkState {
             self.filter = copy_filter(filter)?;
             self.feed = feed;
             self.me = copy_login(me);
-            self.friends = copy_friends(friends);
+            *self.friends = copy_friends(friends);
             self.mine = mine;
         }
         Ok(())
@@ -280,7 +281,7 @@ impl LinkState {
                 packet,
                 dupe: *dupe,
                 submitted: *submitted,
-                known: *known,
+                known,
                 gate: *gate,
                 extra: extra.as_slice(),
             }),

@@ -15,7 +15,7 @@ pub(crate) struct Offer<'a> {
     pub packet: &'a Packet,
     pub dupe: bool,
     pub submitted: bool,
-    pub known: Option<Seen>,
+    pub known: &'a Option<Seen>,
     pub gate: bool,
     pub extra: &'a [u32],
 }
@@ -29,7 +29,7 @@ impl<'a> Model for Offer<'a> {
       packet = o.packet.now;
       dupe = o.dupe;
       submitted = o.submitted;
-      known = o.known;
+      known = o.known.now;
       gate = o.gate;
       extra = o.extra.now;
     } };

@@ -36,7 +36,7 @@ fn link(alloc: Global, number: u32, feed: Feed, filter: &str) -> Result<LinkStat
         alive: true,
         over: false,
         me: None,
-        friends: nowhere(filter.terms.len()),
+        friends: Box::new(alloc, nowhere(filter.terms.len()))?,
         filter: Some(Arc::new(alloc, filter)?),
         mine: None,
         queue: Queue::with_limit(alloc, 2)?,
@@ -218,7 +218,7 @@ fn item<R: Abort>(rt: &R, alloc: Global, step: Step) -> Result<Item, Fail>
             feed: Feed::Nothing,
             me: None,
             filter: None,
-            friends: nowhere(0),
+            friends: Box::new(alloc, nowhere(0))?,
             mine: None,
         }),
     }

@@ -37,13 +37,14 @@ fn most_parts(links: usize, workers: u32) -> u32
     }
 }
 
-/// How many links the first `parts` of the workers' parts have.
+/// How many links the first `parts` of the workers' parts have: their share, rounded down.
 fn front_size(links: usize, parts: u32, workers: u32) -> usize
     requires { (1 ≤ workers) × (workers ≤ 64) × (parts ≤ workers) }
-    ensures exact { result ≡ links / workers * parts }
+    ensures exact { result ≡ links * parts / workers }
     ensures within { result ≤ links }
 {
-    links / workers as usize * parts as usize
+    let (parts, workers) = (parts as usize, workers as usize);
+    links / workers * parts + links % workers * parts / workers
 }
 
 /// The parts from `part` on, one for each worker.

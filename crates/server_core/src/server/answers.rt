@@ -9,7 +9,7 @@ ghost use Rattle.server_core.specs.LinkSteps.{after_login, takes_shown, with_dup
 ghost use Rattle.server_core.specs.Steps.{with_verdict};
 ghost use Rattle.server_core.specs.Telling.{said_lines};
 
-use super::{Core, raised};
+use super::{Walker, raised};
 use crate::conf::server_of;
 use crate::places::friends_found;
 use aprs_base::{JournalLine, Line, Memory, Parts, Source};
@@ -19,7 +19,7 @@ use line_verdict::{denied_line, login_line, refusal_line};
 use std::alloc::Global;
 use std::sync::Arc;
 
-impl Core {
+impl Walker {
     /// A duplicate is refused, and is counted: the links that are shown such take it.
     pub(super) fn show(
         &mut self,
@@ -35,9 +35,8 @@ impl Core {
           };
         }) }
     {
-        let takers = self.links.show(alloc, from, parts, line)?;
-        self.totals.duplicate = raised(self.totals.duplicate, 1);
-        self.totals.queued = raised(self.totals.queued, takers);
+        self.links.show(alloc, from, parts, line)?;
+        self.counts.duplicate = raised(self.counts.duplicate, 1);
         Ok(())
     }
 
@@ -45,7 +44,7 @@ impl Core {
     fn count_refused(&mut self)
         ensures { self.new ≡ record self.old { seen = record self.old.seen { totals = with_refused self.old.seen.totals } } }
     {
-        self.totals.refused = raised(self.totals.refused, 1);
+        self.counts.refused = raised(self.counts.refused, 1);
     }
 
     /// A line for the link whose line was read, where it was a link's.
@@ -54,8 +53,8 @@ impl Core {
     {
         match from {
             Source::Link(number) => {
-                self.links.reply(*number, Arc::new(alloc, line)?);
-                Ok(())
+                let line = Arc::new(alloc, line)?;
+                self.links.reply(*number, line)
             }
             Source::Submit(_) | Source::Peer(_) => Ok(()),
         }
@@ -104,8 +103,7 @@ impl Core {
     {
         let mine = self.stations.place_of(&session.call, self.moment);
         let line = Arc::new(alloc, login_line(server_of(&self.conf), &session))?;
-        self.links.log_in(number, session, mine, line);
-        Ok(())
+        self.links.log_in(number, session, mine, line)
     }
 
     /// The link of that number has another filter, and is told so.
@@ -122,8 +120,7 @@ impl Core {
         let friends = friends_found(&self.stations, self.moment, &filter);
         let line = Arc::new(alloc, line)?;
         let filter = Arc::new(alloc, filter)?;
-        self.links.set_filter(number, filter, friends, line);
-        Ok(())
+        self.links.set_filter(number, filter, friends, line)
     }
 
     /// The answer to a filter.
@@ -140,7 +137,7 @@ impl Core {
             FilterAnswer::Active(filter, line) => self.set_filter(alloc, number, filter, line),
             FilterAnswer::Denied(fault) => {
                 let line = Arc::new(alloc, denied_line(alloc, fault)?)?;
-                self.links.reply(number, line);
+                self.links.reply(number, line)?;
                 self.count_refused();
                 Ok(())
             }

@@ -13,7 +13,7 @@ ghost use Rattle.server_core.specs.Meaning.{peer_of, setting_of};
 ghost use Rattle.server_core.specs.Steps.{SameRest, Walks, carried_at, with_verdict};
 ghost use Rattle.server_core.specs.Telling.{Tells, said_lines};
 
-use super::Core;
+use super::Walker;
 use crate::conf::{peer_from, peers_of, served_by, server_of};
 use aprs_base::{Addr, Cut, Cutter, JournalLine, Memory, PortKind, Source, copy_call};
 use aprs_history::Refusal;
@@ -22,7 +22,7 @@ use q_construct::Origin;
 use std::alloc::Global;
 
 /// The lines of a datagram, whose end ends the last one.
-fn cut_datagram(alloc: Global, bytes: &[u8]) -> Result<Vec<Cut>, Memory>
+pub(super) fn cut_datagram(alloc: Global, bytes: &[u8]) -> Result<Vec<Cut>, Memory>
     ensures { IfOk result (λ cuts. cuts.items ≡ datagram_cuts bytes.now) }
 {
     let mut cuts = Vec::new(alloc);
@@ -32,7 +32,7 @@ fn cut_datagram(alloc: Global, bytes: &[u8]) -> Result<Vec<Cut>, Memory>
     Ok(cuts)
 }
 
-impl Core {
+impl Walker {
     /// What a line of a datagram said.
     fn take_carried(
         &mut self,

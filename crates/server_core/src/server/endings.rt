@@ -10,23 +10,23 @@ ghost use Rattle.server_core.specs.Meaning.{setting_of, timeouts_of};
 ghost use Rattle.server_core.specs.Steps.{SameRest, Walks};
 ghost use Rattle.server_core.specs.Telling.{KnowUnasked, Tells};
 
-use super::Core;
+use super::Walker;
 use crate::conf::timeouts;
 use crate::links::place_all;
 use crate::messages::forget_all;
 use aprs_base::{Event, JournalLine, Memory};
 use std::alloc::Global;
 
-impl Core {
+impl Walker {
     /// A link was ended by its peer.
-    pub(super) fn end(&mut self, number: u32)
-        ensures live { (t : Trace) → Walks self.old t → IsTrue (is_live t number) → Walks self.new (Ended number ByPeer ∷ t) }
-        ensures dead { (t : Trace) → Walks self.old t → is_live t number ≡ false → Walks self.new t }
-        ensures rest { SameRest self.old self.new }
+    pub(super) fn end(&mut self, number: u32) -> Result<(), Memory>
+        ensures live { (t : Trace) → Walks self.old t → IsTrue (is_live t number) → OnOk result (Walks self.new (Ended number ByPeer ∷ t)) }
+        ensures dead { (t : Trace) → Walks self.old t → is_live t number ≡ false → OnOk result (Walks self.new t) }
+        ensures rest { OnOk result (SameRest self.old self.new) }
     {
         self.reach.end_at(&self.links, number, self.moment);
         self.heard.forget(number);
-        self.links.drop_these(&[number]);
+        self.links.drop_these(&[number])
     }
 
     /// The links that are late end.
@@ -67,7 +67,7 @@ impl Core {
     {
         self.reach.end_all(ends, self.moment);
         forget_all(&mut self.heard, ends);
-        self.links.drop_these(ends);
+        self.links.drop_these(ends)?;
         place_all(&mut self.closing, ends)
     }
 
@@ -87,11 +87,13 @@ impl Core {
         events: &[Event],
         lines: &mut Vec<JournalLine>,
     ) -> Result<(), Memory>
+        requires { self.old.rests ≡ true }
         ensures walks { (t : Trace) → Walks self.old t
             → OnOk result (Walks self.new (end_each (refused_reason t) (refused_links (setting_of self.old.conf) t) t)) }
         ensures tells { (t : Trace) → Walks self.old t → KnowUnasked events.now t
             → OnOk result (Tells (setting_of self.old.conf) t (end_each (refused_reason t) (refused_links (setting_of self.old.conf) t) t) lines.old.items lines.new.items) }
         ensures rest { OnOk result (SameRest self.old self.new) }
+        ensures rests { OnOk result (self.new.rests ≡ self.old.rests) }
     {
         let ends = self.refused(alloc)?;
         self.tell_refused(ends.as_slice(), events, lines)?;
@@ -100,6 +102,7 @@ impl Core {
 
     /// The numbers of the links that are overfull or were turned away, rising.
     fn refused(&self, alloc: Global) -> Result<Vec<u32>, Memory>
+        requires { self.now.rests ≡ true }
         ensures { IfOk result (λ v. v.items ≡ placed_all self.now.seen.turned (numbers (filter is_overfull self.now.seen.links))) }
     {
         let mut ends = self.links.overfull(alloc)?;
@@ -112,6 +115,7 @@ impl Core {
         ensures walks { (t : Trace) → Walks self.old t → ends.now ≡ placed_all self.old.seen.turned (numbers (filter is_overfull self.old.seen.links))
             → OnOk result (Walks self.new (end_each (refused_reason t) (refused_links (setting_of self.old.conf) t) t)) }
         ensures rest { OnOk result (SameRest self.old self.new) }
+        ensures rests { OnOk result (self.new.rests ≡ self.old.rests) }
     {
         self.let_go(ends)
     }
@@ -127,6 +131,7 @@ impl Core {
         ensures tells { (t : Trace) → Walks self.old t
             → OnOk result (Tells (setting_of self.old.conf) t (end_stopped self.old.seen.stopped t) lines.old.items lines.new.items) }
         ensures rest { OnOk result (SameRest self.old self.new) }
+        ensures rests { OnOk result (self.new.rests ≡ self.old.rests) }
     {
         if self.stopped {
             let ends = self.all(alloc)?;
@@ -148,6 +153,7 @@ impl Core {
         ensures follows { (t : Trace) → Walks self.old t → ends.now ≡ numbers self.old.seen.links
             → OnOk result (Follows (setting_of self.old.conf) self.new.seen (end_stopped true t)) }
         ensures rest { OnOk result (SameRest self.old self.new) }
+        ensures rests { OnOk result (self.new.rests ≡ self.old.rests) }
     {
         self.reach.end_all(ends, self.moment);
         forget_all(&mut self.heard, ends);

@@ -15,13 +15,14 @@ ghost use Rattle.server_core.specs.Meaning.{setting_of};
 ghost use Rattle.server_core.specs.Steps.{SameRest, Walks, scene_at, with_verdict};
 ghost use Rattle.server_core.specs.Telling.{Tells, said_lines};
 
-use super::Core;
+use super::Walker;
 use aprs_base::{Cut, JournalLine, Line, Memory, Source};
+use aprs_body::classify;
 use aprs_history::{Refusal, Verdict};
 use line_verdict::{Voice, is_comment_line, judge_comment};
 use std::alloc::Global;
 
-impl Core {
+impl Walker {
     /// A link's line that is no packet has this verdict, which is told and done.
     fn follow(
         &mut self,
@@ -42,7 +43,10 @@ impl Core {
             Verdict::Refused(refusal) => self.refuse(alloc, &from, refusal),
             Verdict::LoggedIn(session, answer) => self.log_in(alloc, number, session, answer),
             Verdict::Filtered(answer) => self.answer(alloc, number, answer),
-            Verdict::Accepted(parts, line) => self.accept(alloc, from, parts, line),
+            Verdict::Accepted(parts, line) => {
+                let body = classify(&parts.dest, parts.body.as_slice());
+                self.accept(alloc, from, parts, body, line)
+            }
         }
     }
 

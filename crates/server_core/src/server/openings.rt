@@ -12,7 +12,7 @@ ghost use Rattle.server_core.specs.Meaning.{setting_of};
 ghost use Rattle.server_core.specs.Steps.{SameRest, Walks};
 ghost use Rattle.server_core.specs.Telling.{Tells};
 
-use super::Core;
+use super::Walker;
 use crate::conf::{code_of, is_client_kind, most_clients, served_by, server_of};
 use aprs_base::{Addr, JournalLine, Line, Memory};
 use aprs_history::{Admission, LinkKind};
@@ -30,7 +30,7 @@ fn joined_outcome(uplink: u16, asked: bool) -> Admission
     }
 }
 
-impl Core {
+impl Walker {
     /// What becomes of a connection on that listener.
     fn admission(&self, listener: u16) -> Admission
         ensures value { result ≡ admitted self.now.conf.max_clients (clients_in self.now.seen.links) (kind_at (setting_of self.now.conf) listener) }

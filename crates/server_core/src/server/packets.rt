@@ -2,8 +2,8 @@
 ghost use Rattle.std.specs.Prelude.{◌≡◌, ◌≤◌, ◌++◌, IsTrue, IfOk, OnOk, false, length, map};
 ghost use Rattle.std.specs.Arc.{arc_value};
 ghost use Rattle.std.specs.List.Sorted.{IsStrictlyIncreasing};
+ghost use Rattle.aprs_body.specs.Bodies.{body_of};
 ghost use Rattle.dupe_window.specs.Windows.{has_copy};
-ghost use Rattle.aprs_history.specs.Scenes.{packet_of};
 ghost use Rattle.aprs_history.specs.Verdicts.{packet_verdict, read_and_routed};
 ghost use Rattle.aprs_history.specs.declared.verdicts.Verdict.{Verdict};
 ghost use Rattle.server_core.specs.LinkSteps.{after_packet, cast_with, noted_from, others_from, owed_in, promised_all, source_found, spent, submitted_from};
@@ -13,12 +13,11 @@ ghost use Rattle.server_core.specs.Steps.{with_verdict};
 ghost use Rattle.server_core.specs.Telling.{said_lines};
 ghost use Rattle.tnc2_line.specs.Packet.{IsParts, parts_of, text_of};
 
-use super::{Core, raised};
+use super::{Walker, raised};
 use crate::conf::peers_of;
 use crate::link::SourcePlace;
 use crate::messages::{hearers_of, is_position, note_from, owed_to, promise_all, receiver_of};
-use aprs_base::{JournalLine, Line, Memory, Packet, Parts, Shared, Source};
-use aprs_body::classify;
+use aprs_base::{Body, JournalLine, Line, Memory, Packet, Parts, Shared, Source};
 use aprs_history::Verdict;
 use dupe_window::Key;
 use line_verdict::line_of;
@@ -26,21 +25,7 @@ use q_construct::Origin;
 use std::alloc::Global;
 use std::sync::Arc;
 
-/// The packet that came from there, with what its body says.
-fn packet_from(from: Source, moment: u64, parts: Parts, line: Arc<Line>) -> Packet
-    ensures { result ≡ packet_of from moment parts (arc_value line) }
-{
-    let body = classify(&parts.dest, parts.body.as_slice());
-    Packet {
-        from,
-        moment,
-        parts,
-        body,
-        line,
-    }
-}
-
-impl Core {
+impl Walker {
     /// Where a packet's source was last seen, whether it is a gate, and whether the packet was submitted here.
     fn source_of(&self, packet: &Packet) -> SourcePlace
         ensures { result ≡ source_found self.now.seen packet.now.from packet.now.parts.source }
@@ -122,7 +107,7 @@ impl Core {
         let owed = self.spend(alloc, packet)?;
         self.promise(alloc, packet, hearers.as_slice())?;
         self.cast(packet, source.submitted)?;
-        let takers = self.links.share(
+        self.links.share(
             alloc,
             packet,
             shared,
@@ -130,8 +115,7 @@ impl Core {
             hearers.as_slice(),
             owed.as_slice(),
         )?;
-        self.totals.accepted = raised(self.totals.accepted, 1);
-        self.totals.queued = raised(self.totals.queued, takers);
+        self.counts.accepted = raised(self.counts.accepted, 1);
         self.stations.note(alloc, packet)?;
         self.window.insert(Key::of(&packet.parts), packet.moment)?;
         Ok(())
@@ -143,13 +127,21 @@ impl Core {
         alloc: Global,
         from: Source,
         parts: Parts,
+        body: Body,
         line: Line,
     ) -> Result<(), Memory>
+        requires body { body ≡ body_of parts.dest parts.body }
         requires new { has_copy self.old.seen.moment self.old.seen.window parts ≡ false }
         ensures { OnOk result (self.new ≡ with_verdict from (Verdict.Accepted parts line) self.old) }
     {
         let line = Arc::new(alloc, line)?;
-        let packet = packet_from(from, self.moment, parts, line);
+        let packet = Packet {
+            from,
+            moment: self.moment,
+            parts,
+            body,
+            line,
+        };
         let shared = Arc::new(alloc, packet)?;
         self.keep(alloc, &shared, &shared)
     }
@@ -160,9 +152,11 @@ impl Core {
         alloc: Global,
         from: Source,
         parts: Parts,
+        body: Body,
         lines: &mut Vec<JournalLine>,
     ) -> Result<(), Memory>
         requires sound { IsParts parts }
+        requires body { body ≡ body_of parts.dest parts.body }
         requires short { length (text_of parts) ≤ 510 }
         ensures core { OnOk result (self.new ≡ with_verdict from (packet_verdict (has_copy self.old.seen.moment self.old.seen.window) (Ok parts)) self.old) }
         ensures lines { OnOk result (lines.new.items ≡ lines.old.items ++ said_lines self.old from (packet_verdict (has_copy self.old.seen.moment self.old.seen.window) (Ok parts))) }
@@ -172,7 +166,7 @@ impl Core {
             self.tell_duplicate(&from, lines)?;
             self.show(alloc, &from, parts, line)
         } else {
-            self.accept(alloc, from, parts, line)
+            self.accept(alloc, from, parts, body, line)
         }
     }
 
@@ -192,7 +186,7 @@ impl Core {
         let mut parts = Parts::unfilled();
         match self.route(&mut parts, from, origin, line) {
             Err(refusal) => self.turn_down(alloc, &from, refusal, lines),
-            Ok(()) => self.take_routed(alloc, from, parts, lines),
+            Ok(body) => self.take_routed(alloc, from, parts, body, lines),
         }
     }
 }

@@ -1,5 +1,5 @@
 //! The parts of a round: its begin, its events, its end, and what is to be done after it.
-ghost use Rattle.std.specs.Prelude.{◌≡◌, ◌∷◌, [], ◌<◌, IsTrue, IfOk, OnOk, IfSome, false, true, filter, map};
+ghost use Rattle.std.specs.Prelude.{◌≡◌, ◌∷◌, [], ◌<◌, ◌≤◌, IsTrue, IfOk, OnOk, IfSome, false, true, filter, map};
 ghost use Rattle.aprs_base.specs.Outside.{new_link};
 ghost use Rattle.aprs_history.specs.Trace.{Trace, Roomed, is_live};
 ghost use Rattle.aprs_history.specs.Stands.{Follows};
@@ -11,13 +11,15 @@ ghost use Rattle.server_core.specs.RoundWalk.{Traced, Walking};
 ghost use Rattle.server_core.specs.Steps.{AfterEvent, SameRest, Walks};
 ghost use Rattle.server_core.specs.Telling.{KnowUnasked, Tells};
 
-use super::Core;
+use super::Walker;
 use crate::acts::Acts;
 use crate::messages::forget_all;
-use aprs_base::{Event, JournalLine, Memory};
+use aprs_base::{Event, Gate, JournalLine, Memory};
 use std::alloc::Global;
+use std::marker::Sync;
+use std::thread::Threads;
 
-impl Core {
+impl Walker {
     /// A round begins: the links that a send found gone end.
     pub(super) fn begin(&mut self, alloc: Global) -> Result<(), Memory>
         ensures walks { (t : Trace) → Walks self.old t → OnOk result (Walks self.new (begin_round t)) }
@@ -29,7 +31,8 @@ impl Core {
         self.reach.begin();
         self.reach.end_all(lost.as_slice(), self.moment);
         forget_all(&mut self.heard, lost.as_slice());
-        self.links.drop_these(lost.as_slice());
+        self.links.drop_these(lost.as_slice())?;
+        self.links.wake();
         Ok(())
     }
 
@@ -50,6 +53,56 @@ impl Core {
         ensures stopped { self.new.seen.stopped ≡ true }
     {
         self.stopped = true;
+    }
+
+    /// What came to the links is matched by at most so many workers.
+    fn settle<R: Threads + Sync, G: Gate + Sync>(
+        &mut self,
+        rt: &R,
+        workers: u32,
+        gate: &G,
+    ) -> Result<(), Memory>
+        requires { (1 ≤ workers) × (workers ≤ 64) }
+        ensures { OnOk result (self.new ≡ self.old) }
+    {
+        self.links.settle(rt, workers, gate)
+    }
+
+    /// What came to the links is matched before links come, end, or grow older.
+    fn settle_before<R: Threads + Sync, G: Gate + Sync>(
+        &mut self,
+        rt: &R,
+        event: &Event,
+        workers: u32,
+        gate: &G,
+    ) -> Result<(), Memory>
+        requires { (1 ≤ workers) × (workers ≤ 64) }
+        ensures { OnOk result (self.new ≡ self.old) }
+    {
+        match event {
+            _ if self.links.is_settled() => Ok(()),
+            Event::Tick(_) | Event::Opened { .. } | Event::Joined { .. } | Event::Ended(_) => {
+                self.settle(rt, workers, gate)
+            }
+            _ => Ok(()),
+        }
+    }
+
+    /// The events have been walked: what came to the links is matched, and they rest.
+    fn rest<R: Threads + Sync, G: Gate + Sync>(
+        &mut self,
+        rt: &R,
+        workers: u32,
+        gate: &G,
+    ) -> Result<(), Memory>
+        requires { (1 ≤ workers) × (workers ≤ 64) }
+        ensures walks { (t : Trace) → Walks self.old t → OnOk result (Walks self.new t) }
+        ensures rest { OnOk result (SameRest self.old self.new) }
+        ensures rests { OnOk result (self.new.rests ≡ true) }
+    {
+        self.links.settle(rt, workers, gate)?;
+        self.links.rest();
+        Ok(())
     }
 
     /// One event of a round.
@@ -82,7 +135,7 @@ impl Core {
             Event::Bytes(link, chunk) => self.take_bytes(alloc, *link, chunk.bytes(), lines)?,
             Event::Ended(link) => {
                 self.tell_ended(*link, lines)?;
-                self.end(*link);
+                self.end(*link)?;
             }
             Event::Room(link) => self.room(*link),
             Event::Stop => self.stop(),
@@ -96,12 +149,16 @@ impl Core {
     }
 
     /// The events of a round, one after another.
-    pub(super) fn walk(
+    pub(super) fn walk<R: Threads + Sync, G: Gate + Sync>(
         &mut self,
+        rt: &R,
         alloc: Global,
         events: &[Event],
         lines: &mut Vec<JournalLine>,
+        workers: u32,
+        gate: &G,
     ) -> Result<(), Memory>
+        requires workers { (1 ≤ workers) × (workers ≤ 64) }
         requires whole { is_whole 0 events.now ≡ true }
         requires fresh { AreFresh self.old.seen.greatest events.now }
         requires going { self.old.seen.stopped ≡ false }
@@ -110,30 +167,38 @@ impl Core {
         ensures tells { (t : Trace) → Walks self.old t → OnOk result (Tells (setting_of self.old.conf) t (events_trace (setting_of self.old.conf) events.now t) lines.old.items lines.new.items) }
     {
         for event in events {
+            self.settle_before(rt, event, workers, gate)?;
             self.take_event(alloc, event, lines)?;
         }
         Ok(())
     }
 
     /// A round ends.
-    pub(super) fn finish(
+    pub(super) fn finish<R: Threads + Sync, G: Gate + Sync>(
         &mut self,
+        rt: &R,
         alloc: Global,
         events: &[Event],
         lines: &mut Vec<JournalLine>,
+        workers: u32,
+        gate: &G,
     ) -> Result<(), Memory>
+        requires { (1 ≤ workers) × (workers ≤ 64) }
         ensures follows { (t : Trace) → Walks self.old t
             → OnOk result (Follows (setting_of self.old.conf) self.new.seen (end_round (setting_of self.old.conf) self.old.seen.stopped t)) }
         ensures tells { (t : Trace) → Walks self.old t → KnowUnasked events.now t
             → OnOk result (Tells (setting_of self.old.conf) t (end_round (setting_of self.old.conf) self.old.seen.stopped t) lines.old.items lines.new.items) }
         ensures rest { OnOk result (SameRest self.old self.new) }
+        ensures rests { OnOk result (self.new.rests ≡ true) }
     {
+        self.rest(rt, workers, gate)?;
         self.end_refused(alloc, events, lines)?;
         self.end_stopped(alloc, lines)
     }
 
     /// What is to be done now: the dial, the casts, the offers, and then the closes.
     pub(super) fn acts(&self, alloc: Global) -> Result<Acts, Memory>
+        requires { self.now.rests ≡ true }
         ensures offers { IfOk result (λ acts. acts.offers ≡ map number_of (filter is_ready self.now.seen.links)) }
         ensures closes { IfOk result (λ acts. acts.closes ≡ self.now.seen.closing) }
         ensures done { IfOk result (λ acts. acts.done ≡ self.now.seen.stopped) }

@@ -9,14 +9,14 @@ ghost use Rattle.server_core.specs.LinkSteps.{has_number, is_late_link, is_lost}
 ghost use Rattle.server_core.specs.Meaning.{timeouts_of};
 ghost use Rattle.server_core.specs.Telling.{late_line, lost_line, refused_line, said_lines, stop_line};
 
-use super::Core;
+use super::Walker;
 use crate::conf::{group_of, timeouts};
 use crate::telling::{tell_opened, tell_refused, tell_verdict};
 use aprs_base::{Event, JournalLine, Memory, Source};
 use aprs_history::{Admission, EndReason, Refusal, Verdict};
 use journal_lines::{duplicate_line, end_line, join_line, refusal_line, unjoined_line};
 
-impl Core {
+impl Walker {
     /// What was said from there, with this verdict.
     pub(super) fn tell_said(
         &self,

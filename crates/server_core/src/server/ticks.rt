@@ -10,7 +10,7 @@ ghost use Rattle.server_core.specs.Meaning.{setting_of};
 ghost use Rattle.server_core.specs.Steps.{SameRest, Walks};
 ghost use Rattle.server_core.specs.Telling.{Tells};
 
-use super::Core;
+use super::Walker;
 use crate::conf::server_of;
 use aprs_base::{JournalLine, Memory};
 use line_verdict::comment_of;
@@ -23,28 +23,31 @@ const LAST_MOMENT: u64 = 253_402_300_799;
 /// The seconds between two comment lines.
 const COMMENT_SECONDS: u64 = 20;
 
-impl Core {
+impl Walker {
     /// The moment has risen: what is too old by now is let go.
-    fn pass(&mut self, now: u64)
+    fn pass(&mut self, now: u64) -> Result<(), Memory>
         requires { self.old.seen.moment ≤ now }
-        ensures seen { self.new ≡ record self.old { seen = passed now self.old.seen } }
-        ensures sights { (packets : List PacketSeen) → HasExactly self.old.seen.moment self.old.seen.stations packets → HasExactly now (young now self.old.seen.stations) packets }
+        ensures seen { OnOk result (self.new ≡ record self.old { seen = passed now self.old.seen }) }
+        ensures sights { OnOk result ((packets : List PacketSeen) → HasExactly self.old.seen.moment self.old.seen.stations packets → HasExactly now (young now self.old.seen.stations) packets) }
     {
+        self.links.forget(now)?;
         self.moment = now;
-        self.links.forget(now);
         self.window.expire(now);
         self.stations.expire(now);
         self.heard.expire(now);
+        Ok(())
     }
 
     /// The moment goes on. Within one second nothing grows older.
-    fn go_on(&mut self, moment: u64)
-        ensures walks { (t : Trace) → Walks self.old t → Walks self.new (Ticked moment ∷ t) }
-        ensures rest { SameRest self.old self.new }
+    fn go_on(&mut self, moment: u64) -> Result<(), Memory>
+        ensures walks { (t : Trace) → Walks self.old t → OnOk result (Walks self.new (Ticked moment ∷ t)) }
+        ensures rest { OnOk result (SameRest self.old self.new) }
     {
         let now = moment.min(LAST_MOMENT);
         if self.moment < now {
-            self.pass(now);
+            self.pass(now)
+        } else {
+            Ok(())
         }
     }
 
@@ -80,7 +83,7 @@ impl Core {
         ensures rest { OnOk result (SameRest self.old self.new) }
     {
         let before = self.moment;
-        self.go_on(moment);
+        self.go_on(moment)?;
         self.end_late(alloc, lines)?;
         self.tell_date(alloc, before)?;
         self.look();

@@ -1,23 +1,61 @@
 //! The verdict on what is said.
-ghost use Rattle.std.specs.Prelude.{◌≡◌, ◌≤◌, [], IsTrue, IfOk, OnOk, length};
+ghost use Rattle.std.specs.Prelude.{◌≡◌, ◌≤◌, ℕ, [], IsTrue, IfOk, List, OnOk, length};
+ghost use Rattle.aprs_base.specs.Bytes.{is_station};
+ghost use Rattle.aprs_body.specs.Bodies.{body_of};
 ghost use Rattle.aprs_history.specs.Verdicts.{login_verdict, read_and_routed};
 ghost use Rattle.dupe_window.specs.Windows.{has_copy};
 ghost use Rattle.line_verdict.specs.Voices.{HasStation, voice_of};
 ghost use Rattle.login_pass.specs.Login.{login_of};
-ghost use Rattle.q_construct.specs.Filling.{Fills};
+ghost use Rattle.parsed_lines.specs.Lines.{IsSound, parsed_of};
+ghost use Rattle.tnc2_line.specs.Pieces.{Fills};
 ghost use Rattle.q_construct.specs.Rule.{has_station};
 ghost use Rattle.server_core.specs.LinkSteps.{others_from, speaker_at};
 ghost use Rattle.tnc2_line.specs.Packet.{IsParts, parts_of, text_of};
 
-use super::Core;
+use super::Walker;
 use crate::conf::server_of;
-use aprs_base::{Line, Memory, Parts, Source};
+use aprs_base::{Body, Call, Line, Memory, Parts, Source};
 use aprs_history::{Refusal, Verdict};
-use line_verdict::{Voice, is_copy, judge_login, route_packet};
-use q_construct::Origin;
+use line_verdict::{Voice, is_copy, judge_login, route_parts};
+use parsed_lines::Parsed;
+use q_construct::{Calls, Origin};
 use std::alloc::Global;
 
-impl Core {
+/// What is told by a body's format, once more.
+fn copy_body(body: &Body) -> Body
+    ensures { result ≡ body.now }
+{
+    body.clone().unwrap()
+}
+
+/// Puts a packet that was parsed, as it goes on, into parts that are still to be filled, and says what its body is, or why it is refused.
+fn route_parsed<O: Calls>(
+    whole: &mut Parts,
+    server: &Call,
+    origin: &Origin,
+    others: &O,
+    parsed: &Parsed,
+) -> Result<Body, Refusal>
+    requires sound { IsSound parsed.now }
+    requires server { IsTrue (is_station server.now) }
+    requires origin { IsTrue (has_station origin.now) }
+    requires vias { whole.old.vias ≡ [] }
+    requires body { whole.old.body ≡ [] }
+    ensures exact { (line : List ℕ) → parsed.now ≡ parsed_of line → Fills result whole.new (read_and_routed server.now origin.now (O.calls others.now) (parts_of line)) }
+    ensures sound { OnOk result (IsParts whole.new) }
+    ensures short { OnOk result (length (text_of whole.new) ≤ 510) }
+    ensures body { (line : List ℕ) → parsed.now ≡ parsed_of line → IfOk result (λ body. body ≡ body_of whole.new.dest whole.new.body) }
+{
+    match parsed {
+        Parsed::Bad(fault) => Err(Refusal::Packet(*fault)),
+        Parsed::Good { parts, body } => {
+            route_parts(whole, server, origin, others, parts)?;
+            Ok(copy_body(body))
+        }
+    }
+}
+
+impl Walker {
     /// Who speaks on the link of that number.
     pub(super) fn voice(&self, number: u32) -> Voice
         ensures value { result ≡ voice_of (speaker_at number self.now.seen.links) }
@@ -38,23 +76,28 @@ impl Core {
         judge_login(alloc, server_of(&self.conf), filters, line)
     }
 
-    /// Puts a packet from there, as it goes on, into parts that are still to be filled, or says why it is refused.
+    /// Puts a packet from there, as it goes on, into parts that are still to be filled, and says what its body is, or why it is
+    /// refused.
     pub(super) fn route(
-        &self,
+        &mut self,
         whole: &mut Parts,
         from: Source,
         origin: &Origin,
         line: &Line,
-    ) -> Result<(), Refusal>
+    ) -> Result<Body, Refusal>
         requires station { IsTrue (has_station origin.now) }
         requires vias { whole.old.vias ≡ [] }
         requires body { whole.old.body ≡ [] }
-        ensures exact { Fills result whole.new (read_and_routed self.now.conf.server origin.now (others_from from self.now.seen.links) (parts_of line.now)) }
+        ensures exact { Fills result whole.new (read_and_routed self.old.conf.server origin.now (others_from from self.old.seen.links) (parts_of line.now)) }
         ensures sound { OnOk result (IsParts whole.new) }
         ensures short { OnOk result (length (text_of whole.new) ≤ 510) }
+        ensures body { IfOk result (λ body. body ≡ body_of whole.new.dest whole.new.body) }
+        ensures same { self.new ≡ self.old }
     {
+        self.ahead.seek(line);
         let others = self.links.logins(from);
-        route_packet(whole, server_of(&self.conf), origin, &others, line)
+        let parsed = self.ahead.what_it_is();
+        route_parsed(whole, server_of(&self.conf), origin, &others, parsed)
     }
 
     /// Whether a packet is a copy of one that was accepted.

@@ -1,4 +1,5 @@
-use Rattle.std.proofs.Common.{refl, ◌∙◌, arith}
+use Rattle.std.proofs.Common.{ap, refl, sym, ◌∙◌, arith}
+use Rattle.worker_match.specs.Walk.{friend_seen}
 use Rattle.worker_match.proofs.FriendLemmas.{seen_all, seen_more}
 use Rattle.worker_match.proofs.friends.see_each.Goals as goal
 
@@ -8,7 +9,8 @@ loop-place-init c = refl
 pub loop-place-preserved : goal.loop-place-preserved
 loop-place-preserved c =
     seen_more c.args.call.now c.args.seen c.args.terms.now c.args.friends.now c.loop-place.friends c.loop-place.place c.index-terms-place.result c.index-friends-place.result
-    c.friend_seen.result (omega arith) (omega arith) c.loop-place.invariant c.index-terms-place.is c.index-friends-place.is c.friend_seen.ensures
+    c.see_one.new.friend (omega arith) (omega arith) c.loop-place.invariant c.index-terms-place.is c.index-friends-place.is
+    (c.see_one.ensures ∙ ap (friend_seen c.args.call.now c.args.seen c.index-terms-place.result) (sym c.index-friends-place.is))
 
 pub returns-clause-seen : goal.returns-clause-seen
 returns-clause-seen c =

@@ -1,13 +1,8 @@
 use Rattle.std.proofs.Common.{ap, length, map, sym, ◌∙◌}
 use Rattle.worker_match.specs.Items.{items_seen}
-use Rattle.link_feeds.specs.Feeds.{counted, put_in}
-use Rattle.link_feeds.proofs.FeedLemmas.{all_changed, seen_standing}
+use Rattle.link_feeds.specs.Feeds.{counted}
+use Rattle.link_feeds.proofs.FeedLemmas.{all_changed}
 use Rattle.link_feeds.proofs.feeds.Feeds.count_put.Goals as goal
-
-pub returns-clause-count : goal.returns-clause-count
-returns-clause-count c =
-    c.count_each.ensures.count
-    ∙ ap put_in (c.as_mut_slice.ensures.value ∙ sym (seen_standing (items_seen c.self.inside.items.items) c.self.inside.states.items c.args.self.now c.self.view_is c.requires))
 
 pub returns-clause-counted : goal.returns-clause-counted
 returns-clause-counted c =

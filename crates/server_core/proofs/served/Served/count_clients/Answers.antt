@@ -1,11 +1,12 @@
 use Rattle.std.proofs.Common.{ap, refl, sym, ◌∙◌}
 use Rattle.server_core.specs.LinkSteps.{client_kept, clients_in}
 use Rattle.server_core.proofs.ServedLemmas.{count_same}
+use Rattle.server_core.proofs.ServedSteps.{links_of}
 use Rattle.server_core.proofs.served.Served.count_clients.Goals as goal
 
 pub returns : goal.returns
 returns c =
     c.count_clients.ensures
     ∙ ap (clients_in) c.as_slice.ensures.value
-    ∙ sym (count_same client_kept (λ h s. refl) c.self.inside.halves.items c.self.inside.feeds.links c.self.invariant.match)
-    ∙ ap (clients_in) c.self.view_is
+    ∙ sym (count_same client_kept (λ h s. refl) c.self.inside.halves.items c.self.inside.feeds.links c.self.invariant.0.match)
+    ∙ ap (clients_in) (ap links_of c.self.view_is)

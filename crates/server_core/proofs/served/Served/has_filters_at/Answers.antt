@@ -1,11 +1,12 @@
 use Rattle.std.proofs.Common.{ap, false, refl, sym, ◌∙◌}
 use Rattle.server_core.specs.LinkSteps.{filters_at, filters_kept}
 use Rattle.server_core.proofs.ServedLemmas.{picked_same}
+use Rattle.server_core.proofs.ServedSteps.{links_of}
 use Rattle.server_core.proofs.served.Served.has_filters_at.Goals as goal
 
 pub returns : goal.returns
 returns c =
     c.has_filters_at.ensures
     ∙ ap (filters_at c.args.number) c.as_slice.ensures.value
-    ∙ sym (picked_same filters_kept (λ h s. refl) false c.args.number c.self.inside.halves.items c.self.inside.feeds.links c.self.invariant.match)
-    ∙ ap (filters_at c.args.number) c.self.view_is
+    ∙ sym (picked_same filters_kept (λ h s. refl) false c.args.number c.self.inside.halves.items c.self.inside.feeds.links c.self.invariant.0.match)
+    ∙ ap (filters_at c.args.number) (ap links_of c.self.view_is)

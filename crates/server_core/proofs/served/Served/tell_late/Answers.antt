@@ -3,11 +3,12 @@ use Rattle.std.proofs.lemmas.Result.{on_ok_weaker}
 use Rattle.server_core.specs.LinkSteps.{is_late_link}
 use Rattle.server_core.specs.Telling.{late_line}
 use Rattle.server_core.proofs.ServedLemmas.{passing_same}
+use Rattle.server_core.proofs.ServedSteps.{links_of}
 use Rattle.server_core.proofs.served.Served.tell_late.Goals as goal
 
 pub returns : goal.returns
 returns c =
     on_ok_weaker c.tell_late.result
     (λ is. is ∙ ap (λ more. c.args.lines.now.items ++ more)
-    (ap (λ links. map (late_line c.args.now) (filter (is_late_link c.args.timeouts c.args.now) links)) c.as_slice.ensures.value ∙ sym (passing_same (late_line c.args.now) (λ h s. refl) (is_late_link c.args.timeouts c.args.now) (λ h s. refl) c.self.inside.halves.items c.self.inside.feeds.links c.self.invariant.match) ∙ ap (λ links. map (late_line c.args.now) (filter (is_late_link c.args.timeouts c.args.now) links)) c.self.view_is))
+    (ap (λ links. map (late_line c.args.now) (filter (is_late_link c.args.timeouts c.args.now) links)) c.as_slice.ensures.value ∙ sym (passing_same (late_line c.args.now) (λ h s. refl) (is_late_link c.args.timeouts c.args.now) (λ h s. refl) c.self.inside.halves.items c.self.inside.feeds.links c.self.invariant.0.match) ∙ ap (λ links. map (late_line c.args.now) (filter (is_late_link c.args.timeouts c.args.now) links)) (ap links_of c.self.view_is)))
     c.tell_late.ensures

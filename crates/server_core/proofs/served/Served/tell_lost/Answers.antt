@@ -3,11 +3,12 @@ use Rattle.std.proofs.lemmas.Result.{on_ok_weaker}
 use Rattle.server_core.specs.LinkSteps.{is_lost}
 use Rattle.server_core.specs.Telling.{lost_line}
 use Rattle.server_core.proofs.ServedLemmas.{passing_same}
+use Rattle.server_core.proofs.ServedSteps.{links_of}
 use Rattle.server_core.proofs.served.Served.tell_lost.Goals as goal
 
 pub returns : goal.returns
 returns c =
     on_ok_weaker c.tell_lost.result
     (λ is. is ∙ ap (λ more. c.args.lines.now.items ++ more)
-    (ap (λ links. map (lost_line c.args.now) (filter is_lost links)) c.as_slice.ensures.value ∙ sym (passing_same (lost_line c.args.now) (λ h s. refl) is_lost (λ h s. refl) c.self.inside.halves.items c.self.inside.feeds.links c.self.invariant.match) ∙ ap (λ links. map (lost_line c.args.now) (filter is_lost links)) c.self.view_is))
+    (ap (λ links. map (lost_line c.args.now) (filter is_lost links)) c.as_slice.ensures.value ∙ sym (passing_same (lost_line c.args.now) (λ h s. refl) is_lost (λ h s. refl) c.self.inside.halves.items c.self.inside.feeds.links c.self.invariant.0.match) ∙ ap (λ links. map (lost_line c.args.now) (filter is_lost links)) (ap links_of c.self.view_is)))
     c.tell_lost.ensures

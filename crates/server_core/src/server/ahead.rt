@@ -1,0 +1,97 @@
+//! The lines that a round's events bring, before any of them is walked.
+ghost use Rattle.std.specs.Prelude.{◌≡◌, OnOk};
+
+use super::Walker;
+use super::datagrams::cut_datagram;
+use crate::served::Served;
+use aprs_base::{Cut, Cutter, Event, Line, Memory};
+use indexmap::IndexMap;
+use std::alloc::Global;
+use std::hash::RandomState;
+use std::marker::Sync;
+use std::thread::Threads;
+
+/// The cutters of links, as what they brought of a round so far leaves them. One that holds what its link holds isn't kept.
+type Cutters = IndexMap<u32, Cutter, RandomState>;
+
+/// Whether the link of that number holds the same.
+fn is_held(links: &Served, number: u32, cutter: &Cutter) -> bool {
+    match links.cutter_at(number) {
+        Some(held) => held == *cutter,
+        None => false,
+    }
+}
+
+/// Appends what the bytes of that link complete, behind what it holds and what it brought before them in the round.
+fn cut_on(
+    alloc: Global,
+    cutters: &mut Cutters,
+    links: &Served,
+    number: u32,
+    bytes: &[u8],
+    cuts: &mut Vec<Cut>,
+) -> Result<(), Memory> {
+    match cutters.get_mut(&number) {
+        Some(cutter) => cutter.feed(alloc, bytes, cuts),
+        None => {
+            let mut cutter = links.cutter_at(number).unwrap_or(Cutter::new());
+            cutter.feed(alloc, bytes, cuts)?;
+            if !is_held(links, number, &cutter) {
+                cutters.insert(number, cutter)?;
+            }
+            Ok(())
+        }
+    }
+}
+
+/// Takes the lines out of what was cut, and appends them.
+fn take_lines(cuts: &mut Vec<Cut>, lines: &mut Vec<Line>) -> Result<(), Memory> {
+    for cut in cuts.drain(..) {
+        match cut {
+            Cut::Line(line) => lines.push(line)?,
+            Cut::Long => {}
+        }
+    }
+    Ok(())
+}
+
+/// The lines that the events bring, in order, those too that nobody reads.
+fn lines_of(
+    alloc: Global,
+    hasher: RandomState,
+    links: &Served,
+    events: &[Event],
+) -> Result<Vec<Line>, Memory> {
+    let mut lines = Vec::with_capacity(alloc, events.len())?;
+    let mut cuts = Vec::new(alloc);
+    let mut cutters = IndexMap::with_hasher(alloc, hasher);
+    for event in events {
+        match event {
+            Event::Bytes(link, chunk) => {
+                cut_on(alloc, &mut cutters, links, *link, chunk.bytes(), &mut cuts)?;
+            }
+            Event::Datagram { bytes, .. } => {
+                cuts.append(&mut cut_datagram(alloc, bytes.bytes())?)?;
+            }
+            _ => {}
+        }
+        take_lines(&mut cuts, &mut lines)?;
+    }
+    Ok(lines)
+}
+
+impl Walker {
+    /// The lines that the events bring are parsed, side by side where they are many. What was parsed in the round before is let go first.
+    pub(super) fn look_ahead<R: Threads + Sync>(
+        &mut self,
+        rt: &R,
+        alloc: Global,
+        events: &[Event],
+    ) -> Result<(), Memory>
+        ensures { OnOk result (self.new ≡ self.old) }
+    {
+        self.ahead.clear(alloc);
+        let lines = lines_of(alloc, self.hasher, &self.links, events)?;
+        self.ahead.parse(rt, alloc, lines)
+    }
+}
