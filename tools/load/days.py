@@ -4,7 +4,8 @@
     days.py PROGRAM PACKETS [SPEED [unpaced]]     PROGRAM -c FILE is the server
 
 Without SPEED they are sent as fast as they go. With it the server's clock runs so many times as fast (by libfaketime), and the
-packets are spread over three of its days, or with `unpaced` sent as fast as they go too, so that many of them are past by the way.
+packets are spread over three of its days, but for the first 10,000, which are sent as fast as they go, so that rounds as large as any
+are among them; or with `unpaced` all are sent so, and many of them are past by the way.
 Each line of what is printed: packets sent, processor seconds, kilobytes of memory, packets that the other client has got. That client
 says nothing, so it ends as a silent one after two of the days. Where it got them all, the last line has the processor seconds of a
 tenth of the packets after the first 10,000, of a tenth before the last 10,000, and how many times the first the last are.
@@ -104,7 +105,8 @@ def main():
                 sender.sendall(packets(sent))
                 got += lines_in(reader)
                 marks.pass_by(got, server)
-                time.sleep(max(0.0, began + seconds * sent / count - time.monotonic()))
+                if sent >= MARGIN:
+                    time.sleep(max(0.0, began + seconds * sent / count - time.monotonic()))
                 if sent in (MARGIN, count - STATIONS) or sent % (count // 20) == 0:
                     print(sent, *cost(server), got, flush=True)
             ended = time.monotonic()

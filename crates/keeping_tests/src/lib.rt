@@ -1,14 +1,18 @@
-//! What is kept and told: tables, journals, queues, uplinks, drills, verdicts. The crate holds nothing but tests.
+//! What is kept and told: tables, journals, queues, feeds, uplinks, drills, verdicts. The crate holds nothing but tests.
 #![tactic(auto)]
 
 #[cfg(test)]
 mod drill_tests;
+#[cfg(test)]
+mod feed_tests;
 #[cfg(test)]
 mod heard_tests;
 #[cfg(test)]
 mod journal_line_tests;
 #[cfg(test)]
 mod journal_tests;
+#[cfg(test)]
+mod match_tests;
 #[cfg(test)]
 mod queue_tests;
 #[cfg(test)]

@@ -4,7 +4,5 @@
 mod feeds;
 mod places;
 mod states;
-#[cfg(test)]
-mod tests;
 
 pub use feeds::Feeds;

@@ -1,5 +1,7 @@
 -- A walk of a link over items, and of links one after another.
 use Rattle.std.proofs.Common.{◌≡◌, ℕ, zero, suc, ◌+◌, ◌≤◌, ◌<◌, true, false, List, [], ◌∷◌, ◌++◌, length, get_or, map, refl, sym, ap, ◌∙◌, subst, arith, cond, All, slice_set, take, drop, take_all, append-nil, add-one}
+use Rattle.std.specs.List.{drop-map, take-map}
+use Rattle.std.proofs.lemmas.List.Elements.{All-drop, All-take}
 use Rattle.std.proofs.lemmas.List.{drop_all, drop_more}
 use Rattle.worker_match.specs.declared.items.Item.{Item}
 use Rattle.worker_match.specs.Items.{item_seen, items_seen}
@@ -52,3 +54,42 @@ module _ {X : Type 0} (f : X → X) where
   pub mapped_all : (xs ys : List X) (i : ℕ) → length xs ≤ i → ys ≡ map f (take i xs) ++ drop i xs → ys ≡ map f xs
   mapped_all xs ys i past is =
       is ∙ ap (λ rest. map f (take i xs) ++ rest) (drop_all i xs past) ∙ append-nil (map f (take i xs)) ∙ ap (map f) (take_all i xs past)
+
+-- ---- items met a block after another
+
+module _ (n : ℕ) (items : List Item) where
+  pub ordered_front : All IsOrdered (items_seen items) → All IsOrdered (items_seen (take n items))
+  ordered_front all = subst (All IsOrdered) (take-map item_seen n items) (All-take IsOrdered n (items_seen items) all)
+
+  pub ordered_back : All IsOrdered (items_seen items) → All IsOrdered (items_seen (drop n items))
+  ordered_back all = subst (All IsOrdered) (drop-map item_seen n items) (All-drop IsOrdered n (items_seen items) all)
+
+walked_on : (n : ℕ) (items : List Item) (link : LinkSeen) → walked (items_seen (drop n items)) (walked (items_seen (take n items)) link) ≡ walked (items_seen items) link
+walked_on zero items link = refl
+walked_on (suc n) [] link = refl
+walked_on (suc n) (x ∷ items) link = walked_on n items (after link (item_seen x))
+
+all_walked_on : (n : ℕ) (items : List Item) (links : List LinkSeen)
+    → map (walked (items_seen (drop n items))) (map (walked (items_seen (take n items))) links) ≡ map (walked (items_seen items)) links
+all_walked_on n items [] = refl
+all_walked_on n items (link ∷ links) =
+    ap (λ first. first ∷ map (walked (items_seen (drop n items))) (map (walked (items_seen (take n items))) links)) (walked_on n items link)
+    ∙ ap (λ others. walked (items_seen items) link ∷ others) (all_walked_on n items links)
+
+-- one block more
+pub block_more : (n : ℕ) (items block later : List Item) (links new total : List LinkSeen) → block ≡ take n items → later ≡ drop n items
+    → new ≡ map (walked (items_seen block)) links → map (walked (items_seen items)) links ≡ total → map (walked (items_seen later)) new ≡ total
+block_more n items block later links new total front back is so_far =
+    ap (λ left. map (walked (items_seen left)) new) back
+    ∙ ap (map (walked (items_seen (drop n items)))) (is ∙ ap (λ met. map (walked (items_seen met)) links) front)
+    ∙ all_walked_on n items links
+    ∙ so_far
+
+-- no items are left
+unchanged : (links : List LinkSeen) → map (walked []) links ≡ links
+unchanged [] = refl
+unchanged (link ∷ links) = ap (λ others. link ∷ others) (unchanged links)
+
+pub blocks_done : (rest : List Item) (links total : List LinkSeen) → length rest ≡ 0 → map (walked (items_seen rest)) links ≡ total → links ≡ total
+blocks_done [] links total none so_far = sym (unchanged links) ∙ so_far
+blocks_done (x ∷ rest) links total none so_far = absurd (omega arith)

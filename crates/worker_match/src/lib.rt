@@ -6,8 +6,6 @@ mod items;
 mod laws;
 mod links;
 mod offers;
-#[cfg(test)]
-mod tests;
 mod workers;
 
 pub use items::Item;

@@ -9,6 +9,9 @@ use crate::links::LinkState;
 use aprs_base::{Gate, Memory};
 use std::thread::{Threads, join_mut};
 
+/// All links of a part meet so many items before they meet the next ones: what a walk touches of these stays near the processor.
+const BLOCK: usize = 32;
+
 /// Each link meets the items in their order. The links are split into at most `workers` parts, which are walked at the same
 /// time, each between its entering and its leaving the gate. After `Memory` nothing is said of the links.
 pub fn spread<R: Threads + Sync, G: Gate + Sync>(
@@ -93,8 +96,22 @@ fn pass<G: Gate>(links: &mut [LinkState], items: &[Item], part: u32, gate: &G) -
     done
 }
 
-/// Each link meets the items in their order, one link after another.
+/// Each link meets the items in their order, a block of them after another.
 fn walk(links: &mut [LinkState], items: &[Item]) -> Result<(), Memory>
+    requires { All IsOrdered (items_seen items.now) }
+    ensures { OnOk result (links.new ≡ map (walked (items_seen items.now)) links.old) }
+{
+    let mut rest = items;
+    while !rest.is_empty() {
+        let (block, later) = rest.split_at(rest.len().min(BLOCK));
+        walk_block(links, block)?;
+        rest = later;
+    }
+    Ok(())
+}
+
+/// Each link meets the items in their order, one link after another.
+fn walk_block(links: &mut [LinkState], items: &[Item]) -> Result<(), Memory>
     requires { All IsOrdered (items_seen items.now) }
     ensures { OnOk result (links.new ≡ map (walked (items_seen items.now)) links.old) }
 {

@@ -81,7 +81,7 @@ fn lines_of(
 }
 
 impl Walker {
-    /// The lines that the events bring are parsed, side by side where they are many. What was parsed in the round before is let go first.
+    /// The lines that the events bring are parsed, side by side where they are many.
     pub(super) fn look_ahead<R: Threads + Sync>(
         &mut self,
         rt: &R,
@@ -90,7 +90,6 @@ impl Walker {
     ) -> Result<(), Memory>
         ensures { OnOk result (self.new ≡ self.old) }
     {
-        self.ahead.clear(alloc);
         let lines = lines_of(alloc, self.hasher, &self.links, events)?;
         self.ahead.parse(rt, alloc, lines)
     }

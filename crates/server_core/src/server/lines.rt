@@ -19,6 +19,7 @@ use super::Walker;
 use aprs_base::{Cut, JournalLine, Line, Memory, Source};
 use aprs_body::classify;
 use aprs_history::{Refusal, Verdict};
+use dupe_window::Key;
 use line_verdict::{Voice, is_comment_line, judge_comment};
 use std::alloc::Global;
 
@@ -45,7 +46,8 @@ impl Walker {
             Verdict::Filtered(answer) => self.answer(alloc, number, answer),
             Verdict::Accepted(parts, line) => {
                 let body = classify(&parts.dest, parts.body.as_slice());
-                self.accept(alloc, from, parts, body, line)
+                let key = Key::of(&parts);
+                self.accept(alloc, from, parts, body, line, key)
             }
         }
     }

@@ -3,6 +3,7 @@ ghost use Rattle.std.specs.Prelude.{◌≡◌, ◌≤◌, ◌++◌, IsTrue, IfOk
 ghost use Rattle.std.specs.Arc.{arc_value};
 ghost use Rattle.std.specs.List.Sorted.{IsStrictlyIncreasing};
 ghost use Rattle.aprs_body.specs.Bodies.{body_of};
+ghost use Rattle.dupe_window.specs.Keys.{key_of};
 ghost use Rattle.dupe_window.specs.Windows.{has_copy};
 ghost use Rattle.aprs_history.specs.Verdicts.{packet_verdict, read_and_routed};
 ghost use Rattle.aprs_history.specs.declared.verdicts.Verdict.{Verdict};
@@ -95,7 +96,14 @@ impl Walker {
 
     /// An accepted packet, which is shared, goes to the links that want it and to the peers, tells where its source is, is
     /// counted, and is kept.
-    fn keep(&mut self, alloc: Global, packet: &Packet, shared: &Shared) -> Result<(), Memory>
+    fn keep(
+        &mut self,
+        alloc: Global,
+        packet: &Packet,
+        shared: &Shared,
+        key: Key,
+    ) -> Result<(), Memory>
+        requires key { key ≡ key_of packet.now.parts }
         requires same { arc_value shared.now ≡ packet.now }
         requires now { packet.now.moment ≡ self.old.seen.moment }
         requires new { has_copy self.old.seen.moment self.old.seen.window packet.now.parts ≡ false }
@@ -117,11 +125,11 @@ impl Walker {
         )?;
         self.counts.accepted = raised(self.counts.accepted, 1);
         self.stations.note(alloc, packet)?;
-        self.window.insert(Key::of(&packet.parts), packet.moment)?;
+        self.window.insert(key, packet.moment)?;
         Ok(())
     }
 
-    /// A packet that came from there is accepted.
+    /// A packet that came from there is accepted. It has this key.
     pub(super) fn accept(
         &mut self,
         alloc: Global,
@@ -129,7 +137,9 @@ impl Walker {
         parts: Parts,
         body: Body,
         line: Line,
+        key: Key,
     ) -> Result<(), Memory>
+        requires key { key ≡ key_of parts }
         requires body { body ≡ body_of parts.dest parts.body }
         requires new { has_copy self.old.seen.moment self.old.seen.window parts ≡ false }
         ensures { OnOk result (self.new ≡ with_verdict from (Verdict.Accepted parts line) self.old) }
@@ -143,7 +153,7 @@ impl Walker {
             line,
         };
         let shared = Arc::new(alloc, packet)?;
-        self.keep(alloc, &shared, &shared)
+        self.keep(alloc, &shared, &shared, key)
     }
 
     /// A packet that came from there goes on so, unless it is a copy.
@@ -162,11 +172,12 @@ impl Walker {
         ensures lines { OnOk result (lines.new.items ≡ lines.old.items ++ said_lines self.old from (packet_verdict (has_copy self.old.seen.moment self.old.seen.window) (Ok parts))) }
     {
         let line = line_of(&parts);
-        if self.is_copy(&parts) {
+        let key = Key::of(&parts);
+        if self.has_copy(&key) {
             self.tell_duplicate(&from, lines)?;
             self.show(alloc, &from, parts, line)
         } else {
-            self.accept(alloc, from, parts, body, line)
+            self.accept(alloc, from, parts, body, line, key)
         }
     }
 

@@ -173,6 +173,13 @@ impl Walker {
         Ok(())
     }
 
+    /// What was parsed ahead is let go.
+    fn let_ahead_go(&mut self, alloc: Global)
+        ensures { self.new ≡ self.old }
+    {
+        self.ahead.clear(alloc);
+    }
+
     /// A round ends.
     pub(super) fn finish<R: Threads + Sync, G: Gate + Sync>(
         &mut self,
@@ -191,6 +198,7 @@ impl Walker {
         ensures rest { OnOk result (SameRest self.old self.new) }
         ensures rests { OnOk result (self.new.rests ≡ true) }
     {
+        self.let_ahead_go(alloc);
         self.rest(rt, workers, gate)?;
         self.end_refused(alloc, events, lines)?;
         self.end_stopped(alloc, lines)

@@ -1,8 +1,10 @@
 //! The verdict on what is said.
 ghost use Rattle.std.specs.Prelude.{◌≡◌, ◌≤◌, ℕ, [], IsTrue, IfOk, List, OnOk, length};
 ghost use Rattle.aprs_base.specs.Bytes.{is_station};
+ghost use Rattle.aprs_base.specs.PartsSeen.{PartsSeen};
 ghost use Rattle.aprs_body.specs.Bodies.{body_of};
 ghost use Rattle.aprs_history.specs.Verdicts.{login_verdict, read_and_routed};
+ghost use Rattle.dupe_window.specs.Keys.{key_of};
 ghost use Rattle.dupe_window.specs.Windows.{has_copy};
 ghost use Rattle.line_verdict.specs.Voices.{HasStation, voice_of};
 ghost use Rattle.login_pass.specs.Login.{login_of};
@@ -16,7 +18,8 @@ use super::Walker;
 use crate::conf::server_of;
 use aprs_base::{Body, Call, Line, Memory, Parts, Source};
 use aprs_history::{Refusal, Verdict};
-use line_verdict::{Voice, is_copy, judge_login, route_parts};
+use dupe_window::Key;
+use line_verdict::{Voice, judge_login, route_parts};
 use parsed_lines::Parsed;
 use q_construct::{Calls, Origin};
 use std::alloc::Global;
@@ -100,10 +103,10 @@ impl Walker {
         route_parsed(whole, server_of(&self.conf), origin, &others, parsed)
     }
 
-    /// Whether a packet is a copy of one that was accepted.
-    pub(super) fn is_copy(&self, parts: &Parts) -> bool
-        ensures { result ≡ has_copy self.now.seen.moment self.now.seen.window parts.now }
+    /// Whether a packet of that key is a copy of one that was accepted.
+    pub(super) fn has_copy(&self, key: &Key) -> bool
+        ensures { (parts : PartsSeen) → key.now ≡ key_of parts → result ≡ has_copy self.now.seen.moment self.now.seen.window parts }
     {
-        is_copy(self.moment, &self.window, parts)
+        self.window.seen(key, self.moment).is_some()
     }
 }

@@ -12,7 +12,7 @@ pub returns-in_ok-tell_duplicate-clause-lines : goal.returns-in_ok-tell_duplicat
 returns-in_ok-tell_duplicate-clause-lines c =
     let core = c.args.self.now in
     let parts = c.args.parts in
-    let copy : has_copy core.seen.moment core.seen.window parts ≡ true = sym c.is_copy.ensures ∙ c.if-is_copy.true in
+    let copy : has_copy core.seen.moment core.seen.window parts ≡ true = sym (c.has_copy.ensures parts c.of-key.ensures) ∙ c.if-has_copy.true in
     stands_ok c.show.result
     (c.in_ok-tell_duplicate.ensures parts (text_of parts)
     ∙ ap (λ again. c.args.lines.now.items ++ said_lines core c.args.from (if again then Refused (refusal.Duplicate parts (text_of parts)) else Accepted parts (text_of parts))) (sym copy))

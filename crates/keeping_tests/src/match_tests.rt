@@ -4,7 +4,6 @@ ghost use Rattle.std.specs.List.Sorted.{IsStrictlyIncreasing};
 ghost use Rattle.worker_match.specs.Items.{item_seen};
 ghost use Rattle.worker_match.specs.Walk.{IsOrdered};
 
-use crate::{Feed, Item, LinkState, spread};
 use aprs_base::{Body, Call, Gate, Line, Memory, OpenGate, Packet, Parts, Place, Source};
 use arrayvec::ArrayVec;
 use filter_eval::Friends;
@@ -16,6 +15,7 @@ use std::sync::Arc;
 use std::sync::atomic::{AtomicU64, Ordering};
 use std::test::Fail;
 use std::thread::{Threads, yield_now};
+use worker_match::{Feed, Item, LinkState, spread};
 
 /// The call that the one term may name was seen nowhere.
 fn nowhere(terms: usize) -> Friends {

@@ -1,6 +1,6 @@
 //! Links that are fed, by hand.
-use crate::Feeds;
 use aprs_base::{Line, Memory, OpenGate};
+use link_feeds::Feeds;
 use std::alloc::Global;
 use std::process::Abort;
 use std::sync::Arc;
