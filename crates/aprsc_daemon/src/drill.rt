@@ -16,6 +16,7 @@ use drill_plan::{Events, Plan, copy_events};
 use std::alloc::Global;
 use std::hash::RandomState;
 use std::marker::{Model, Sync};
+use std::mem::forget;
 use std::sync::Wait;
 use std::thread::Threads;
 
@@ -146,22 +147,23 @@ pub(crate) fn drill<R: Threads + Sync + Wait>(
     let Ok(mut core) = open(alloc, conf, asked.workers, &mut wire, hasher) else {
         return Err(Memory);
     };
-    match serve(
+    let end = serve(
         rt,
         alloc,
         &mut core,
         &mut wire,
         &mut Vec::new(alloc),
         &OpenGate,
-    ) {
+    );
+    let totals = core.totals();
+    // What it keeps isn't taken apart: the process ends next.
+    forget(core);
+    match end {
         End::Stopped => {}
         End::Failed | End::Memory => return Err(Memory),
     }
     match wire.taken_by(asked.plan) {
-        Some(taken) => Ok(Counts {
-            totals: core.totals(),
-            taken,
-        }),
+        Some(taken) => Ok(Counts { totals, taken }),
         None => Err(Memory),
     }
 }

@@ -26,6 +26,7 @@ use aprs_conf::Conf;
 use std::alloc::Global;
 use std::hash::RandomState;
 use std::marker::Sync;
+use std::mem::forget;
 use std::sync::Wait;
 use std::thread::Threads;
 
@@ -118,7 +119,12 @@ fn run_conf<R: Threads + Sync + Wait, W: Wire, S: Sink, G: Gate + Sync>(
         (W.shown wire.old) (W.shown wire.new) (S.shown out.old) (S.shown out.new)) }
 {
     match open(alloc, conf, workers, wire, hasher) {
-        Ok(mut core) => ended(serve(rt, alloc, &mut core, wire, journals, gate)),
+        Ok(mut core) => {
+            let end = serve(rt, alloc, &mut core, wire, journals, gate);
+            // What it keeps isn't taken apart: the process ends next.
+            forget(core);
+            ended(end)
+        }
         Err(ListenError::Failed(n)) => say_made(out, listen_failed(alloc, n), Status::NoListener),
         Err(ListenError::Memory) => Status::NoMemory,
     }

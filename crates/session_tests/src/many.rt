@@ -5,6 +5,7 @@ use aprs_base::{Chunk, Event};
 use server_core::Core;
 use std::alloc::Global;
 use std::marker::Sync;
+use std::mem::forget;
 use std::process::Abort;
 use std::random::RandomSource;
 use std::thread::Threads;
@@ -80,6 +81,7 @@ fn taken_at_once<R: Threads + Sync + RandomSource + Abort>(rt: &R, alloc: Global
     let events = whole_round(rt, alloc);
     let mut taken = Vec::new(alloc);
     taken_after(rt, alloc, &mut core, events.as_slice(), &mut taken);
+    forget(core);
     taken
 }
 
@@ -92,6 +94,7 @@ fn taken_one_by_one<R: Threads + Sync + RandomSource + Abort>(rt: &R, alloc: Glo
         let events = [bytes(rt, 1, line.as_bytes()), Event::Tick(1000)];
         taken_after(rt, alloc, &mut core, &events, &mut taken);
     }
+    forget(core);
     taken
 }
 

@@ -5,6 +5,7 @@ use dupe_window::Key;
 use server_core::{Acts, CastOut, Core};
 use std::alloc::Global;
 use std::marker::Sync;
+use std::mem::forget;
 use std::process::Abort;
 use std::random::RandomSource;
 use std::thread::Threads;
@@ -63,7 +64,8 @@ pub(crate) const USUAL: Limits = Limits {
     clients: 500,
 };
 
-/// A core, the events of the round that goes on, and what was to be done after the last, with what it told the journals.
+/// A core, the events of the round that goes on, and what was to be done after the last, with what it told the journals. It isn't
+/// taken apart at its end, which would have to be proved for all that a core keeps.
 #[derive(Drop)]
 struct Session {
     core: Core,
@@ -237,6 +239,7 @@ pub(crate) fn run<R: Threads + Sync + RandomSource + Abort>(
     play(rt, alloc, &mut session, &[Row::Tick(1000)]);
     play(rt, alloc, &mut session, first);
     play(rt, alloc, &mut session, more);
+    forget(session);
 }
 
 /// The same for a server with these limits.
@@ -249,6 +252,7 @@ pub(crate) fn run_within<R: Threads + Sync + RandomSource + Abort>(
     let mut session = new_session(rt, alloc, b"T2TEST", limits);
     play(rt, alloc, &mut session, &[Row::Tick(1000)]);
     play(rt, alloc, &mut session, rows);
+    forget(session);
 }
 
 /// The head, so many times the piece, and the end.

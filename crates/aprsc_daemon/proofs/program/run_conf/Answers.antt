@@ -15,22 +15,22 @@ pub returns-in-Ok-clause-journals : goal.returns-in-Ok-clause-journals
 returns-in-Ok-clause-journals g c =
     let s = setting_of c.args.conf in
     let start = (g.W.Wire.shown c.args.wire.now).told in
-    let now = (g.W.Wire.shown c.serve.new.wire).told in
-    let served = c.serve.ensures.run in (
+    let now = (g.W.Wire.shown c.serve-end.new.wire).told in
+    let served = c.serve-end.ensures.run in (
       served.0,
       served.1,
       subst (λ status. AppendsRun s start now (JournalTold (code_of_status status) s served.0)) (sym c.ended.ensures)
-          (run_weaker s start now (Served s c.serve.result served.0) (JournalTold (code_of_status (status_of c.serve.result)) s served.0)
-          (λ more at. told_by_end s c.serve.result served.0 more at) (served.2 s start [] (ap setting_of c.in-Ok.ensures.conf) c.in-Ok.ensures.run)),
+          (run_weaker s start now (Served s c.serve-end.result served.0) (JournalTold (code_of_status (status_of c.serve-end.result)) s served.0)
+          (λ more at. told_by_end s c.serve-end.result served.0 more at) (served.2 s start [] (ap setting_of c.in-Ok.ensures.conf) c.in-Ok.ensures.run)),
     )
 
 pub returns-in-Ok-clause-cause : goal.returns-in-Ok-clause-cause
 returns-in-Ok-clause-cause g c = λ words files files_after read.
     let s = setting_of c.args.conf in
     let start = (g.W.Wire.shown c.args.wire.now).told in
-    let served = c.serve.ensures.run in
-    ended_cause _ c.args.conf c.serve.result c.ended.result c.ended.ensures read refl (λ failed. rose_later _ _ _ c.open.ensures.stops (c.serve.ensures.failed failed))
-    (run_weaker s start (g.W.Wire.shown c.serve.new.wire).told (Served s c.serve.result served.0) (Ends s c.serve.result) (λ more at. at.0) (served.2 s start [] (ap setting_of c.in-Ok.ensures.conf) c.in-Ok.ensures.run))
+    let served = c.serve-end.ensures.run in
+    ended_cause _ c.args.conf c.serve-end.result c.ended.result c.ended.ensures read refl (λ failed. rose_later _ _ _ c.open.ensures.stops (c.serve-end.ensures.failed failed))
+    (run_weaker s start (g.W.Wire.shown c.serve-end.new.wire).told (Served s c.serve-end.result served.0) (Ends s c.serve-end.result) (λ more at. at.0) (served.2 s start [] (ap setting_of c.in-Ok.ensures.conf) c.in-Ok.ensures.run))
 
 pub returns-in-Err-Failed-clause-journals : goal.returns-in-Err-Failed-clause-journals
 returns-in-Err-Failed-clause-journals g c =
@@ -64,4 +64,4 @@ returns-in-Err-Memory-clause-cause g c = λ words files files_after read.
     }))
 
 pub returns-in-Ok-clause-still : goal.returns-in-Ok-clause-still
-returns-in-Ok-clause-still g c = λ before. absurd (true≢false (sym before ∙ ap (λ status. is_before_serving (code_of_status status)) c.ended.ensures ∙ ended_serving c.serve.result))
+returns-in-Ok-clause-still g c = λ before. absurd (true≢false (sym before ∙ ap (λ status. is_before_serving (code_of_status status)) c.ended.ensures ∙ ended_serving c.serve-end.result))
