@@ -74,6 +74,15 @@ def lines_in(client):
         count += piece.count(b"\n")
 
 
+def wait_for(reader, count):
+    """How many line ends have come once these have, or five seconds have gone by."""
+    began, got = time.monotonic(), 0
+    while got < count and time.monotonic() < began + 5:
+        time.sleep(0.01)
+        got += lines_in(reader)
+    return got
+
+
 class Marks:
     """Processor seconds at the numbers of packets between which the first tenth and the last lie."""
 
@@ -105,6 +114,8 @@ def main():
                 sender.sendall(packets(sent))
                 got += lines_in(reader)
                 marks.pass_by(got, server)
+                if paced and sent == MARGIN:
+                    got += wait_for(reader, sent - got)
                 if sent >= MARGIN:
                     time.sleep(max(0.0, began + seconds * sent / count - time.monotonic()))
                 if sent in (MARGIN, count - STATIONS) or sent % (count // 20) == 0:

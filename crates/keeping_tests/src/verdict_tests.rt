@@ -3,6 +3,7 @@ ghost use Rattle.std.specs.Prelude.{IsTrue};
 ghost use Rattle.aprs_base.specs.Bytes.{is_station};
 ghost use Rattle.q_construct.specs.Rule.{has_station};
 
+use crate::window_tests::window_of;
 use aprs_base::{Call, Cut, Line, Parts};
 use aprs_history::{FilterAnswer, Refusal, Verdict};
 use dupe_window::{Key, Window};
@@ -13,7 +14,6 @@ use line_verdict::{
 use login_pass::LoginFault;
 use q_construct::{Listed, Origin, QDrop};
 use std::alloc::Global;
-use std::hash::RandomState;
 use std::process::Abort;
 use std::test::Fail;
 use tnc2_line::LineFault;
@@ -185,18 +185,15 @@ fn refused(verdict: Verdict) -> Option<Refusal> {
 
 #[test]
 fn accepts_packets(rt: HostRuntime) -> Result<(), Fail> {
-    let mut window = Window::new(rt.alloc(), RandomState::new(&rt)?, 30);
+    let window = window_of(&rt, rt.alloc(), 30)?;
     let said = b"N0CALL>APRS:>hi".as_slice();
-    let verdict_on_it = verdict(&rt, &window, said);
+    let verdict_on_it = verdict(&rt, window, said);
     let (parts, sent) = accepted(verdict_on_it).expect(&rt, "a packet");
     assert!(rt; sent.bytes() == b"N0CALL>APRS,TCPIP*,qAC,T2TEST:>hi".as_slice());
     window.insert(Key::of(&parts), 1000)?;
-    let again = refused(verdict(&rt, &window, said)).expect(&rt, "a refusal");
+    let again = refused(verdict(&rt, window, said)).expect(&rt, "a refusal");
     assert!(rt; again == Refusal::Duplicate(parts, sent));
-    let other = refused(verdict(&rt, &window, b"K1ABC>APRS,qAR,OH7LZB:>x")).expect(
-        &rt,
-        "a refusal",
-    );
+    let other = refused(verdict(&rt, window, b"K1ABC>APRS,qAR,OH7LZB:>x")).expect(&rt, "a refusal");
     assert!(rt; other == Refusal::Path(QDrop::OtherLogin(call(&rt, b"OH7LZB"))));
     Ok(())
 }
@@ -210,8 +207,8 @@ fn routes_packets(rt: HostRuntime) -> Result<(), Fail> {
     let said = line(&rt, b"N0CALL>APRS:>hi");
     assert!(rt; route_packet(&mut whole, &server, &origin, &others, &said) == Ok(()));
     assert!(rt; line_of(&whole) == line(&rt, b"N0CALL>APRS,TCPIP*,qAC,T2TEST:>hi"));
-    let window = Window::new(rt.alloc(), RandomState::new(&rt)?, 30);
-    assert!(rt; !is_copy(1000, &window, &whole));
+    let window = window_of(&rt, rt.alloc(), 30)?;
+    assert!(rt; !is_copy(1000, window, &whole));
     let said = line(&rt, b"N0CALL>APRS:");
     let why = Refusal::Packet(LineFault::NoBody);
     assert!(rt; route_packet(&mut Parts::unfilled(), &server, &origin, &others, &said) == Err(why));

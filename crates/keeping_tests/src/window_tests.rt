@@ -1,12 +1,14 @@
 //! Keys of packets and their copies, and a window that they go through.
-ghost use Rattle.std.specs.Prelude.{◌≤◌};
-ghost use Rattle.dupe_window.specs.Windows.{IsUpTo};
+ghost use Rattle.std.specs.Prelude.{◌≡◌, ◌≤◌, IfOk};
+ghost use Rattle.dupe_window.specs.Windows.{IsUpTo, empty_window};
 
 use aprs_base::{Call, Memory, Parts, Via};
 use arrayvec::ArrayVec;
 use dupe_window::{Key, Window};
+use std::alloc::Global;
 use std::hash::RandomState;
 use std::process::Abort;
+use std::random::RandomSource;
 use std::test::Fail;
 
 /// The source, the destination, the path and the body of a packet.
@@ -41,6 +43,18 @@ fn key<R: Abort>(rt: &R, packet: Texts) -> Key {
 /// The key of a packet that is like the others but for its body.
 fn key_with<R: Abort>(rt: &R, body: &[u8]) -> Key {
     key(rt, (b"K1ABC", b"APRS", &[], body))
+}
+
+/// A window of so many seconds, which is never taken apart: that would have to be proved for all that it keeps.
+pub(crate) fn window_of<'a, R: RandomSource>(
+    rt: &R,
+    alloc: Global,
+    seconds: u32,
+) -> Result<&'a mut Window, Fail>
+    ensures { IfOk result (λ window. window.now ≡ empty_window seconds) }
+{
+    let window = Window::new(alloc, RandomState::new(rt)?, seconds);
+    Ok(Box::leak(Box::new(alloc, window)?))
 }
 
 /// Keeps a packet, unless it is a copy of one in the window, which is what it answers.
@@ -82,7 +96,7 @@ fn copies_have_one_key(rt: HostRuntime) {
 
 #[test]
 fn sees_for_thirty_seconds(rt: HostRuntime) -> Result<(), Fail> {
-    let mut window = Window::new(rt.alloc(), RandomState::new(&rt)?, 30);
+    let window = window_of(&rt, rt.alloc(), 30)?;
     window.insert(key_with(&rt, b">hello"), 1000)?;
     let cases: [(u64, Option<u64>); 5] = [
         (999, Some(1000)),
@@ -101,7 +115,7 @@ fn sees_for_thirty_seconds(rt: HostRuntime) -> Result<(), Fail> {
 #[test]
 fn forgets_after_thirty_seconds(rt: HostRuntime) -> Result<(), Fail> {
     let key = || key_with(&rt, b">hello");
-    let mut window = Window::new(rt.alloc(), RandomState::new(&rt)?, 30);
+    let window = window_of(&rt, rt.alloc(), 30)?;
     window.insert(key(), 1000)?;
     window.expire(1029);
     assert!(rt; window.seen(&key(), 1029) == Some(1000));
@@ -118,9 +132,9 @@ fn forgets_after_thirty_seconds(rt: HostRuntime) -> Result<(), Fail> {
 fn forgets_the_oldest_first(rt: HostRuntime) -> Result<(), Fail> {
     let first = || key_with(&rt, b">first");
     let second = || key_with(&rt, b">second");
-    let mut window = Window::new(rt.alloc(), RandomState::new(&rt)?, 30);
+    let window = window_of(&rt, rt.alloc(), 30)?;
     window.insert(first(), 1000)?;
-    assert!(rt; offer(&mut window, second(), 1010)?.is_none());
+    assert!(rt; offer(window, second(), 1010)?.is_none());
     window.expire(1030);
     assert!(rt; window.seen(&first(), 1010).is_none());
     assert!(rt; window.seen(&second(), 1030) == Some(1010));
@@ -129,7 +143,7 @@ fn forgets_the_oldest_first(rt: HostRuntime) -> Result<(), Fail> {
 
 #[test]
 fn sees_nothing_in_no_time(rt: HostRuntime) -> Result<(), Fail> {
-    let mut window = Window::new(rt.alloc(), RandomState::new(&rt)?, 0);
+    let window = window_of(&rt, rt.alloc(), 0)?;
     window.insert(key_with(&rt, b">hello"), 1000)?;
     assert!(rt; window.seen(&key_with(&rt, b">hello"), 1000).is_none());
     window.expire(1000);
@@ -167,7 +181,7 @@ fn later(now: u64, seconds: u64) -> u64
 
 #[test]
 fn answers_as_a_list_of_all_packets(rt: HostRuntime) -> Result<(), Fail> {
-    let mut window = Window::new(rt.alloc(), RandomState::new(&rt)?, 30);
+    let window = window_of(&rt, rt.alloc(), 30)?;
     let mut accepted: Accepted = Vec::new(rt.alloc());
     let mut state: u64 = 1;
     let mut now: u64 = 1000;
@@ -178,7 +192,7 @@ fn answers_as_a_list_of_all_packets(rt: HostRuntime) -> Result<(), Fail> {
         let want = accepted_at(accepted.as_slice(), number, now);
         let key = || key_with(&rt, &number.to_le_bytes());
         assert!(rt; window.seen(&key(), now) == want);
-        assert!(rt; offer(&mut window, key(), now)? == want);
+        assert!(rt; offer(window, key(), now)? == want);
         if want.is_none() {
             accepted.push((number, now))?;
         }

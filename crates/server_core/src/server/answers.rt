@@ -20,9 +20,7 @@ use std::alloc::Global;
 use std::sync::Arc;
 
 impl Walker {
-    /// A duplicate is refused, and is counted: the links that are shown such take it. By itself it leaves no room for parts to be
-    /// cleared at each packet that is accepted.
-    #[inline(never)]
+    /// A duplicate is refused, and is counted: the links that are shown such take it.
     pub(super) fn show(
         &mut self,
         alloc: Global,
@@ -83,9 +81,7 @@ impl Walker {
         }
     }
 
-    /// A line that came from there is refused, which is told and done. A refusal is large: by itself it leaves no room for one to
-    /// be cleared at each packet.
-    #[inline(never)]
+    /// A line that came from there is refused, which is told and done.
     pub(super) fn turn_down(
         &mut self,
         alloc: Global,
