@@ -1,4 +1,5 @@
 //! Links that hear stations and are promised positions, at moments that are given.
+use crate::lasting::lasting;
 use aprs_base::{Call, Memory};
 use heard_routing::Heard;
 use std::alloc::Global;
@@ -51,14 +52,14 @@ fn act_on<R: Abort>(rt: &R, alloc: Global, heard: &mut Heard, act: &Act) -> Resu
     Ok(true)
 }
 
-/// Does the acts with a table that is new. It is never taken apart: that would have to be proved for all that it keeps.
+/// Does the acts with a table that is new.
 fn play<'a, R: Abort + RandomSource>(
     rt: &R,
     alloc: Global,
     acts: &[Act],
 ) -> Result<&'a mut Heard, Fail> {
     let hasher = RandomState::new(rt)?;
-    let heard = Box::leak(Box::new(alloc, Heard::new(alloc, &hasher)?)?);
+    let heard = lasting(alloc, Heard::new(alloc, &hasher)?)?;
     for act in acts {
         let right = act_on(rt, alloc, heard, act)?;
         assert!(rt; right);

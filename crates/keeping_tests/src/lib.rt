@@ -12,6 +12,8 @@ mod journal_line_tests;
 #[cfg(test)]
 mod journal_tests;
 #[cfg(test)]
+mod lasting;
+#[cfg(test)]
 mod match_tests;
 #[cfg(test)]
 mod queue_tests;

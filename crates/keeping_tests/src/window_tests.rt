@@ -2,6 +2,7 @@
 ghost use Rattle.std.specs.Prelude.{◌≡◌, ◌≤◌, IfOk};
 ghost use Rattle.dupe_window.specs.Windows.{IsUpTo, empty_window};
 
+use crate::lasting::lasting;
 use aprs_base::{Call, Memory, Parts, Via};
 use arrayvec::ArrayVec;
 use dupe_window::{Key, Window};
@@ -45,7 +46,7 @@ fn key_with<R: Abort>(rt: &R, body: &[u8]) -> Key {
     key(rt, (b"K1ABC", b"APRS", &[], body))
 }
 
-/// A window of so many seconds, which is never taken apart: that would have to be proved for all that it keeps.
+/// A window of so many seconds, with no packet in it.
 pub(crate) fn window_of<'a, R: RandomSource>(
     rt: &R,
     alloc: Global,
@@ -54,7 +55,7 @@ pub(crate) fn window_of<'a, R: RandomSource>(
     ensures { IfOk result (λ window. window.now ≡ empty_window seconds) }
 {
     let window = Window::new(alloc, RandomState::new(rt)?, seconds);
-    Ok(Box::leak(Box::new(alloc, window)?))
+    lasting(alloc, window)
 }
 
 /// Keeps a packet, unless it is a copy of one in the window, which is what it answers.
