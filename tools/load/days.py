@@ -75,9 +75,9 @@ def lines_in(client):
 
 
 def wait_for(reader, count):
-    """How many line ends have come once these have, or five seconds have gone by."""
+    """How many line ends have come once these have, or half a minute has gone by."""
     began, got = time.monotonic(), 0
-    while got < count and time.monotonic() < began + 5:
+    while got < count and time.monotonic() < began + 30:
         time.sleep(0.01)
         got += lines_in(reader)
     return got
