@@ -4,14 +4,15 @@
     days.py PROGRAM PACKETS [SPEED [unpaced]]     PROGRAM -c FILE is the server
 
 Without SPEED they are sent as fast as they go. With it the server's clock runs so many times as fast (by libfaketime), and the
-packets are spread over three of its days, but for the first 10,000, which are sent as fast as they go, so that rounds as large as any
-are among them; or with `unpaced` all are sent so, and many of them are past by the way.
+packets are spread over three of its days, but for the first 10,000, which come at once, as many as fit while the server is held, so that
+rounds as large as any are among them; or with `unpaced` all are sent so, and many of them are past by the way.
 Each line of what is printed: packets sent, processor seconds, kilobytes of memory, packets that the other client has got. That client
 says nothing, so it ends as a silent one after two of the days. Where it got them all, the last line has the processor seconds of a
 tenth of the packets after the first 10,000, of a tenth before the last 10,000, and how many times the first the last are.
 """
 
 import os
+import signal
 import socket
 import subprocess
 import sys
@@ -48,10 +49,10 @@ def log_in(call, code):
 
 
 def cost(server):
-    """Processor seconds and kilobytes of a process. Its clock has the number that clock_getcpuclockid gives."""
+    """Processor seconds of a process and kilobytes of its own memory, without those of its file. Its clock has the number that clock_getcpuclockid gives."""
     seconds = time.clock_gettime(~server.pid << 3 | 2)
     with open(f"/proc/{server.pid}/status", encoding="ascii") as file:
-        memory = next(line.split()[1] for line in file if line.startswith("VmRSS"))
+        memory = next(line.split()[1] for line in file if line.startswith("RssAnon"))
     return round(seconds, 3), memory
 
 
@@ -74,10 +75,28 @@ def lines_in(client):
         count += piece.count(b"\n")
 
 
+def send_held(server, sender, reader, text):
+    """Sends a text of which as much as fits waits while the server is held, and how many line ends have come."""
+    server.send_signal(signal.SIGSTOP)
+    sender.setblocking(False)
+    sent, got = 0, 0
+    try:
+        while sent < len(text):
+            sent += sender.send(text[sent:])
+    except BlockingIOError:
+        pass
+    sender.setblocking(True)
+    server.send_signal(signal.SIGCONT)
+    for at in range(sent, len(text), 4096):
+        sender.sendall(text[at : at + 4096])
+        got += lines_in(reader)
+    return got
+
+
 def wait_for(reader, count):
-    """How many line ends have come once these have, or half a minute has gone by."""
+    """How many line ends have come once these have, or five seconds have gone by."""
     began, got = time.monotonic(), 0
-    while got < count and time.monotonic() < began + 30:
+    while got < count and time.monotonic() < began + 5:
         time.sleep(0.01)
         got += lines_in(reader)
     return got
@@ -109,15 +128,16 @@ def main():
         server = start(program, folder, speed)
         try:
             sender, reader, got, marks = log_in("N0CALL", 13023), log_in("K1ABC", 14993), 0, Marks(count)
-            began, seconds = time.monotonic(), DAYS * 86_400 / speed if paced else 0
-            for sent in range(0, count, STATIONS):
+            began, seconds, first = time.monotonic(), DAYS * 86_400 / speed if paced else 0, 0
+            if paced:
+                time.sleep(0.5)
+                got += send_held(server, sender, reader, b"".join(packets(n) for n in range(0, MARGIN, STATIONS)))
+                got, first = got + wait_for(reader, MARGIN - got), MARGIN
+            for sent in range(first, count, STATIONS):
                 sender.sendall(packets(sent))
                 got += lines_in(reader)
                 marks.pass_by(got, server)
-                if paced and sent == MARGIN:
-                    got += wait_for(reader, sent - got)
-                if sent >= MARGIN:
-                    time.sleep(max(0.0, began + seconds * sent / count - time.monotonic()))
+                time.sleep(max(0.0, began + seconds * sent / count - time.monotonic()))
                 if sent in (MARGIN, count - STATIONS) or sent % (count // 20) == 0:
                     print(sent, *cost(server), got, flush=True)
             ended = time.monotonic()
