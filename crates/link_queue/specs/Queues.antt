@@ -17,6 +17,9 @@ pending_bytes queue = drop queue.offset (text_bytes queue.lines)
 abbrev pub with_line : List ℕ → QueueSeen → QueueSeen
 with_line line queue = record queue { lines = queue.lines ++ line ∷ [] }
 
+abbrev pub with_lines : List (List ℕ) → QueueSeen → QueueSeen
+with_lines lines queue = record queue { lines = queue.lines ++ lines }
+
 -- some of the bytes less
 abbrev pub without_bytes : ℕ → QueueSeen → QueueSeen
 without_bytes n queue = let left = queued queue.lines (queue.offset + n) in record queue { lines = left.lines; offset = left.offset }

@@ -1,9 +1,10 @@
 //! A queue of lines: what is pushed is taken in order, byte by byte.
-ghost use Rattle.std.specs.Prelude.{◌≡◌, ◌+◌, ◌≤◌, ◌++◌, [], IfOk, IsErr, OnOk, OnErr, ◌↔◌, length, map, take, drop, min};
+ghost use Rattle.std.specs.Prelude.{◌≡◌, ◌+◌, ◌-◌, ◌≤◌, ◌++◌, [], IfOk, IsErr, OnOk, OnErr, ◌↔◌, length, map, take, drop, min};
 ghost use Rattle.std.specs.Arc.{arc_value};
 ghost use Rattle.link_queue.specs.Lines.{queued};
-ghost use Rattle.link_queue.specs.Queues.{empty_queue, pending_bytes, with_line, without_bytes};
+ghost use Rattle.link_queue.specs.Queues.{empty_queue, pending_bytes, with_line, with_lines, without_bytes};
 
+use crate::batch::Batch;
 use crate::writing::put_lines;
 use aprs_base::{Line, Memory};
 use circular_buffer::HeapCircularBuffer;
@@ -63,6 +64,32 @@ impl Queue {
         };
         self.pending += size;
         Ok(())
+    }
+
+    /// Adds the lines of a batch from the place `from` to before the place `to`, as many of the first as there is room for,
+    /// and says how many. `Memory` changes nothing.
+    pub fn push_run(&mut self, batch: &Arc<Batch>, from: usize, to: usize) -> Result<usize, Memory>
+        requires { (from ≤ to) × (to ≤ length (arc_value batch.now)) }
+        ensures count { IfOk result (λ n. n ≡ min (self.old.limit - length self.old.lines) (to - from)) }
+        ensures ok { IfOk result (λ n. self.new ≡ with_lines (take n (drop from (arc_value batch.now))) self.old) }
+        ensures within { length self.new.lines ≤ self.new.limit }
+    {
+        let count = self.room().min(to - from);
+        let lines = batch.between(from, from + count);
+        for line in lines {
+            let Ok(()) = self.push(line.clone()?) else {
+                return Err(Memory);
+            };
+        }
+        Ok(count)
+    }
+
+    /// How many lines more it takes.
+    fn room(&self) -> usize
+        ensures room { result ≡ self.now.limit - length self.now.lines }
+        ensures within { length self.now.lines ≤ self.now.limit }
+    {
+        self.ring.capacity() - self.ring.len()
     }
 
     /// Writes the next pending bytes, each line with its CR and LF, as many as there are and as fit, and says how many.
