@@ -1,2 +1,4 @@
+pub mod BatchLemmas
 pub mod LineLemmas
+pub mod PieceLemmas
 pub mod SoundLemmas

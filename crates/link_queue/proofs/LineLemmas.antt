@@ -1,6 +1,5 @@
 -- The first bytes of lines one after another, and what is left of them.
-use Rattle.std.proofs.Common.{◌≡◌, ℕ, zero, suc, ◌+◌, ◌-◌, ◌*◌, ◌≤◌, ◌<◌, ◌⊎◌, inl, inr, List, [], ◌∷◌, ◌++◌, length, take, drop, get_or, min, map, refl, sym, ap, subst, ◌∙◌, add-one, arith, Some, None, append_assoc, length-append, length-drop, append-nil}
-use Rattle.std.specs.List.{slice_get}
+use Rattle.std.proofs.Common.{◌≡◌, ℕ, zero, suc, ◌+◌, ◌-◌, ◌*◌, ◌≤◌, ◌<◌, ◌⊎◌, inl, inr, List, [], ◌∷◌, ◌++◌, length, take, drop, min, refl, sym, ap, subst, ◌∙◌, arith, append_assoc, length-append, length-drop, append-nil}
 use Rattle.std.proofs.Math.Seq.{drop-append-add, drop-nil}
 use Rattle.std.proofs.lemmas.Bool.{cases_lt, le-leb, lt-leb}
 use Rattle.std.proofs.lemmas.Bool.Decides.{nat_tests}
@@ -46,58 +45,67 @@ text_short (line ∷ lines) all =
     let first = all.0 in
     omega arith
 
-pub all_more : (lines : List (List ℕ)) (line : List ℕ) → AreShort lines → length line ≤ 510 → AreShort (lines ++ line ∷ [])
-all_more [] line all short = (short, tt)
-all_more (x ∷ lines) line all short = (all.0, all_more lines line all.1 short)
+pub all_append : (lines more : List (List ℕ)) → AreShort lines → AreShort more → AreShort (lines ++ more)
+all_append [] more all short = short
+all_append (x ∷ lines) more all short = (all.0, all_append lines more all.1 short)
 
-pub text_more : (lines : List (List ℕ)) (line : List ℕ) → length (text_bytes (lines ++ line ∷ [])) ≡ length (text_bytes lines) + (length line + 2)
-text_more [] line = ap length (append-nil (ended_line line)) ∙ ended_length line ∙ omega arith
-text_more (x ∷ lines) line =
-    let before = length-append (ended_line x) (text_bytes (lines ++ line ∷ [])) in
-    let after = length-append (ended_line x) (text_bytes lines) in
-    let more = text_more lines line in
-    omega arith
+pub all_drop : (n : ℕ) (lines : List (List ℕ)) → AreShort lines → AreShort (drop n lines)
+all_drop zero lines all = all
+all_drop (suc n) [] all = tt
+all_drop (suc n) (x ∷ lines) all = all_drop n lines all.1
 
-pub begun_more : (lines : List (List ℕ)) (line : List ℕ) (offset pending : ℕ) → offset + pending ≡ length (text_bytes lines) → IsWithinFirst lines offset → IsWithinFirst (lines ++ line ∷ []) offset
-begun_more [] line offset pending counted begun = omega arith
-begun_more (x ∷ lines) line offset pending counted begun = begun
+pub all_take : (n : ℕ) (lines : List (List ℕ)) → AreShort lines → AreShort (take n lines)
+all_take zero lines all = tt
+all_take (suc n) [] all = tt
+all_take (suc n) (x ∷ lines) all = (all.0, all_take n lines all.1)
+
+pub text_more : (lines more : List (List ℕ)) → length (text_bytes (lines ++ more)) ≡ length (text_bytes lines) + length (text_bytes more)
+text_more lines more = ap length (flat_map-append ended_line lines more) ∙ length-append (text_bytes lines) (text_bytes more)
+
+pub one_text : (line : List ℕ) → text_bytes (line ∷ []) ≡ ended_line line
+one_text line = append-nil (ended_line line)
+
+pub one_length : (line : List ℕ) → length (text_bytes (line ∷ [])) ≡ length line + 2
+one_length line = ap length (one_text line) ∙ ended_length line
 
 pub begun_anew : (lines : List (List ℕ)) → IsWithinFirst lines 0
 begun_anew [] = tt
 begun_anew (line ∷ lines) = omega arith
 
--- the first line that is left is begun at most
-pub first_begun : (lines more : List (List ℕ)) (line : List ℕ) (skip : ℕ) → lines ≡ line ∷ more → IsWithinFirst lines skip → skip < length line + 2
-first_begun lines more line skip is begun = subst (λ xs. IsWithinFirst xs skip) is begun
+pub begun_more : (lines more : List (List ℕ)) (offset pending : ℕ) → offset + pending ≡ length (text_bytes lines) → IsWithinFirst lines offset → IsWithinFirst (lines ++ more) offset
+begun_more [] more offset pending counted begun = let none : 0 ≡ offset = omega arith in subst (IsWithinFirst more) none (begun_anew more)
+begun_more (x ∷ lines) more offset pending counted begun = begun
 
--- what is left of a mapped list begins with what its element gives
-drop_map : {X Y : Type 0} (f : X → Y) (xs : List X) (i : ℕ) (d : X) → i < length xs → drop i (map f xs) ≡ f (get_or xs i d) ∷ drop (suc i) (map f xs)
-drop_map f [] i d lt = absurd (omega arith)
-drop_map f (x ∷ xs) zero d lt = refl
-drop_map f (x ∷ xs) (suc i) d lt = drop_map f xs i d (omega arith)
+-- the first part that is left is begun at most
+pub first_begun : (lines some more : List (List ℕ)) (skip : ℕ) → lines ≡ some ++ more → 1 ≤ length some → IsWithinFirst lines skip → skip < length (text_bytes some)
+first_begun lines [] more skip is many begun = absurd (omega arith)
+first_begun lines (line ∷ some) more skip is many begun =
+    let part : skip < length line + 2 = subst (λ xs. IsWithinFirst xs skip) is begun in
+    let sum = length-append (ended_line line) (text_bytes some) in
+    let end = ended_length line in
+    omega arith
 
-pub next_mapped : {X Y : Type 0} (f : X → Y) (xs : List X) (i : ℕ) (x : X) → i < length xs → x ≡ get_or xs i x → drop i (map f xs) ≡ f x ∷ drop (i + 1) (map f xs)
-next_mapped f xs i x lt is = rw add-one (drop_map f xs i x lt ∙ ap (λ y. f y ∷ drop (suc i) (map f xs)) (sym is))
+-- what is left behind the first part
+rest_of : (lines some more : List (List ℕ)) (skip : ℕ) → lines ≡ some ++ more → skip < length (text_bytes some) →
+    drop skip (text_bytes lines) ≡ drop skip (text_bytes some) ++ text_bytes more
+rest_of lines some more skip is lt =
+    ap (λ xs. drop skip (text_bytes xs)) is
+    ∙ ap (drop skip) (flat_map-append ended_line some more)
+    ∙ drop-append-le skip (text_bytes some) (text_bytes more) (omega arith)
 
--- what is left behind the first line
-pub rest_of : (lines more : List (List ℕ)) (line : List ℕ) (skip : ℕ) → lines ≡ line ∷ more → skip < length line + 2 →
-    drop skip (text_bytes lines) ≡ drop skip (ended_line line) ++ text_bytes more
-rest_of lines more line skip is lt =
-    let size = ended_length line in
-    ap (λ xs. drop skip (text_bytes xs)) is ∙ drop-append-le skip (ended_line line) (text_bytes more) (omega arith)
+-- one part more is written
+pub written_more : (lines some more : List (List ℕ)) (before : List ℕ) (skip room : ℕ) → lines ≡ some ++ more → skip < length (text_bytes some) →
+    (before ++ take room (drop skip (text_bytes some))) ++ take (room - min room (length (text_bytes some) - skip)) (text_bytes more) ≡ before ++ take room (drop skip (text_bytes lines))
+written_more lines some more before skip room is lt =
+    ap (λ n. (before ++ take room (drop skip (text_bytes some))) ++ take (room - min room n) (text_bytes more)) (sym (length-drop skip (text_bytes some)))
+    ∙ put_twice room before (drop skip (text_bytes some)) (text_bytes more)
+    ∙ ap (λ bytes. before ++ take room bytes) (sym (rest_of lines some more skip is lt))
 
--- one line more is written
-pub written_more : (lines more : List (List ℕ)) (line before : List ℕ) (skip room : ℕ) → lines ≡ line ∷ more → skip < length line + 2 →
-    (before ++ take room (drop skip (ended_line line))) ++ take (room - min room (length line + 2 - skip)) (text_bytes more) ≡ before ++ take room (drop skip (text_bytes lines))
-written_more lines more line before skip room is lt =
-    ap (λ n. (before ++ take room (drop skip (ended_line line))) ++ take (room - min room n) (text_bytes more)) (sym (rest_length line skip))
-    ∙ put_twice room before (drop skip (ended_line line)) (text_bytes more)
-    ∙ ap (λ bytes. before ++ take room bytes) (sym (rest_of lines more line skip is lt))
-
-pub length_more : (lines more : List (List ℕ)) (line : List ℕ) (skip : ℕ) → lines ≡ line ∷ more → skip < length line + 2 →
-    length (drop skip (text_bytes lines)) ≡ (length line + 2 - skip) + length (text_bytes more)
-length_more lines more line skip is lt =
-    ap length (rest_of lines more line skip is lt) ∙ length-append (drop skip (ended_line line)) (text_bytes more) ∙ ap (λ n. n + length (text_bytes more)) (rest_length line skip)
+pub length_more : (lines some more : List (List ℕ)) (skip : ℕ) → lines ≡ some ++ more → skip < length (text_bytes some) →
+    length (drop skip (text_bytes lines)) ≡ (length (text_bytes some) - skip) + length (text_bytes more)
+length_more lines some more skip is lt =
+    ap length (rest_of lines some more skip is lt) ∙ length-append (drop skip (text_bytes some)) (text_bytes more)
+    ∙ ap (λ n. n + length (text_bytes more)) (length-drop skip (text_bytes some))
 
 -- taking whole lines, and a part of one
 pub queued_step : (lines more : List (List ℕ)) (line : List ℕ) (left : ℕ) → lines ≡ line ∷ more → length line + 2 ≤ left → queued lines left ≡ queued more (left - (length line + 2))
@@ -151,13 +159,21 @@ queued_counted (line ∷ lines) taken pending counted =
           (queued_counted lines (taken - (length line + 2)) pending (omega arith))
     ]
 
-pub queued_few : (lines : List (List ℕ)) (taken : ℕ) → AreShort lines → AreShort (queued lines taken).lines × (length (queued lines taken).lines ≤ length lines)
-queued_few [] taken short = (tt, omega arith)
-queued_few (line ∷ lines) taken short =
+pub queued_fewer : (lines : List (List ℕ)) (taken : ℕ) → length (queued lines taken).lines ≤ length lines
+queued_fewer [] taken = omega arith
+queued_fewer (line ∷ lines) taken =
     elim (cases_lt taken (length line + 2)) [
-      | inl part ↦ subst (λ q. AreShort q.lines × (length q.lines ≤ length (line ∷ lines))) (sym (queued_stop (line ∷ lines) lines line taken refl part)) (short, omega arith)
-      | inr whole ↦ let more = queued_few lines (taken - (length line + 2)) short.1 in
-          subst (λ q. AreShort q.lines × (length q.lines ≤ length (line ∷ lines))) (sym (queued_step (line ∷ lines) lines line taken refl whole)) (more.0, omega arith)
+      | inl part ↦ subst (λ q. length q.lines ≤ length (line ∷ lines)) (sym (queued_stop (line ∷ lines) lines line taken refl part)) (omega arith)
+      | inr whole ↦ let more = queued_fewer lines (taken - (length line + 2)) in
+          subst (λ q. length q.lines ≤ length (line ∷ lines)) (sym (queued_step (line ∷ lines) lines line taken refl whole)) (omega arith)
+    ]
+
+pub queued_short : (lines : List (List ℕ)) (taken : ℕ) → AreShort lines → AreShort (queued lines taken).lines
+queued_short [] taken short = tt
+queued_short (line ∷ lines) taken short =
+    elim (cases_lt taken (length line + 2)) [
+      | inl part ↦ subst (λ q. AreShort q.lines) (sym (queued_stop (line ∷ lines) lines line taken refl part)) short
+      | inr whole ↦ subst (λ q. AreShort q.lines) (sym (queued_step (line ∷ lines) lines line taken refl whole)) (queued_short lines (taken - (length line + 2)) short.1)
     ]
 
 -- lines in two parts, of which the first is begun
@@ -173,14 +189,48 @@ two_parts (x ∷ front) back offset skip (inr e) begun =
     ∙ sym (drop-append-le offset (text_bytes (x ∷ front)) (text_bytes back) (omega arith))
     ∙ ap (drop offset) (sym (flat_map-append ended_line (x ∷ front) back))
 
--- the first element of a list, mapped
-pub first_mapped : {X Y : Type 0} (f : X → Y) (xs : List X) (x : X) → Some x ≡ slice_get xs 0 → map f xs ≡ f x ∷ map f (drop 1 xs)
-first_mapped f [] x is = cc
-first_mapped f (y ∷ ys) x is = let same : x ≡ y = cc in rw same refl
+-- a whole part is taken, or some of one
+pub queued_whole : (some more : List (List ℕ)) (taken : ℕ) → length (text_bytes some) ≤ taken → queued (some ++ more) taken ≡ queued more (taken - length (text_bytes some))
+queued_whole [] more taken le = let same : taken - 0 ≡ taken = omega arith in rw same refl
+queued_whole (line ∷ some) more taken le =
+    let sum = length-append (ended_line line) (text_bytes some) in
+    let end = ended_length line in
+    let less : taken - (length line + 2) - length (text_bytes some) ≡ taken - length (text_bytes (line ∷ some)) = omega arith in
+    queued_step (line ∷ (some ++ more)) (some ++ more) line taken refl (omega arith)
+    ∙ queued_whole some more (taken - (length line + 2)) (omega arith)
+    ∙ ap (queued more) less
 
-pub none_mapped : {X Y : Type 0} (f : X → Y) (xs : List X) → None ≡ slice_get xs 0 → map f xs ≡ []
-none_mapped f [] is = refl
-none_mapped f (y ∷ ys) is = cc
+pub queued_part : (some more rest : List (List ℕ)) (taken offset : ℕ) → taken < length (text_bytes some) → queued some taken ≡ record { lines = rest; offset = offset } →
+    queued (some ++ more) taken ≡ record { lines = rest ++ more; offset = offset }
+queued_part some more rest taken offset lt is = cut some taken lt ∙ ap (λ q. record { lines = q.lines ++ more; offset = q.offset }) is
+  where
+    cut : (some : List (List ℕ)) (taken : ℕ) → taken < length (text_bytes some) → queued (some ++ more) taken ≡ record { lines = (queued some taken).lines ++ more; offset = (queued some taken).offset }
+    cut [] taken lt = absurd (omega arith)
+    cut (line ∷ some) taken lt =
+        let sum = length-append (ended_line line) (text_bytes some) in
+        let end = ended_length line in
+        elim (cases_lt taken (length line + 2)) [
+          | inl part ↦ queued_stop (line ∷ (some ++ more)) (some ++ more) line taken refl part ∙ ap (λ q. record { lines = q.lines ++ more; offset = q.offset }) (sym (queued_stop (line ∷ some) some line taken refl part))
+          | inr whole ↦ queued_step (line ∷ (some ++ more)) (some ++ more) line taken refl whole
+              ∙ cut some (taken - (length line + 2)) (omega arith)
+              ∙ ap (λ q. record { lines = q.lines ++ more; offset = q.offset }) (sym (queued_step (line ∷ some) some line taken refl whole))
+        ]
 
-pub queued_none : (lines : List (List ℕ)) (taken : ℕ) → lines ≡ [] → queued lines taken ≡ record { lines = lines; offset = taken }
-queued_none lines taken is = rw is refl
+-- so many lines are wholly taken, and the next one isn't
+pub queued_at : (lines : List (List ℕ)) (k taken : ℕ) → k < length lines → length (text_bytes (take k lines)) ≤ taken → taken < length (text_bytes (take (k + 1) lines)) →
+    queued lines taken ≡ record { lines = drop k lines; offset = taken - length (text_bytes (take k lines)) }
+queued_at [] k taken within whole part = absurd (omega arith)
+queued_at (line ∷ lines) zero taken within whole part =
+    let size = one_length line in
+    let whole : taken ≡ taken - 0 = omega arith in
+    queued_stop (line ∷ lines) lines line taken refl (omega arith) ∙ ap (λ (n : ℕ). record { lines = line ∷ lines; offset = n }) whole
+queued_at (line ∷ lines) (suc k) taken within whole part =
+    let end = ended_length line in
+    let before = length-append (ended_line line) (text_bytes (take k lines)) in
+    let after = length-append (ended_line line) (text_bytes (take (k + 1) lines)) in
+    let next : suc k + 1 ≡ suc (k + 1) = omega arith in
+    let more = subst (λ n. taken < length (text_bytes (take n (line ∷ lines)))) next part in
+    let less : taken - (length line + 2) - length (text_bytes (take k lines)) ≡ taken - length (text_bytes (take (suc k) (line ∷ lines))) = omega arith in
+    queued_step (line ∷ lines) lines line taken refl (omega arith)
+    ∙ queued_at lines k (taken - (length line + 2)) (omega arith) (omega arith) (omega arith)
+    ∙ ap (λ (n : ℕ). record { lines = drop k lines; offset = n }) less

@@ -1,29 +1,27 @@
 -- What is true of each queue, and what its calls keep of it.
-use Rattle.std.proofs.Common.{◌≡◌, ℕ, ◌+◌, ◌-◌, ◌≤◌, ◌<◌, List, [], ◌∷◌, ◌++◌, length, drop, subst, arith, length-append, length-drop}
-use Rattle.aprs_base.specs.Bytes.{IsLine}
+use Rattle.std.proofs.Common.{◌≡◌, ℕ, ◌+◌, ◌-◌, ◌≤◌, List, ◌++◌, length, drop, subst, arith, length-append, length-drop}
 use Rattle.link_queue.specs.Lines.{AreShort, IsWithinFirst, queued, text_bytes}
 use Rattle.link_queue.specs.Queues.{IsSound}
-use Rattle.link_queue.proofs.LineLemmas.{all_more, begun_more, line_short, queued_begun, queued_counted, queued_few, text_more, text_short}
+use Rattle.link_queue.proofs.LineLemmas.{all_append, begun_more, queued_begun, queued_counted, queued_fewer, queued_short, text_more, text_short}
 
 module _ (lines : List (List ℕ)) (offset pending limit : ℕ) (sound : IsSound lines offset pending limit) where
-  pub push_fits : (line : List ℕ) → IsLine line → pending + (length line + 2) ≤ 1000000
-  push_fits line is =
+  pub push_fits : (more : List (List ℕ)) → AreShort more → length lines + length more ≤ limit → pending + length (text_bytes more) ≤ 1000000
+  push_fits more all room =
       let short = text_short lines sound.short in
-      let size = line_short line is in
+      let size = text_short more all in
       let counted = sound.counted in
-      let few = sound.few in
       let limited = sound.limited in
       omega arith
 
-  pub push_sound : (line : List ℕ) → IsLine line → length lines < limit → IsSound (lines ++ line ∷ []) offset (pending + (length line + 2)) limit
-  push_sound line is room =
-      let more = text_more lines line in
+  pub push_sound : (more : List (List ℕ)) → AreShort more → length lines + length more ≤ limit → IsSound (lines ++ more) offset (pending + length (text_bytes more)) limit
+  push_sound more all room =
+      let text = text_more lines more in
       let counted = sound.counted in
-      let size = length-append lines (line ∷ []) in
+      let size = length-append lines more in
       record {
-        begun = begun_more lines line offset pending sound.counted sound.begun;
+        begun = begun_more lines more offset pending sound.counted sound.begun;
         counted = omega arith;
-        short = all_more lines line sound.short (line_short line is);
+        short = all_append lines more sound.short all;
         few = omega arith;
         limited = sound.limited;
       }
@@ -48,12 +46,11 @@ module _ (lines : List (List ℕ)) (offset pending limit : ℕ) (sound : IsSound
       let counted = sound.counted in
       let few = sound.few in
       let limited = sound.limited in
-      let short = subst (λ q. AreShort q.lines × (length q.lines ≤ length lines)) is (queued_few lines (offset + n) sound.short) in
-      let fewer = short.1 in
+      let fewer = subst (λ q. length q.lines ≤ length lines) is (queued_fewer lines (offset + n)) in
       record {
         begun = subst (λ q. IsWithinFirst q.lines q.offset) is (queued_begun lines (offset + n));
         counted = subst (λ q. q.offset + (pending - n) ≡ length (text_bytes q.lines)) is (queued_counted lines (offset + n) (pending - n) (omega arith));
-        short = short.0;
+        short = subst (λ q. AreShort q.lines) is (queued_short lines (offset + n) sound.short);
         few = omega arith;
         limited = omega arith;
       }

@@ -1,2 +1,4 @@
+pub mod Batches
 pub mod Lines
+pub mod Pieces
 pub mod Queues

@@ -2,6 +2,7 @@
 #![tactic(auto)]
 
 mod batch;
+mod pieces;
 mod queue;
 mod writing;
 

@@ -1,11 +1,12 @@
 //! A queue of lines: what is pushed is taken in order, byte by byte.
 ghost use Rattle.std.specs.Prelude.{◌≡◌, ◌+◌, ◌-◌, ◌≤◌, ◌++◌, [], IfOk, IsErr, OnOk, OnErr, ◌↔◌, length, map, take, drop, min};
 ghost use Rattle.std.specs.Arc.{arc_value};
-ghost use Rattle.link_queue.specs.Lines.{queued};
+ghost use Rattle.link_queue.specs.Lines.{AreShort};
+ghost use Rattle.link_queue.specs.Pieces.{IsPiece, lines_of};
 ghost use Rattle.link_queue.specs.Queues.{empty_queue, pending_bytes, with_line, with_lines, without_bytes};
 
 use crate::batch::Batch;
-use crate::writing::put_lines;
+use crate::pieces::{Piece, count, put_pieces, run, size, take_off};
 use aprs_base::{Line, Memory};
 use circular_buffer::HeapCircularBuffer;
 use std::alloc::Global;
@@ -20,22 +21,21 @@ pub struct Overfull;
 /// some of its bytes and, after them, of its CR and LF. There are never more lines than the limit.
 #[derive(Drop)]
 pub struct Queue {
-    ring: HeapCircularBuffer<Arc<Line>>,
+    ring: HeapCircularBuffer<Piece>,
+    count: usize,
     offset: usize,
     pending: usize,
 }
 
 impl Model for Queue {
-    ghost use Rattle.std.specs.Prelude.{◌≡◌, ◌+◌, ◌*◌, ◌≤◌, map, length};
-    ghost use Rattle.std.specs.Arc.{arc_value};
-    ghost use Rattle.link_queue.specs.Lines.{text_bytes};
-    ghost use Rattle.link_queue.specs.Queues.{IsSound, QueueSeen};
+    ghost use Rattle.link_queue.specs.Pieces.{IsKept, lines_in};
+    ghost use Rattle.link_queue.specs.Queues.{QueueSeen};
 
     ghost Value = { QueueSeen };
 
-    ghost view = { λ q. record { lines = map arc_value q.ring.items; offset = q.offset; limit = q.ring.capacity } };
+    ghost view = { λ q. record { lines = lines_in q.ring.items; offset = q.offset; limit = q.ring.capacity } };
 
-    ghost invariant = { λ q. IsSound (map arc_value q.ring.items) q.offset q.pending q.ring.capacity };
+    ghost invariant = { λ q. IsKept q.ring.items q.count q.offset q.pending q.ring.capacity };
 }
 
 impl Queue {
@@ -46,6 +46,7 @@ impl Queue {
     {
         Ok(Queue {
             ring: HeapCircularBuffer::with_capacity(alloc, n)?,
+            count: 0,
             offset: 0,
             pending: 0,
         })
@@ -58,11 +59,10 @@ impl Queue {
         ensures err { OnErr result (self.new ≡ self.old) }
         ensures within { length self.new.lines ≤ self.new.limit }
     {
-        let size = line.bytes().len() + 2;
-        let Ok(()) = self.ring.try_push_back(line) else {
+        if self.room() == 0 {
             return Err(Overfull);
-        };
-        self.pending += size;
+        }
+        self.add(Piece::Line(line));
         Ok(())
     }
 
@@ -72,14 +72,13 @@ impl Queue {
         requires { (from ≤ to) × (to ≤ length (arc_value batch.now)) }
         ensures count { IfOk result (λ n. n ≡ min (self.old.limit - length self.old.lines) (to - from)) }
         ensures ok { IfOk result (λ n. self.new ≡ with_lines (take n (drop from (arc_value batch.now))) self.old) }
+        ensures err { OnErr result (self.new ≡ self.old) }
         ensures within { length self.new.lines ≤ self.new.limit }
     {
         let count = self.room().min(to - from);
-        let lines = batch.between(from, from + count);
-        for line in lines {
-            let Ok(()) = self.push(line.clone()?) else {
-                return Err(Memory);
-            };
+        if count > 0 {
+            let piece = run(batch, from, from + count)?;
+            self.add(piece);
         }
         Ok(count)
     }
@@ -89,7 +88,20 @@ impl Queue {
         ensures room { result ≡ self.now.limit - length self.now.lines }
         ensures within { length self.now.lines ≤ self.now.limit }
     {
-        self.ring.capacity() - self.ring.len()
+        self.ring.capacity() - self.count
+    }
+
+    /// Adds a piece for whose lines there is room.
+    fn add(&mut self, piece: Piece)
+        requires is { IsPiece piece }
+        requires room { length self.old.lines + length (lines_of piece) ≤ self.old.limit }
+        ensures { self.new ≡ with_lines (lines_of piece) self.old }
+    {
+        self.count += count(&piece);
+        self.pending += size(&piece);
+        let Ok(()) = self.ring.try_push_back(piece) else {
+            unreachable!();
+        };
     }
 
     /// Writes the next pending bytes, each line with its CR and LF, as many as there are and as fit, and says how many.
@@ -100,9 +112,9 @@ impl Queue {
         ensures rest { drop result out.new ≡ drop result out.old }
     {
         let (front, back) = self.ring.as_slices();
-        let at = put_lines(out, 0, front, self.offset);
+        let at = put_pieces(out, 0, front, self.offset);
         let skip = if front.is_empty() { self.offset } else { 0 };
-        put_lines(out, at, back, skip)
+        put_pieces(out, at, back, skip)
     }
 
     /// How many bytes are pending, each line with its CR and LF.
@@ -121,26 +133,10 @@ impl Queue {
         self.pending -= n;
         if self.pending == 0 {
             self.ring.clear();
+            self.count = 0;
             self.offset = 0;
         } else {
-            self.offset = take_off(&mut self.ring, self.offset + n);
+            self.offset = take_off(&mut self.ring, &mut self.count, self.offset + n);
         }
     }
-}
-
-/// Takes off the lines that are wholly among the first `taken` bytes, and says how many bytes of the next one are.
-fn take_off(ring: &mut HeapCircularBuffer<Arc<Line>>, taken: usize) -> usize
-    ensures left { queued (map arc_value ring.old.items) taken ≡ record { lines = map arc_value ring.new.items; offset = result } }
-    ensures capacity { ring.new.capacity ≡ ring.old.capacity }
-{
-    let mut left = taken;
-    while let Some(line) = ring.front() {
-        let size = line.bytes().len() + 2;
-        if left < size {
-            return left;
-        }
-        left -= size;
-        ring.pop_front();
-    }
-    left
 }

@@ -1,13 +1,9 @@
 //! Lines with their ends, written one after another into a buffer.
-ghost use Rattle.std.specs.Prelude.{◌≡◌, ◌+◌, ◌-◌, ◌≤◌, ◌<◌, ◌++◌, [], ◌∷◌, length, map, take, drop, min};
-ghost use Rattle.std.specs.Arc.{arc_value};
-ghost use Rattle.link_queue.specs.Lines.{IsWithinFirst, ended_line, text_bytes};
-
-use aprs_base::Line;
-use std::sync::Arc;
+ghost use Rattle.std.specs.Prelude.{◌≡◌, ◌+◌, ◌-◌, ◌≤◌, ◌<◌, ◌++◌, [], ◌∷◌, length, take, drop, min};
+ghost use Rattle.link_queue.specs.Lines.{ended_line};
 
 /// Writes `bytes` from `at` on, as many as fit, and says where they end.
-fn put(out: &mut [u8], at: usize, bytes: &[u8]) -> usize
+pub(crate) fn put(out: &mut [u8], at: usize, bytes: &[u8]) -> usize
     requires { at ≤ length out.old }
     ensures end { result ≡ at + min (length out.old - at) (length bytes.now) }
     ensures within { result ≤ length out.new }
@@ -44,7 +40,7 @@ fn put_end(out: &mut [u8], at: usize) -> usize
 }
 
 /// The same for a line with its CR and LF, as much of it as fits.
-fn put_line(out: &mut [u8], at: usize, line: &[u8]) -> usize
+pub(crate) fn put_line(out: &mut [u8], at: usize, line: &[u8]) -> usize
     requires { at ≤ length out.old }
     ensures end { result ≡ at + min (length out.old - at) (length line.now + 2) }
     ensures within { result ≤ length out.new }
@@ -61,7 +57,7 @@ fn put_line(out: &mut [u8], at: usize, line: &[u8]) -> usize
 }
 
 /// The bytes from `place` on.
-fn from_place(bytes: &[u8], place: usize) -> &[u8]
+pub(crate) fn from_place(bytes: &[u8], place: usize) -> &[u8]
     requires { place ≤ length bytes.now }
     ensures { result.now ≡ drop place bytes.now }
 {
@@ -69,7 +65,7 @@ fn from_place(bytes: &[u8], place: usize) -> &[u8]
 }
 
 /// A line with its CR and LF, without its first `skip` bytes.
-fn put_rest(out: &mut [u8], at: usize, line: &[u8], skip: usize) -> usize
+pub(crate) fn put_rest(out: &mut [u8], at: usize, line: &[u8], skip: usize) -> usize
     requires room { at ≤ length out.old }
     requires part { skip < length line.now + 2 }
     ensures end { result ≡ at + min (length out.old - at) (length line.now + 2 - skip) }
@@ -81,25 +77,4 @@ fn put_rest(out: &mut [u8], at: usize, line: &[u8], skip: usize) -> usize
         return put(out, at, b"\n");
     }
     put_line(out, at, from_place(line, skip))
-}
-
-/// Lines one after another, without the first `skip` bytes.
-pub(crate) fn put_lines(out: &mut [u8], at: usize, lines: &[Arc<Line>], skip: usize) -> usize
-    requires room { at ≤ length out.old }
-    requires part { IsWithinFirst (map arc_value lines.now) skip }
-    ensures end { result ≡ at + min (length out.old - at) (length (drop skip (text_bytes (map arc_value lines.now)))) }
-    ensures within { result ≤ length out.new }
-    ensures bytes { take result out.new ≡ take at out.old ++ take (length out.old - at) (drop skip (text_bytes (map arc_value lines.now))) }
-    ensures rest { drop result out.new ≡ drop result out.old }
-{
-    let mut at = at;
-    let mut skip = skip;
-    for line in lines {
-        if at == out.len() {
-            return at;
-        }
-        at = put_rest(out, at, line.bytes(), skip);
-        skip = 0;
-    }
-    at
 }
