@@ -1,6 +1,6 @@
 //! Queues worked by hand.
 use aprs_base::{Line, Memory};
-use link_queue::{Overfull, Queue};
+use link_queue::{Batch, Overfull, Queue};
 use std::alloc::Global;
 use std::sync::Arc;
 use std::test::Fail;
@@ -91,5 +91,169 @@ fn holds_a_thousand_lines(rt: HostRuntime) -> Result<(), Fail> {
     take(&mut queue, 1);
     assert!(rt; push(alloc, &mut queue, b"y")?);
     assert!(rt; gives(&queue, b"y\r\n"));
+    Ok(())
+}
+
+/// Adds a line to a batch, unless it has a thousand.
+fn add(alloc: Global, batch: &mut Batch, text: &[u8]) -> Result<(), Memory> {
+    match Line::new(text) {
+        Some(line) if batch.len() < 1000 => batch.push(Arc::new(alloc, line)?),
+        _ => Ok(()),
+    }
+}
+
+/// A batch of `ab`, `c`, `def` and `gh`.
+fn four_lines(alloc: Global) -> Result<Arc<Batch>, Memory> {
+    let mut batch = Batch::new(alloc);
+    for text in [b"ab".as_slice(), b"c", b"def", b"gh"] {
+        add(alloc, &mut batch, text)?;
+    }
+    Ok(Arc::new(alloc, batch)?)
+}
+
+/// Adds these lines of a batch, as far as there are so many, and says how many the queue took.
+fn push_run(
+    queue: &mut Queue,
+    batch: &Arc<Batch>,
+    from: usize,
+    to: usize,
+) -> Result<usize, Memory> {
+    let to = to.min(batch.len());
+    queue.push_run(batch, from.min(to), to)
+}
+
+/// A queue of `x`, of `c` and `def` of a batch, and of `yz`, of which some bytes are taken.
+fn run_between_lines(alloc: Global, taken: usize) -> Result<Queue, Memory> {
+    let mut queue = Queue::with_limit(alloc, 4)?;
+    push(alloc, &mut queue, b"x")?;
+    push_run(&mut queue, &four_lines(alloc)?, 1, 3)?;
+    push(alloc, &mut queue, b"yz")?;
+    take(&mut queue, taken);
+    Ok(queue)
+}
+
+/// The same as above, of a queue with a run in it.
+const TAKEN_OF_A_RUN: [(usize, usize, &[u8]); 10] = [
+    (0, 15, b"x\r\nc\r\ndef\r"),
+    (1, 14, b"\r\nc\r\ndef\r\n"),
+    (3, 12, b"c\r\ndef\r\nyz"),
+    (4, 11, b"\r\ndef\r\nyz\r"),
+    (6, 9, b"def\r\nyz\r\n"),
+    (8, 7, b"f\r\nyz\r\n"),
+    (10, 5, b"\nyz\r\n"),
+    (11, 4, b"yz\r\n"),
+    (14, 1, b"\n"),
+    (15, 0, b""),
+];
+
+#[test]
+fn gives_the_next_bytes_of_a_run(rt: HostRuntime) -> Result<(), Fail> {
+    let alloc = rt.alloc();
+    for (taken, pending, bytes) in &TAKEN_OF_A_RUN {
+        let queue = run_between_lines(alloc, *taken)?;
+        assert_eq!(rt; queue.pending(), *pending);
+        assert!(rt; gives(&queue, bytes));
+    }
+    Ok(())
+}
+
+/// Takes all that is pending, at most so many bytes at a time.
+fn drained(alloc: Global, queue: &mut Queue, most: usize) -> Result<Vec<u8>, Memory> {
+    let mut all = Vec::new(alloc);
+    let mut out = [0; 100];
+    for _ in 0..100 {
+        let count = queue.front_bytes(&mut out[..most.min(100)]);
+        all.extend_from_slice(&out[..count])?;
+        take(queue, count);
+    }
+    Ok(all)
+}
+
+#[test]
+fn gives_a_run_in_small_parts(rt: HostRuntime) -> Result<(), Fail> {
+    let alloc = rt.alloc();
+    for most in &[1, 3, 100] {
+        let mut queue = run_between_lines(alloc, 0)?;
+        let all = drained(alloc, &mut queue, *most)?;
+        assert_eq!(rt; all.as_slice(), b"x\r\nc\r\ndef\r\nyz\r\n".as_slice());
+        assert_eq!(rt; queue.pending(), 0);
+    }
+    Ok(())
+}
+
+/// How many lines lie in a queue for five, which lines of the batch come, how many it takes, and all its bytes then.
+const RUNS: [(usize, usize, usize, usize, &[u8]); 7] = [
+    (0, 0, 4, 4, b"ab\r\nc\r\ndef\r\ngh\r\n"),
+    (1, 0, 4, 4, b"x\r\nab\r\nc\r\ndef\r\ngh\r\n"),
+    (2, 0, 4, 3, b"x\r\nx\r\nab\r\nc\r\ndef\r\n"),
+    (3, 1, 4, 2, b"x\r\nx\r\nx\r\nc\r\ndef\r\n"),
+    (5, 0, 4, 0, b"x\r\nx\r\nx\r\nx\r\nx\r\n"),
+    (1, 2, 2, 0, b"x\r\n"),
+    (1, 3, 4, 1, b"x\r\ngh\r\n"),
+];
+
+#[test]
+fn takes_as_much_of_a_run_as_there_is_room_for(rt: HostRuntime) -> Result<(), Fail> {
+    let alloc = rt.alloc();
+    let batch = four_lines(alloc)?;
+    for (lines, from, to, count, bytes) in &RUNS {
+        let mut queue = Queue::with_limit(alloc, 5)?;
+        for _ in 0..*lines {
+            push(alloc, &mut queue, b"x")?;
+        }
+        assert_eq!(rt; push_run(&mut queue, &batch, *from, *to)?, *count);
+        assert_eq!(rt; queue.pending(), bytes.len());
+        assert_eq!(rt; drained(alloc, &mut queue, 100)?.as_slice(), *bytes);
+    }
+    Ok(())
+}
+
+#[test]
+fn takes_lines_where_some_of_a_run_are_taken(rt: HostRuntime) -> Result<(), Fail> {
+    let alloc = rt.alloc();
+    for (taken, count) in &[(0, 0), (5, 1), (6, 2), (10, 2), (11, 3), (15, 4)] {
+        let mut queue = run_between_lines(alloc, *taken)?;
+        assert_eq!(rt; push_run(&mut queue, &four_lines(alloc)?, 0, 4)?, *count);
+    }
+    Ok(())
+}
+
+#[test]
+fn goes_round_with_runs(rt: HostRuntime) -> Result<(), Fail> {
+    let alloc = rt.alloc();
+    let batch = four_lines(alloc)?;
+    let mut queue = Queue::with_limit(alloc, 5)?;
+    push(alloc, &mut queue, b"y")?;
+    take(&mut queue, 2);
+    for _ in 0..8 {
+        push(alloc, &mut queue, b"x")?;
+        push_run(&mut queue, &batch, 0, 2)?;
+        assert_eq!(rt; queue.pending(), 11);
+        assert!(rt; gives(&queue, b"\nx\r\nab\r\nc\r"));
+        take(&mut queue, 10);
+    }
+    assert!(rt; gives(&queue, b"\n"));
+    Ok(())
+}
+
+#[test]
+fn holds_a_run_of_a_thousand_lines(rt: HostRuntime) -> Result<(), Fail> {
+    let alloc = rt.alloc();
+    let mut batch = Batch::new(alloc);
+    for _ in 0..1001 {
+        add(alloc, &mut batch, b"x")?;
+    }
+    assert_eq!(rt; batch.len(), 1000);
+    let batch = Arc::new(alloc, batch)?;
+    let mut queue = Queue::with_limit(alloc, 1000)?;
+    assert_eq!(rt; push_run(&mut queue, &batch, 0, 1000)?, 1000);
+    assert!(rt; !push(alloc, &mut queue, b"y")?);
+    take(&mut queue, 1501);
+    assert_eq!(rt; queue.pending(), 1499);
+    assert!(rt; gives(&queue, b"\r\nx\r\nx\r\nx\r"));
+    assert_eq!(rt; push_run(&mut queue, &batch, 0, 1000)?, 500);
+    assert_eq!(rt; queue.pending(), 2999);
+    take(&mut queue, 2999);
+    assert!(rt; gives(&queue, b""));
     Ok(())
 }

@@ -94,15 +94,17 @@ impl Batch {
         ensures size { result ≡ length (text_bytes (take (to - from) (drop from self.now))) }
         ensures short { AreShort (take (to - from) (drop from self.now)) }
     {
+        // The invariant says that the lines are short.
         let _ = &self.lines;
         self.start(to) - self.start(from)
     }
 
-    /// The number of a place, which is at most 1,000.
+    /// A place as a small number.
     pub(crate) fn place(&self, place: usize) -> u16
         requires { place ≤ length self.now }
         ensures { result ≡ place }
     {
+        // The invariant says that the lines are few.
         let _ = &self.lines;
         place as u16
     }

@@ -21,6 +21,7 @@ pub(crate) enum Piece {
     },
 }
 
+// A queue has room for as many pieces as its limit, so they are small.
 const _: () = prove!(size_of::<Piece>() == 16);
 
 /// A piece of which some bytes are taken.

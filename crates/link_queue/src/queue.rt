@@ -1,7 +1,6 @@
 //! A queue of lines: what is pushed is taken in order, byte by byte.
-ghost use Rattle.std.specs.Prelude.{◌≡◌, ◌+◌, ◌-◌, ◌≤◌, ◌++◌, [], IfOk, IsErr, OnOk, OnErr, ◌↔◌, length, map, take, drop, min};
+ghost use Rattle.std.specs.Prelude.{◌≡◌, ◌+◌, ◌-◌, ◌≤◌, IfOk, IsErr, OnOk, OnErr, ◌↔◌, length, take, drop, min};
 ghost use Rattle.std.specs.Arc.{arc_value};
-ghost use Rattle.link_queue.specs.Lines.{AreShort};
 ghost use Rattle.link_queue.specs.Pieces.{IsPiece, lines_of};
 ghost use Rattle.link_queue.specs.Queues.{empty_queue, pending_bytes, with_line, with_lines, without_bytes};
 
