@@ -196,32 +196,6 @@ fn judge_whole(moment: u64, window: &Window, parts: Parts) -> Verdict
     }
 }
 
-/// Puts the packet with these parts, which is from there, as it goes on into parts that are still to be filled, or says why it is
-/// refused, which leaves them as they happen to be. `others` are the logins of the other verified links. That it may be a copy
-/// isn't looked at.
-pub fn route_parts<O: Calls>(
-    whole: &mut Parts,
-    server: &Call,
-    origin: &Origin,
-    others: &O,
-    parts: &Parts,
-) -> Result<(), Refusal>
-    requires parts { IsParts parts.now }
-    requires server { IsTrue (is_station server.now) }
-    requires origin { IsTrue (has_station origin.now) }
-    requires vias { whole.old.vias ≡ [] }
-    requires body { whole.old.body ≡ [] }
-    ensures exact { Fills result whole.new (read_and_routed server.now origin.now (O.calls others.now) (Ok parts.now)) }
-    ensures sound { OnOk result (IsParts whole.new) }
-    ensures short { OnOk result (length (text_of whole.new) ≤ 510) }
-    ensures stays { OnOk result ((whole.new.source ≡ parts.now.source) × (whole.new.dest ≡ parts.now.dest) × (whole.new.body ≡ parts.now.body)) }
-{
-    match process_into(whole, parts, origin, server, others) {
-        Err(why) => Err(Refusal::Path(why)),
-        Ok(()) => Ok(()),
-    }
-}
-
 /// Puts the packet of a line from there, as it goes on, into parts that are still to be filled, or says why it is refused, which
 /// leaves them as they happen to be. `others` are the logins of the other verified links. That it may be a copy isn't looked at.
 pub fn route_packet<O: Calls>(
@@ -243,6 +217,29 @@ pub fn route_packet<O: Calls>(
     match read_into(line, &mut parts) {
         Err(fault) => Err(Refusal::Packet(fault)),
         Ok(()) => route_parts(whole, server, origin, others, &parts),
+    }
+}
+
+/// The same of a packet that was read.
+fn route_parts<O: Calls>(
+    whole: &mut Parts,
+    server: &Call,
+    origin: &Origin,
+    others: &O,
+    parts: &Parts,
+) -> Result<(), Refusal>
+    requires parts { IsParts parts.now }
+    requires server { IsTrue (is_station server.now) }
+    requires origin { IsTrue (has_station origin.now) }
+    requires vias { whole.old.vias ≡ [] }
+    requires body { whole.old.body ≡ [] }
+    ensures exact { Fills result whole.new (read_and_routed server.now origin.now (O.calls others.now) (Ok parts.now)) }
+    ensures sound { OnOk result (IsParts whole.new) }
+    ensures short { OnOk result (length (text_of whole.new) ≤ 510) }
+{
+    match process_into(whole, parts, origin, server, others) {
+        Err(why) => Err(Refusal::Path(why)),
+        Ok(()) => Ok(()),
     }
 }
 

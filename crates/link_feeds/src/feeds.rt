@@ -1,5 +1,5 @@
 //! The links, and what came to them since it was last matched.
-ghost use Rattle.std.specs.Prelude.{◌≡◌, ◌++◌, ◌∷◌, ◌≤◌, ◌<◌, [], IfOk, OnErr, OnOk, Some, false, true, filter, length, map, min, slice_get, slice_set, take};
+ghost use Rattle.std.specs.Prelude.{◌≡◌, ◌==◌, ◌++◌, ◌∷◌, ◌≤◌, ◌<◌, [], IfOk, OnErr, OnOk, Some, false, true, filter, length, map, min, slice_get, slice_set, take};
 ghost use Rattle.std.specs.Arc.{arc_value};
 ghost use Rattle.link_queue.specs.Queues.{pending_bytes};
 ghost use Rattle.link_feeds.specs.Feeds.{counted, forgotten, is_other, is_over, link_of, met_by, new_feed, put_in, told, with_login, with_taken, with_terms};
@@ -83,6 +83,13 @@ impl Feeds {
         ensures { result ≡ self.now.settled }
     {
         self.items.is_empty()
+    }
+
+    /// How many things came that aren't matched yet.
+    pub fn waiting(&self) -> usize
+        ensures { (result == 0) ≡ self.now.settled }
+    {
+        self.items.len()
     }
 
     /// A link comes, which is fed so and has this line to take first. What came before must have been matched. `Memory` changes

@@ -4,6 +4,7 @@ pub mod ActsSeen
 pub mod Kept
 pub mod LinkSteps
 pub mod Meaning
+pub mod Objections
 pub mod Pending
 pub mod RoundWalk
 pub mod Steps

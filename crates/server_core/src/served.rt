@@ -1,5 +1,5 @@
 //! The links that are served, in the order of their numbers: what is kept of their sessions, and what they are fed.
-ghost use Rattle.std.specs.Prelude.{◌≡◌, ◌≤◌, ◌<◌, ◌∷◌, ◌++◌, ℕ, [], IfOk, IsTrue, List, None, OnErr, OnOk, Some, false, filter, length, map, min, slice_get, take, true};
+ghost use Rattle.std.specs.Prelude.{◌≡◌, ◌==◌, ◌≤◌, ◌<◌, ◌∷◌, ◌++◌, ℕ, [], IfOk, IsTrue, List, None, OnErr, OnOk, Some, false, filter, length, map, min, slice_get, take, true};
 ghost use Rattle.std.specs.Arc.{arc_value};
 ghost use Rattle.std.specs.List.Sorted.{IsStrictlyIncreasing};
 ghost use Rattle.aprs_base.specs.Bytes.{is_station};
@@ -79,11 +79,11 @@ impl Served {
         self.rests = false;
     }
 
-    /// Whether all that came is matched.
-    pub fn is_settled(&self) -> bool
-        ensures { result ≡ self.now.settled }
+    /// How many things came that aren't matched yet.
+    pub fn waiting(&self) -> usize
+        ensures { (result == 0) ≡ self.now.settled }
     {
-        self.feeds.is_settled()
+        self.feeds.waiting()
     }
 
     /// What came is matched by at most so many workers. After `Memory` no link is left.

@@ -80,8 +80,30 @@ fn lines_of(
     Ok(lines)
 }
 
+/// With fewer bytes a round has no more lines than one thread parses, and each is parsed as soon where it is met. No round of the
+/// system's sockets has so many.
+const MANY_BYTES: usize = 50_000;
+
+/// How many bytes it brings.
+fn bytes_in(event: &Event) -> usize {
+    match event {
+        Event::Bytes(_, chunk) => chunk.bytes().len(),
+        Event::Datagram { bytes, .. } => bytes.bytes().len(),
+        _ => 0,
+    }
+}
+
+/// Whether the events bring so many lines that it pays to parse them side by side.
+fn bring_many(events: &[Event]) -> bool {
+    let mut bytes = 0usize;
+    for event in events {
+        bytes = bytes.saturating_add(bytes_in(event));
+    }
+    bytes >= MANY_BYTES
+}
+
 impl Walker {
-    /// The lines that the events bring are parsed, side by side where they are many.
+    /// Where the events bring many lines, these are parsed, side by side.
     pub(super) fn look_ahead<R: Threads + Sync>(
         &mut self,
         rt: &R,
@@ -90,6 +112,9 @@ impl Walker {
     ) -> Result<(), Memory>
         ensures { OnOk result (self.new ≡ self.old) }
     {
+        if !bring_many(events) {
+            return Ok(());
+        }
         let lines = lines_of(alloc, self.hasher, &self.links, events)?;
         self.ahead.parse(rt, alloc, lines)
     }

@@ -6,9 +6,11 @@ ghost use Rattle.line_verdict.specs.Fit.{all_few, has_few};
 ghost use Rattle.aprs_history.specs.declared.verdicts.FilterAnswer.{FilterAnswer};
 ghost use Rattle.aprs_history.specs.declared.verdicts.Verdict.{Verdict};
 ghost use Rattle.server_core.specs.LinkSteps.{after_login, takes_shown, with_duplicate, with_refused, with_reply, with_shown};
+ghost use Rattle.server_core.specs.Objections.{refusal_for};
 ghost use Rattle.server_core.specs.Steps.{with_verdict};
 ghost use Rattle.server_core.specs.Telling.{said_lines};
 
+use super::verdicts::{Objection, refusal_for};
 use super::{Walker, raised};
 use crate::conf::server_of;
 use crate::places::friends_found;
@@ -94,6 +96,22 @@ impl Walker {
     {
         self.tell_refusal(from, &refusal, lines)?;
         self.refuse(alloc, from, refusal)
+    }
+
+    /// The same where that is what there is against it. It is rare: by itself it leaves no room for a refusal to be cleared at each
+    /// line.
+    #[inline(never)]
+    pub(super) fn object(
+        &mut self,
+        alloc: Global,
+        from: &Source,
+        objection: Objection,
+        lines: &mut Vec<JournalLine>,
+    ) -> Result<(), Memory>
+        ensures core { OnOk result (self.new ≡ with_verdict from.now (Verdict.Refused (refusal_for objection)) self.old) }
+        ensures lines { OnOk result (lines.new.items ≡ lines.old.items ++ said_lines self.old from.now (Verdict.Refused (refusal_for objection))) }
+    {
+        self.turn_down(alloc, from, refusal_for(objection), lines)
     }
 
     /// The link of that number has logged in, and is told so.

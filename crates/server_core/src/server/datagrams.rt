@@ -14,6 +14,7 @@ ghost use Rattle.server_core.specs.Steps.{SameRest, Walks, carried_at, with_verd
 ghost use Rattle.server_core.specs.Telling.{Tells, said_lines};
 
 use super::Walker;
+use super::verdicts::Objection;
 use crate::conf::{peer_from, peers_of, served_by, server_of};
 use aprs_base::{Addr, Cut, Cutter, JournalLine, Memory, PortKind, Source, copy_call};
 use aprs_history::Refusal;
@@ -48,7 +49,7 @@ impl Walker {
         ensures lines { OnOk result (lines.new.items ≡ lines.old.items ++ said_lines self.old from (verdict_of (carried_at origin.now self.old) cut.now)) }
     {
         match cut {
-            Cut::Long => self.turn_down(alloc, &from, Refusal::Long, lines),
+            Cut::Long => self.object(alloc, &from, Objection::Long, lines),
             Cut::Line(line) if is_comment_line(line) => Ok(()),
             Cut::Line(line) => self.take_packet(alloc, from, origin, line, lines),
         }

@@ -16,9 +16,10 @@ ghost use Rattle.server_core.specs.Steps.{SameRest, Walks, scene_at, with_verdic
 ghost use Rattle.server_core.specs.Telling.{Tells, said_lines};
 
 use super::Walker;
+use super::verdicts::Objection;
 use aprs_base::{Cut, JournalLine, Line, Memory, Source};
 use aprs_body::classify;
-use aprs_history::{Refusal, Verdict};
+use aprs_history::Verdict;
 use dupe_window::Key;
 use line_verdict::{Voice, is_comment_line, judge_comment};
 use std::alloc::Global;
@@ -103,7 +104,7 @@ impl Walker {
         let from = Source::Link(number);
         match voice {
             Voice::Nameless { filters } => self.take_login(alloc, number, *filters, line, lines),
-            Voice::Reader => self.turn_down(alloc, &from, Refusal::ReadOnly, lines),
+            Voice::Reader => self.object(alloc, &from, Objection::ReadOnly, lines),
             Voice::Client { origin, .. } | Voice::Carrier(origin) => {
                 self.take_packet(alloc, from, origin, line, lines)
             }
@@ -142,7 +143,7 @@ impl Walker {
         ensures lines { OnOk result (lines.new.items ≡ lines.old.items ++ said_lines self.old (Source.Link number) (verdict_of (scene_at self.old number) cut.now)) }
     {
         match cut {
-            Cut::Long => self.turn_down(alloc, &Source::Link(number), Refusal::Long, lines),
+            Cut::Long => self.object(alloc, &Source::Link(number), Objection::Long, lines),
             Cut::Line(line) => {
                 let voice = self.voice(number);
                 self.take_spoken(alloc, number, &voice, line, lines)

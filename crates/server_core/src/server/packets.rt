@@ -196,7 +196,7 @@ impl Walker {
     {
         let mut parts = Parts::unfilled();
         match self.route(&mut parts, from, origin, line) {
-            Err(refusal) => self.turn_down(alloc, &from, refusal, lines),
+            Err(objection) => self.object(alloc, &from, objection, lines),
             Ok(body) => self.take_routed(alloc, from, parts, body, lines),
         }
     }

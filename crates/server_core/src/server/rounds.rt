@@ -19,6 +19,24 @@ use std::alloc::Global;
 use std::marker::Sync;
 use std::thread::Threads;
 
+/// So many things for each worker are matched at once: what they take stays small, and near the processor.
+const ENOUGH: usize = 64;
+
+/// How many things may wait to be matched by so many workers.
+fn enough_for(workers: u32) -> usize
+    requires { workers ≤ 64 }
+{
+    ENOUGH * workers as usize
+}
+
+/// Whether links come, end, or grow older by it.
+fn changes_links(event: &Event) -> bool {
+    matches!(
+        event,
+        Event::Tick(_) | Event::Opened { .. } | Event::Joined { .. } | Event::Ended(_)
+    )
+}
+
 impl Walker {
     /// A round begins: the links that a send found gone end.
     pub(super) fn begin(&mut self, alloc: Global) -> Result<(), Memory>
@@ -68,7 +86,7 @@ impl Walker {
         self.links.settle(rt, workers, gate)
     }
 
-    /// What came to the links is matched before links come, end, or grow older.
+    /// What came to the links is matched before links come, end, or grow older, and where there is much of it.
     fn settle_before<R: Threads + Sync, G: Gate + Sync>(
         &mut self,
         rt: &R,
@@ -79,13 +97,11 @@ impl Walker {
         requires { (1 ≤ workers) × (workers ≤ 64) }
         ensures { OnOk result (self.new ≡ self.old) }
     {
-        match event {
-            _ if self.links.is_settled() => Ok(()),
-            Event::Tick(_) | Event::Opened { .. } | Event::Joined { .. } | Event::Ended(_) => {
-                self.settle(rt, workers, gate)
-            }
-            _ => Ok(()),
+        let waiting = self.links.waiting();
+        if waiting >= enough_for(workers) || (waiting > 0 && changes_links(event)) {
+            return self.settle(rt, workers, gate);
         }
+        Ok(())
     }
 
     /// The events have been walked: what came to the links is matched, and they rest.

@@ -1,5 +1,5 @@
 //! The verdict on what is said.
-ghost use Rattle.std.specs.Prelude.{◌≡◌, ◌≤◌, ℕ, [], IsTrue, IfOk, List, OnOk, length};
+ghost use Rattle.std.specs.Prelude.{◌≡◌, ◌≤◌, ℕ, [], IsTrue, IfOk, List, Ok, OnOk, length};
 ghost use Rattle.aprs_base.specs.Bytes.{is_station};
 ghost use Rattle.aprs_base.specs.PartsSeen.{PartsSeen};
 ghost use Rattle.aprs_body.specs.Bodies.{body_of};
@@ -9,9 +9,9 @@ ghost use Rattle.dupe_window.specs.Windows.{has_copy};
 ghost use Rattle.line_verdict.specs.Voices.{HasStation, voice_of};
 ghost use Rattle.login_pass.specs.Login.{login_of};
 ghost use Rattle.parsed_lines.specs.Lines.{IsSound, parsed_of};
-ghost use Rattle.tnc2_line.specs.Pieces.{Fills};
 ghost use Rattle.q_construct.specs.Rule.{has_station};
 ghost use Rattle.server_core.specs.LinkSteps.{others_from, speaker_at};
+ghost use Rattle.server_core.specs.Objections.{Routes, refusal_for};
 ghost use Rattle.tnc2_line.specs.Packet.{IsParts, parts_of, text_of};
 
 use super::Walker;
@@ -19,10 +19,36 @@ use crate::conf::server_of;
 use aprs_base::{Body, Call, Line, Memory, Parts, Source};
 use aprs_history::{Refusal, Verdict};
 use dupe_window::Key;
-use line_verdict::{Voice, judge_login, route_parts};
+use line_verdict::{Voice, judge_login};
 use parsed_lines::Parsed;
-use q_construct::{Calls, Origin};
+use q_construct::{Calls, Origin, QDrop, process_into};
 use std::alloc::Global;
+use tnc2_line::LineFault;
+
+/// What there is against a line that is no login. A refusal takes far more room, since one may carry a packet.
+#[derive(Drop)]
+pub(crate) enum Objection {
+    /// It has more than 510 bytes.
+    Long,
+    /// Its port only shows refused duplicates.
+    ReadOnly,
+    /// It is no packet.
+    Packet(LineFault),
+    /// The q construct rule drops the packet.
+    Path(QDrop),
+}
+
+/// The refusal that it is.
+pub(super) fn refusal_for(objection: Objection) -> Refusal
+    ensures { result ≡ refusal_for objection }
+{
+    match objection {
+        Objection::Long => Refusal::Long,
+        Objection::ReadOnly => Refusal::ReadOnly,
+        Objection::Packet(fault) => Refusal::Packet(fault),
+        Objection::Path(why) => Refusal::Path(why),
+    }
+}
 
 /// What is told by a body's format, once more.
 fn copy_body(body: &Body) -> Body
@@ -31,26 +57,50 @@ fn copy_body(body: &Body) -> Body
     body.clone().unwrap()
 }
 
-/// Puts a packet that was parsed, as it goes on, into parts that are still to be filled, and says what its body is, or why it is refused.
+/// Puts a packet, as it goes on, into parts that are still to be filled, or says what there is against it.
+fn route_parts<O: Calls>(
+    whole: &mut Parts,
+    server: &Call,
+    origin: &Origin,
+    others: &O,
+    parts: &Parts,
+) -> Result<(), Objection>
+    requires parts { IsParts parts.now }
+    requires server { IsTrue (is_station server.now) }
+    requires origin { IsTrue (has_station origin.now) }
+    requires vias { whole.old.vias ≡ [] }
+    requires body { whole.old.body ≡ [] }
+    ensures exact { Routes result whole.new (read_and_routed server.now origin.now (O.calls others.now) (Ok parts.now)) }
+    ensures sound { OnOk result (IsParts whole.new) }
+    ensures short { OnOk result (length (text_of whole.new) ≤ 510) }
+    ensures stays { OnOk result ((whole.new.source ≡ parts.now.source) × (whole.new.dest ≡ parts.now.dest) × (whole.new.body ≡ parts.now.body)) }
+{
+    match process_into(whole, parts, origin, server, others) {
+        Err(why) => Err(Objection::Path(why)),
+        Ok(()) => Ok(()),
+    }
+}
+
+/// The same of a line that was parsed, with what the packet's body is.
 fn route_parsed<O: Calls>(
     whole: &mut Parts,
     server: &Call,
     origin: &Origin,
     others: &O,
     parsed: &Parsed,
-) -> Result<Body, Refusal>
+) -> Result<Body, Objection>
     requires sound { IsSound parsed.now }
     requires server { IsTrue (is_station server.now) }
     requires origin { IsTrue (has_station origin.now) }
     requires vias { whole.old.vias ≡ [] }
     requires body { whole.old.body ≡ [] }
-    ensures exact { (line : List ℕ) → parsed.now ≡ parsed_of line → Fills result whole.new (read_and_routed server.now origin.now (O.calls others.now) (parts_of line)) }
+    ensures exact { (line : List ℕ) → parsed.now ≡ parsed_of line → Routes result whole.new (read_and_routed server.now origin.now (O.calls others.now) (parts_of line)) }
     ensures sound { OnOk result (IsParts whole.new) }
     ensures short { OnOk result (length (text_of whole.new) ≤ 510) }
     ensures body { (line : List ℕ) → parsed.now ≡ parsed_of line → IfOk result (λ body. body ≡ body_of whole.new.dest whole.new.body) }
 {
     match parsed {
-        Parsed::Bad(fault) => Err(Refusal::Packet(*fault)),
+        Parsed::Bad(fault) => Err(Objection::Packet(*fault)),
         Parsed::Good { parts, body } => {
             route_parts(whole, server, origin, others, parts)?;
             Ok(copy_body(body))
@@ -79,19 +129,19 @@ impl Walker {
         judge_login(alloc, server_of(&self.conf), filters, line)
     }
 
-    /// Puts a packet from there, as it goes on, into parts that are still to be filled, and says what its body is, or why it is
-    /// refused.
+    /// Puts a packet from there, as it goes on, into parts that are still to be filled, and says what its body is, or what there is
+    /// against it.
     pub(super) fn route(
         &mut self,
         whole: &mut Parts,
         from: Source,
         origin: &Origin,
         line: &Line,
-    ) -> Result<Body, Refusal>
+    ) -> Result<Body, Objection>
         requires station { IsTrue (has_station origin.now) }
         requires vias { whole.old.vias ≡ [] }
         requires body { whole.old.body ≡ [] }
-        ensures exact { Fills result whole.new (read_and_routed self.old.conf.server origin.now (others_from from self.old.seen.links) (parts_of line.now)) }
+        ensures exact { Routes result whole.new (read_and_routed self.old.conf.server origin.now (others_from from self.old.seen.links) (parts_of line.now)) }
         ensures sound { OnOk result (IsParts whole.new) }
         ensures short { OnOk result (length (text_of whole.new) ≤ 510) }
         ensures body { IfOk result (λ body. body ≡ body_of whole.new.dest whole.new.body) }

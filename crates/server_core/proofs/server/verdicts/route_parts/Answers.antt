@@ -1,5 +1,5 @@
 use Rattle.q_construct.proofs.Laws.{answer_is, answer_stays}
-use Rattle.line_verdict.proofs.judging.route_parts.Goals as goal
+use Rattle.server_core.proofs.server.verdicts.route_parts.Goals as goal
 
 pub returns-in-Ok-clause-stays : goal.returns-in-Ok-clause-stays
 returns-in-Ok-clause-stays g c =

@@ -1,0 +1,18 @@
+-- What there is against a line, and the refusal that it is.
+use Rattle.std.specs.Prelude.{◌≡◌, Result, Ok, Err}
+use Rattle.aprs_base.specs.PartsSeen.{PartsSeen}
+use Rattle.aprs_history.specs.declared.verdicts.Refusal.{Refusal}
+use Rattle.aprs_history.specs.declared.verdicts.Refusal.TheVariants as refusal
+use Rattle.server_core.specs.declared.server.verdicts.Objection.{Objection}
+use Rattle.server_core.specs.declared.server.verdicts.Objection.TheVariants as objection
+
+abbrev pub refusal_for : Objection → Refusal
+refusal_for objection.Long = refusal.Long
+refusal_for objection.ReadOnly = refusal.ReadOnly
+refusal_for (objection.Packet fault) = refusal.Packet fault
+refusal_for (objection.Path drop') = refusal.Path drop'
+
+-- what a call left of a packet, where there is nothing against it, is what the definition gives
+abbrev pub Routes : {X : Type 0} → Result X Objection → PartsSeen → Result PartsSeen Refusal → Type 0
+Routes (Ok _) left read = read ≡ Ok left
+Routes (Err against) left read = read ≡ Err (refusal_for against)
