@@ -36,6 +36,12 @@ text_between lines bytes from to start end le is starts ends =
     let size : end - start ≡ length between = omega arith in
     rw (size, starts, whole, drop-append_seam before (between ++ after)) (take-append_seam between after)
 
+pub run_length : {X : Type 0} (lines : List X) (from to : ℕ) → to ≤ length lines → length (take (to - from) (drop from lines)) ≡ to - from
+run_length lines from to within =
+    let rest = length-drop from lines in
+    let first = length-take (to - from) (drop from lines) in
+    omega arith
+
 -- the first of these lines that isn't wholly taken
 pub left_between : (lines : List (List ℕ)) (from low high to taken size : ℕ) → from ≤ low → low < to → to ≤ length lines → high ≡ low + 1 →
     size ≡ length (text_bytes (take (low - from) (drop from lines))) → size ≤ taken → taken < length (text_bytes (take (high - from) (drop from lines))) →
@@ -43,10 +49,7 @@ pub left_between : (lines : List (List ℕ)) (from low high to taken size : ℕ)
 left_between lines from low high to taken size le lt within next is whole part =
     let run = take (to - from) (drop from lines) in
     let k = low - from in
-    let many : length run ≡ to - from =
-    let rest = length-drop from lines in
-    let first = length-take (to - from) (drop from lines) in
-    omega arith in
+    let many = run_length lines from to within in
     let more : k + 1 ≡ high - from = omega arith in
     let before : take k run ≡ take k (drop from lines) = take-take k (to - from) (drop from lines) (omega arith) in
     let after : take (k + 1) run ≡ take (high - from) (drop from lines) = take-take (k + 1) (to - from) (drop from lines) (omega arith) ∙ ap (λ n. take n (drop from lines)) more in
@@ -56,9 +59,8 @@ left_between lines from low high to taken size le lt within next is whole part =
     ap (λ n. drop k (take n (drop from lines))) (sym split) ∙ drop-take k (to - low) (drop from lines)
     ∙ ap (take (to - low)) (drop-drop k from lines ∙ ap (λ n. drop n lines) place) in
     let same : length (text_bytes (take k run)) ≡ size = ap (λ xs. length (text_bytes xs)) before ∙ sym is in
-    queued_at run k taken (omega arith) (omega arith) (subst (λ xs. taken < length (text_bytes xs)) (sym after) part)
-    ∙ ap (λ (xs : List (List ℕ)). record { lines = xs; offset = taken - length (text_bytes (take k run)) }) rest
-    ∙ ap (λ (n : ℕ). record { lines = take (to - low) (drop low lines); offset = taken - n }) same
+    let left = queued_at run k taken (omega arith) (omega arith) (subst (λ xs. taken < length (text_bytes xs)) (sym after) part) in
+    rw (rest, same) at left
 
 -- a line more
 pub line_added : (lines : List (List ℕ)) (bytes ends : List ℕ) → IsBatch lines bytes ends → (line text places : List ℕ) → length line ≤ 510 → length lines < 1000 →

@@ -30,9 +30,6 @@ same_further n m xs ys le same =
 pub ended_length : (line : List ℕ) → length (ended_line line) ≡ length line + 2
 ended_length line = length-append line (13 ∷ 10 ∷ [])
 
-pub rest_length : (line : List ℕ) (skip : ℕ) → length (drop skip (ended_line line)) ≡ length line + 2 - skip
-rest_length line skip = length-drop skip (ended_line line) ∙ ap (λ n. n - skip) (ended_length line)
-
 pub line_short : (text : List ℕ) → IsLine text → length text ≤ 510
 line_short text is = grind (arith, nat_tests, is)
 

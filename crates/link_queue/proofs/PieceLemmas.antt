@@ -1,21 +1,15 @@
 -- Pieces one after another, and their lines.
-use Rattle.std.proofs.Common.{◌≡◌, ℕ, zero, suc, ◌+◌, ◌-◌, ◌≤◌, ◌<◌, List, [], ◌∷◌, ◌++◌, length, get_or, take, drop, refl, sym, ap, subst, ◌∙◌, add-one, arith, Some, None, length-append, append-nil}
+use Rattle.std.proofs.Common.{◌≡◌, ℕ, zero, suc, ◌+◌, ◌≤◌, ◌<◌, List, [], ◌∷◌, ◌++◌, length, get_or, drop, refl, sym, ap, subst, ◌∙◌, add-one, arith, Some, length-append, append-nil}
 use Rattle.std.specs.Arc.{arc_value}
 use Rattle.std.specs.List.{slice_get}
 use Rattle.std.proofs.Math.Seq.{drop-cons}
-use Rattle.std.proofs.lemmas.List.{length-drop, length-take}
 use Rattle.std.proofs.lemmas.Grind.{flat_map-append}
 use Rattle.link_queue.specs.Lines.{AreShort, text_bytes}
 use Rattle.link_queue.specs.Pieces.{ArePieces, IsKept, IsPiece, lines_in, lines_of}
+use Rattle.link_queue.proofs.BatchLemmas.{run_length}
 use Rattle.link_queue.proofs.SoundLemmas.{push_sound}
 use Rattle.link_queue.specs.declared.pieces.Piece.{Piece}
 use Rattle.link_queue.specs.declared.pieces.Piece.TheVariants.{Line, Run}
-
-pub run_length : {X : Type 0} (lines : List X) (from to : ℕ) → to ≤ length lines → length (take (to - from) (drop from lines)) ≡ to - from
-run_length lines from to within =
-    let rest = length-drop from lines in
-    let first = length-take (to - from) (drop from lines) in
-    omega arith
 
 pub has_line : (piece : Piece) → IsPiece piece → 1 ≤ length (lines_of piece)
 has_line (Line line) is = omega arith
@@ -44,10 +38,6 @@ both_are (piece ∷ front) back are = let more = both_are front back are.1 in ((
 pub first_of : (pieces : List Piece) (piece : Piece) → Some piece ≡ slice_get pieces 0 → pieces ≡ piece ∷ drop 1 pieces
 first_of [] piece is = cc
 first_of (first ∷ pieces) piece is = let same : piece ≡ first = cc in rw same refl
-
-pub none_of : (pieces : List Piece) → None ≡ slice_get pieces 0 → pieces ≡ []
-none_of [] is = refl
-none_of (piece ∷ pieces) is = cc
 
 -- what is left of pieces begins with the next one
 pub next_lines : (pieces : List Piece) (i : ℕ) (piece : Piece) → i < length pieces → piece ≡ get_or pieces i piece →
