@@ -1,4 +1,5 @@
 pub mod FriendLemmas
 pub mod MemberLemmas
 pub mod PushLemmas
+pub mod RunLemmas
 pub mod WalkLemmas

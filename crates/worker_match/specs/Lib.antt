@@ -1,4 +1,5 @@
 pub mod Seen
 pub mod Items
 pub mod Walk
+pub mod Runs
 pub mod WalkLaws

@@ -6,6 +6,7 @@ mod items;
 mod laws;
 mod links;
 mod offers;
+mod runs;
 mod workers;
 
 pub use items::Item;

@@ -1,9 +1,10 @@
 //! A link, and what each item leaves of it.
-ghost use Rattle.std.specs.Prelude.{◌≡◌, if◌then◌else◌, IfOk, OnErr, OnOk, Some, option_map};
+ghost use Rattle.std.specs.Prelude.{◌≡◌, ◌^◌, ◌<◌, ◌≤◌, if◌then◌else◌, IfOk, OnErr, OnOk, Some, length, option_map};
 ghost use Rattle.std.specs.Arc.{arc_value};
 ghost use Rattle.std.specs.List.Sorted.{IsStrictlyIncreasing};
 ghost use Rattle.filter_eval.specs.Passes.{passes_of};
 ghost use Rattle.worker_match.specs.Items.{item_seen};
+ghost use Rattle.worker_match.specs.Runs.{is_plain, takes_all, with_run};
 ghost use Rattle.worker_match.specs.Seen.{Became, Came, Ended, Told};
 ghost use Rattle.worker_match.specs.Walk.{IsOrdered, after, feed_wants, is_chosen, is_open, met, terms_of, wants, with_copy, with_packet, with_seen, with_text};
 
@@ -13,7 +14,7 @@ use crate::offers::Offer;
 use aprs_base::{Call, Line, Memory, copy_call};
 use filter_eval::{Friends, Seen, passes};
 use filter_lang::FilterSet;
-use link_queue::{Overfull, Queue};
+use link_queue::{Batch, Overfull, Queue};
 use std::marker::Model;
 use std::sync::Arc;
 
@@ -81,6 +82,26 @@ impl LinkState {
         ensures { result ≡ is_open self.now }
     {
         self.alive && !self.over
+    }
+
+    /// Whether it is open, takes all packets, and has no filter.
+    pub(crate) fn is_plain(&self) -> bool
+        ensures { result ≡ is_plain self.now }
+    {
+        self.is_open() && takes_all(self.feed) && self.filter.is_none()
+    }
+
+    /// Takes the lines of a batch, which are counted, as many as fit; where one doesn't the link is over.
+    pub(crate) fn take_run(&mut self, batch: &Arc<Batch>) -> Result<(), Memory>
+        ensures ok { OnOk result (self.new ≡ with_run (arc_value batch.now) self.old) }
+        ensures within { OnOk result (length self.old.queue.lines ≤ self.old.queue.limit) }
+        ensures counted { OnOk result (self.old.put < 2 ^ 64) }
+    {
+        let size = batch.len();
+        let count = self.queue.push_run(batch, 0, size)?;
+        self.put = self.put.saturating_add(count as u64);
+        self.over |= count < size;
+        Ok(())
     }
 
     /// Takes a line; where it doesn't fit the link is over.
@@ -286,6 +307,15 @@ impl LinkState {
                 extra: extra.as_slice(),
             }),
         }
+    }
+}
+
+fn takes_all(feed: Feed) -> bool
+    ensures { result ≡ takes_all feed }
+{
+    match feed {
+        Feed::Full => true,
+        Feed::Nothing | Feed::Up | Feed::Dupe | Feed::Filter => false,
     }
 }
 

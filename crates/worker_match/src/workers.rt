@@ -1,16 +1,21 @@
 //! The walk of many links over the same items, by several workers.
-ghost use Rattle.std.specs.Prelude.{◌≡◌, ◌+◌, ◌*◌, ◌/◌, ◌≤◌, All, OnOk, map, max, min};
+ghost use Rattle.std.specs.Prelude.{◌≡◌, ◌+◌, ◌*◌, ◌/◌, ◌≤◌, All, IfOk, IfSome, OnOk, length, map, max, min};
 ghost use Rattle.std.specs.Thread.{IsSync};
 ghost use Rattle.worker_match.specs.Items.{items_seen};
+ghost use Rattle.worker_match.specs.Runs.{IsRunOf};
 ghost use Rattle.worker_match.specs.Walk.{IsOrdered, walked};
 
 use crate::items::Item;
 use crate::links::LinkState;
+use crate::runs::{Run, run_of};
 use aprs_base::{Gate, Memory};
 use std::thread::{Threads, join_mut};
 
 /// All links of a part meet so many items before they meet the next ones: what a walk touches of these stays near the processor.
-const BLOCK: usize = 32;
+const BLOCK: usize = 64;
+
+/// A run of a block is made where the block has so many items, and so many links take all packets.
+const LEAST: usize = 4;
 
 /// Each link meets the items in their order. The links are split into at most `workers` parts, which are walked at the same
 /// time, each between its entering and its leaving the gate. After `Memory` nothing is said of the links.
@@ -110,15 +115,49 @@ fn walk(links: &mut [LinkState], items: &[Item]) -> Result<(), Memory>
     Ok(())
 }
 
-/// Each link meets the items in their order, one link after another.
+/// Each link meets the items in their order.
 fn walk_block(links: &mut [LinkState], items: &[Item]) -> Result<(), Memory>
-    requires { All IsOrdered (items_seen items.now) }
+    requires few { length items.now ≤ 1000 }
+    requires ordered { All IsOrdered (items_seen items.now) }
+    ensures { OnOk result (links.new ≡ map (walked (items_seen items.now)) links.old) }
+{
+    let run = run_for(links, items)?;
+    walk_links(links, items, &run)
+}
+
+/// The same, one link after another.
+fn walk_links(links: &mut [LinkState], items: &[Item], run: &Option<Run>) -> Result<(), Memory>
+    requires ordered { All IsOrdered (items_seen items.now) }
+    requires run { IfSome run.now (λ run. IsRunOf (items_seen items.now) run) }
     ensures { OnOk result (links.new ≡ map (walked (items_seen items.now)) links.old) }
 {
     for link in links.iter_mut() {
-        walk_link(link, items)?;
+        meet_block(link, items, run)?;
     }
     Ok(())
+}
+
+/// The items as one run, where they are packets alone and a run pays.
+fn run_for(links: &[LinkState], items: &[Item]) -> Result<Option<Run>, Memory>
+    requires { length items.now ≤ 1000 }
+    ensures { IfOk result (λ run. IfSome run (λ run. IsRunOf (items_seen items.now) run)) }
+{
+    if items.len() < LEAST || links.iter().filter(|link| link.is_plain()).count() < LEAST {
+        return Ok(None);
+    }
+    run_of(items)
+}
+
+/// One link meets the items, or takes the lines of their run where that comes to the same.
+fn meet_block(link: &mut LinkState, items: &[Item], run: &Option<Run>) -> Result<(), Memory>
+    requires ordered { All IsOrdered (items_seen items.now) }
+    requires run { IfSome run.now (λ run. IsRunOf (items_seen items.now) run) }
+    ensures { OnOk result (link.new ≡ walked (items_seen items.now) link.old) }
+{
+    match run {
+        Some(run) if run.suits(link) => link.take_run(&run.batch),
+        _ => walk_link(link, items),
+    }
 }
 
 /// One link meets the items, as long as it lives and isn't over.

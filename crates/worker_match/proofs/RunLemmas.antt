@@ -1,0 +1,302 @@
+-- What a block of packets leaves of a link that suits their run is what the run leaves of it.
+use Rattle.std.proofs.Common.{◌≡◌, ℕ, zero, suc, ◌^◌, ◌+◌, ◌-◌, ◌<◌, ◌≤◌, ◌==◌, min, ◌&&◌, ◌||◌, nat_lt, Bool, true, false, not, List, [], ◌∷◌, ◌++◌, length, take, drop, get_or, Option, Some, None, is_none, Result, Ok, Err, OnOk, refl, ap, sym, ◌∙◌, subst, cond, inl, inr, arith, append_assoc, append-nil, length-append, eq-eqb}
+use Rattle.std.specs.List.{flat_map, list_all, list_any}
+use Rattle.std.proofs.Math.Bool.{and-false, or-false, or-true}
+use Rattle.std.proofs.lemmas.Bool.{cases_Bool, cases_eq, cases_lt, false_from_ne_true, false≢true, le-ltb, lt-ltb}
+use Rattle.std.proofs.lemmas.Bool.Decides.{Decides-eqb}
+use Rattle.std.proofs.lemmas.List.{drop_all, drop_more}
+use Rattle.std.proofs.lemmas.Slice.Eq.{slice_eq-Decides}
+use Rattle.aprs_base.specs.declared.packets.Source.{Source}
+use Rattle.aprs_base.specs.declared.packets.Source.TheVariants as source
+use Rattle.filter_lang.specs.Terms.{TermSeen}
+use Rattle.filter_eval.specs.Passes.{is_some_and, is_text}
+use Rattle.filter_eval.specs.declared.seen.Seen.{Seen}
+use Rattle.station_table.specs.Stations.{seen_in}
+use Rattle.link_queue.specs.Queues.{QueueSeen, with_line, with_lines}
+use Rattle.worker_match.specs.declared.links.Feed.{Feed}
+use Rattle.worker_match.specs.declared.links.Feed.TheVariants as feed
+use Rattle.worker_match.specs.declared.items.Item.{Item}
+use Rattle.worker_match.specs.Items.{item_seen, items_seen}
+use Rattle.worker_match.specs.Seen.{LinkSeen, OfferSeen, ItemSeen, Told, ToldAll, Ended, Became, Came}
+use Rattle.worker_match.specs.Walk.{after, feed_wants, friends_seen, is_from, is_full, is_open, met, mine_seen, one_more, terms_of, told_by, walked, wants, with_copy, with_packet, with_seen}
+use Rattle.worker_match.specs.Runs.{IsRunOf, RunSeen, added, empty_run, fresh, is_packet, is_plain, line_of, mark, mark_of, sender_of, sent_by, suits, takes_all, with_run}
+use Rattle.worker_match.proofs.PushLemmas.{full_is, not_full}
+use Rattle.worker_match.proofs.WalkLemmas.{closed_stays}
+
+-- ---- tests
+
+both : (a b : Bool) → (a && b) ≡ true → (a ≡ true) × (b ≡ true)
+both true b is = (refl, is)
+both false b is = absurd (cc)
+
+neither : (a b : Bool) → (a || b) ≡ false → (a ≡ false) × (b ≡ false)
+neither true b is = absurd (cc)
+neither false b is = (refl, is)
+
+is_not : (a : Bool) → not a ≡ true → a ≡ false
+is_not true is = absurd (cc)
+is_not false is = refl
+
+takes_is : (fed : Feed) → takes_all fed ≡ true → fed ≡ feed.Full
+takes_is feed.Nothing is = absurd (cc)
+takes_is feed.Full is = refl
+takes_is feed.Up is = absurd (cc)
+takes_is feed.Dupe is = absurd (cc)
+takes_is feed.Filter is = absurd (cc)
+
+none_is : (filter : Option (List TermSeen)) → is_none filter ≡ true → filter ≡ None
+none_is None is = refl
+none_is (Some terms) is = absurd (cc)
+
+-- the first packet isn't from the link, nor are the others
+not_from : (link : ℕ) (from : Source) (others : List ℕ) → list_any (λ sender. link == sender) (sent_by from ++ others) ≡ false
+    → (is_from link from ≡ false) × (list_any (λ sender. link == sender) others ≡ false)
+not_from link (source.Link number) others is = neither (link == number) (list_any (λ sender. link == sender) others) is
+not_from link (source.Submit listener) others is = (refl, is)
+not_from link (source.Peer peer) others is = (refl, is)
+
+-- its source isn't the login, nor have the others its mark
+not_mine : (me : Option (List ℕ)) (call : List ℕ) (others : List ℕ)
+    → is_some_and (λ own. list_any (λ other. mark own == other) (mark call ∷ others)) me ≡ false
+    → (is_some_and (λ own. is_text own call) me ≡ false) × (is_some_and (λ own. list_any (λ other. mark own == other) others) me ≡ false)
+not_mine None call others is = (refl, refl)
+not_mine (Some own) call others is =
+    let apart = neither (mark own == mark call) (list_any (λ other. mark own == other) others) is in
+    (false_from_ne_true _ (λ same. false≢true (sym apart.0 ∙ eq-eqb (mark own) (mark call) (ap mark ((slice_eq-Decides Decides-eqb own call (is_text own call) refl).0 same)))), apart.1)
+
+-- ---- a link that takes each packet of others
+
+record IsPlain (link : LinkSeen) : Type 0 where
+  open' : is_open link ≡ true
+  full : link.feed ≡ feed.Full
+  none : link.filter ≡ None
+  few : length link.queue.lines ≤ link.queue.limit
+  counted : link.put < 2 ^ 64
+
+-- a position of another call changes nothing
+unseen : (call : List ℕ) (told : Option Seen) (link : LinkSeen) → link.filter ≡ None → is_some_and (λ own. is_text own call) link.me ≡ false
+    → with_seen call told link ≡ link
+unseen call None link none other = refl
+unseen call (Some seen) link none other =
+    ap (λ filter. record link { friends = friends_seen call seen (terms_of filter) link.friends; mine = mine_seen call seen link.me link.mine }) none
+    ∙ ap (λ b. record link { mine = cond b (Some seen) link.mine }) other
+
+module _ (offer : OfferSeen) (link : LinkSeen) (plain : IsPlain link) (from : is_from link.link offer.packet.from ≡ false) where
+  wanted : wants offer link ≡ not offer.dupe
+  wanted = ap (λ b. not b && feed_wants link.feed offer link) from ∙ ap (λ fed. feed_wants fed offer link) plain.full
+
+  opened : after link (Came offer) ≡ with_seen offer.packet.parts.source (told_by offer) (with_packet offer link)
+  opened = ap (λ b. cond b (met (Came offer) link) link) plain.open'
+
+  after_dupe : offer.dupe ≡ true → after link (Came offer) ≡ link
+  after_dupe dupe =
+      opened
+      ∙ ap (λ b. with_seen offer.packet.parts.source (cond b None (seen_in offer.packet)) (with_packet offer link)) dupe
+      ∙ ap (λ b. cond b (with_copy offer.packet.line link) link) (wanted ∙ ap not dupe)
+
+  after_copy : (full : Bool) → offer.dupe ≡ false → is_some_and (λ own. is_text own offer.packet.parts.source) link.me ≡ false → is_full link.queue ≡ full
+      → after link (Came offer) ≡ cond full (record link { over = true }) (record link { queue = with_line offer.packet.line link.queue; put = one_more link.put })
+  unfolding with_copy
+  after_copy full dupe other is =
+      opened
+      ∙ ap (λ b. with_seen offer.packet.parts.source (told_by offer) (cond b (with_copy offer.packet.line link) link)) (wanted ∙ ap not dupe)
+      ∙ ap (λ b. with_seen offer.packet.parts.source (told_by offer) (cond b (record link { over = true }) (record link { queue = with_line offer.packet.line link.queue; put = one_more link.put }))) is
+      ∙ unseen_either full
+    where
+      unseen_either : (full : Bool)
+          → with_seen offer.packet.parts.source (told_by offer) (cond full (record link { over = true }) (record link { queue = with_line offer.packet.line link.queue; put = one_more link.put }))
+          ≡ cond full (record link { over = true }) (record link { queue = with_line offer.packet.line link.queue; put = one_more link.put })
+      unseen_either true = unseen offer.packet.parts.source (told_by offer) (record link { over = true }) plain.none other
+      unseen_either false =
+          unseen offer.packet.parts.source (told_by offer) (record link { queue = with_line offer.packet.line link.queue; put = one_more link.put }) plain.none other
+
+-- ---- what a run leaves
+
+run_is : (link : LinkSeen) (queue other : QueueSeen) (put count : ℕ) (over last : Bool) → queue ≡ other → put ≡ count → over ≡ last
+    → record link { queue = queue; put = put; over = over } ≡ record link { queue = other; put = count; over = last }
+run_is link queue other put count over last a b c = rw (a, b, c) refl
+
+less_taken : (room size : ℕ) → nat_lt (min room size) size ≡ nat_lt room size
+less_taken room size = elim (cases_lt room size) [
+  | inl less ↦ lt-ltb (min room size) size (omega arith) ∙ sym (lt-ltb room size less)
+  | inr enough ↦ le-ltb (min room size) size (omega arith) ∙ sym (le-ltb room size enough)
+]
+
+pub run_taken : (lines : List (List ℕ)) (inside now : LinkSeen) (queue : QueueSeen) (put count size : ℕ) (over : Bool) → inside ≡ now
+    → queue ≡ with_lines (take count (drop 0 lines)) inside.queue → count ≡ min (inside.queue.limit - length inside.queue.lines) (size - 0) → size ≡ length lines
+    → put ≡ min (inside.put + count) (2 ^ 64 - 1) → over ≡ (inside.over || nat_lt count size)
+    → record inside { queue = queue; put = put; over = over } ≡ with_run lines now
+unfolding with_run
+run_taken lines inside now queue put count size over is more many all counted short =
+    let room = inside.queue.limit - length inside.queue.lines in
+    let taken : count ≡ min room (length lines) = omega arith in
+    run_is inside _ _ _ _ _ _
+    (more ∙ ap (λ n. with_lines (take n lines) inside.queue) taken)
+    (counted ∙ ap (λ n. min (inside.put + n) (2 ^ 64 - 1)) taken)
+    (short ∙ ap (λ n. inside.over || nat_lt n size) taken ∙ ap (λ n. inside.over || nat_lt (min room (length lines)) n) all ∙ ap (λ b. inside.over || b) (less_taken room (length lines)))
+    ∙ ap (with_run lines) is
+
+module _ (link : LinkSeen) (plain : IsPlain link) where
+  under : link.over ≡ false
+  under = is_not link.over (both link.alive (not link.over) plain.open').1
+
+  -- no line fits, or there is none
+  none_taken : (lines : List (List ℕ)) (over : Bool) → min (link.queue.limit - length link.queue.lines) (length lines) ≡ 0
+      → (link.over || nat_lt (link.queue.limit - length link.queue.lines) (length lines)) ≡ over → with_run lines link ≡ record link { over = over }
+  unfolding with_run
+  none_taken lines over none is =
+      let counted = plain.counted in
+      ap (λ n. record link {
+        queue = with_lines (take n lines) link.queue;
+        put = min (link.put + n) (2 ^ 64 - 1);
+        over = link.over || nat_lt (link.queue.limit - length link.queue.lines) (length lines);
+      }) none
+      ∙ run_is link _ link.queue _ link.put _ over (ap (λ lines. record link.queue { lines = lines }) (append-nil link.queue.lines)) (omega arith) is
+
+  with_none : with_run [] link ≡ link
+  with_none = none_taken [] link.over (omega arith) (ap (λ b. link.over || b) (le-ltb (link.queue.limit - length link.queue.lines) 0 (omega arith)) ∙ or-false link.over)
+
+  module _ (line : List ℕ) (lines : List (List ℕ)) where
+    with_full : length link.queue.lines ≡ link.queue.limit → with_run (line ∷ lines) link ≡ record link { over = true }
+    with_full full =
+        none_taken (line ∷ lines) true (omega arith)
+        (ap (λ b. link.over || b) (lt-ltb (link.queue.limit - length link.queue.lines) (suc (length lines)) (omega arith)) ∙ or-true link.over)
+
+    abbrev one_taken : LinkSeen
+    one_taken = record link { queue = with_line line link.queue; put = one_more link.put }
+
+    module _ (room : length link.queue.lines < link.queue.limit) where
+      still_plain : IsPlain one_taken
+      still_plain =
+          let size : length (link.queue.lines ++ line ∷ []) ≡ length link.queue.lines + 1 = length-append link.queue.lines (line ∷ []) in
+          record { open' = plain.open'; full = plain.full; none = plain.none; few = omega arith; counted = omega arith }
+
+      with_more : with_run lines one_taken ≡ with_run (line ∷ lines) link
+      unfolding with_run
+      with_more =
+          let size : length (link.queue.lines ++ line ∷ []) ≡ length link.queue.lines + 1 = length-append link.queue.lines (line ∷ []) in
+          let free = link.queue.limit - length link.queue.lines in
+          let left = link.queue.limit - length (link.queue.lines ++ line ∷ []) in
+          let more : suc (min left (length lines)) ≡ min free (suc (length lines)) = omega arith in
+          run_is link _ _ _ _ _ _
+          (ap (λ all. record link.queue { lines = all })
+              (append_assoc link.queue.lines (line ∷ []) (take (min left (length lines)) lines) ∙ ap (λ n. link.queue.lines ++ take n (line ∷ lines)) more))
+          (omega arith)
+          (ap (λ b. link.over || b) (elim (cases_lt left (length lines)) [
+            | inl less ↦ lt-ltb left (length lines) less ∙ sym (lt-ltb free (suc (length lines)) (omega arith))
+            | inr enough ↦ le-ltb left (length lines) enough ∙ sym (le-ltb free (suc (length lines)) (omega arith))
+          ]))
+
+-- ---- the block
+
+less_from_ne : (a b : ℕ) → a ≤ b → (a ≡ b → ⊥) → a < b
+less_from_ne a b le ne = elim (cases_lt a b) [
+  | inl lt ↦ lt
+  | inr ge ↦ absurd (ne (omega arith))
+]
+
+run_walked : (items : List ItemSeen) (link : LinkSeen) → IsPlain link → list_all is_packet items ≡ true
+    → list_any (λ sender. link.link == sender) (flat_map sender_of items) ≡ false
+    → is_some_and (λ own. list_any (λ other. mark own == other) (flat_map mark_of items)) link.me ≡ false
+    → walked items link ≡ with_run (flat_map line_of items) link
+run_walked [] link plain packets senders marks = sym (with_none link plain)
+run_walked (Told number line ∷ items) link plain packets senders marks = absurd (cc)
+run_walked (ToldAll line ∷ items) link plain packets senders marks = absurd (cc)
+run_walked (Ended number ∷ items) link plain packets senders marks = absurd (cc)
+run_walked (Became session ∷ items) link plain packets senders marks = absurd (cc)
+run_walked (Came offer ∷ items) link plain packets senders marks =
+    let line = offer.packet.line in
+    let lines = flat_map line_of items in
+    let from = not_from link.link offer.packet.from (flat_map sender_of items) senders in
+    let mine = not_mine link.me offer.packet.parts.source (flat_map mark_of items) marks in
+    elim (cases_Bool offer.dupe) [
+      | inl dupe ↦
+          ap (walked items) (after_dupe offer link plain from.0 dupe)
+          ∙ run_walked items link plain packets from.1 mine.1
+          ∙ ap (λ b. with_run (fresh b line ++ lines) link) (sym dupe)
+      | inr new ↦ elim (cases_eq (length link.queue.lines) link.queue.limit) [
+        | inl full ↦
+            ap (walked items) (after_copy offer link plain from.0 true new mine.0 (full_is link.queue full))
+            ∙ closed_stays items (record link { over = true }) (and-false link.alive)
+            ∙ sym (with_full link plain line lines full)
+            ∙ ap (λ b. with_run (fresh b line ++ lines) link) (sym new)
+        | inr room ↦
+            let lt = less_from_ne _ _ plain.few room in
+            ap (walked items) (after_copy offer link plain from.0 false new mine.0 (not_full link.queue room))
+            ∙ run_walked items (one_taken link plain line lines) (still_plain link plain line lines lt) packets from.1 mine.1
+            ∙ with_more link plain line lines lt
+            ∙ ap (λ b. with_run (fresh b line ++ lines) link) (sym new)
+      ]
+    ]
+
+suited : (items : List ItemSeen) (run : RunSeen) (link : LinkSeen) → IsRunOf items run → suits link run ≡ true
+    → length link.queue.lines ≤ link.queue.limit → link.put < 2 ^ 64 → with_run run.lines link ≡ walked items link
+suited items run link is suit few counted =
+    let apart = both _ (not (is_some_and (λ own. list_any (λ other. mark own == other) run.marks) link.me)) suit in
+    let plain = both _ (not (list_any (λ sender. link.link == sender) run.senders)) apart.0 in
+    let fed = both (is_open link && takes_all link.feed) (is_none link.filter) plain.0 in
+    let open' = both (is_open link) (takes_all link.feed) fed.0 in
+    ap (λ lines. with_run lines link) is.lines
+    ∙ sym (run_walked items link
+        (record { open' = open'.0; full = takes_is link.feed open'.1; none = none_is link.filter fed.1; few = few; counted = counted })
+        is.packets
+        (ap (list_any (λ sender. link.link == sender)) (sym is.senders) ∙ is_not _ plain.1)
+        (ap (λ marks. is_some_and (λ own. list_any (λ other. mark own == other) marks) link.me) (sym is.marks) ∙ is_not _ apart.1))
+
+pub run_met : {T E : Type 0} (result : Result T E) (items : List ItemSeen) (run : RunSeen) (lines : List (List ℕ)) (old new : LinkSeen)
+    → IsRunOf items run → suits old run ≡ true → lines ≡ run.lines → OnOk result (new ≡ with_run lines old)
+    → OnOk result (length old.queue.lines ≤ old.queue.limit) → OnOk result (old.put < 2 ^ 64) → OnOk result (new ≡ walked items old)
+run_met (Ok x) items run lines old new is suit same taken few counted = taken ∙ ap (λ all. with_run all old) same ∙ suited items run old is suit few counted
+run_met (Err e) items run lines old new is suit same taken few counted = tt
+
+-- ---- a run that items are added to
+
+-- what is left of the items would make the run of all
+pub record IsBegun (items : List Item) (i : ℕ) (run : RunSeen) : Type 0 where
+  pub packets : list_all is_packet (items_seen (drop i items)) ≡ list_all is_packet (items_seen items)
+  pub lines : run.lines ++ flat_map line_of (items_seen (drop i items)) ≡ flat_map line_of (items_seen items)
+  pub senders : run.senders ++ flat_map sender_of (items_seen (drop i items)) ≡ flat_map sender_of (items_seen items)
+  pub marks : run.marks ++ flat_map mark_of (items_seen (drop i items)) ≡ flat_map mark_of (items_seen items)
+  pub few : length run.lines ≤ i
+
+pub begun : (items : List Item) → IsBegun items 0 empty_run
+begun items = record { packets = refl; lines = refl; senders = refl; marks = refl; few = omega arith }
+
+line_at_most : (item : ItemSeen) → length (line_of item) ≤ 1
+line_at_most (Told number line) = omega arith
+line_at_most (ToldAll line) = omega arith
+line_at_most (Ended number) = omega arith
+line_at_most (Became session) = omega arith
+line_at_most (Came offer) = elim (cases_Bool offer.dupe) [
+  | inl dupe ↦ subst (λ b. length (fresh b offer.packet.line) ≤ 1) (sym dupe) (omega arith)
+  | inr new ↦ subst (λ b. length (fresh b offer.packet.line) ≤ 1) (sym new) (omega arith)
+]
+
+module _ (items : List Item) (i : ℕ) (x : Item) (lt : i < length items) (at : x ≡ get_or items i x) where
+  left_is : drop i items ≡ x ∷ drop (i + 1) items
+  left_is = drop_more items i x lt ∙ ap (λ y. y ∷ drop (i + 1) items) (sym at)
+
+  gathered : {A : Type 0} (f : ItemSeen → List A) (so_far total : List A) → so_far ++ flat_map f (items_seen (drop i items)) ≡ total
+      → (so_far ++ f (item_seen x)) ++ flat_map f (items_seen (drop (i + 1) items)) ≡ total
+  gathered f so_far total is =
+      append_assoc so_far (f (item_seen x)) (flat_map f (items_seen (drop (i + 1) items)))
+      ∙ ap (λ left. so_far ++ flat_map f (items_seen left)) (sym left_is) ∙ is
+
+  pub begun_more : (run new : RunSeen) → IsBegun items i run → is_packet (item_seen x) ≡ true → new ≡ added (item_seen x) run → IsBegun items (i + 1) new
+  begun_more run new is packet made =
+      subst (IsBegun items (i + 1)) (sym made) (record {
+        packets = ap (λ b. b && list_all is_packet (items_seen (drop (i + 1) items))) (sym packet) ∙ ap (λ left. list_all is_packet (items_seen left)) (sym left_is) ∙ is.packets;
+        lines = gathered line_of run.lines _ is.lines;
+        senders = gathered sender_of run.senders _ is.senders;
+        marks = gathered mark_of run.marks _ is.marks;
+        few = let size = length-append run.lines (line_of (item_seen x)) in let most = line_at_most (item_seen x) in let few = is.few in omega arith;
+      })
+
+pub begun_done : (items : List Item) (i : ℕ) (run : RunSeen) → length items ≤ i → IsBegun items i run → IsRunOf (items_seen items) run
+begun_done items i run past is =
+    let none = drop_all i items past in record {
+      packets = sym is.packets ∙ ap (λ left. list_all is_packet (items_seen left)) none;
+      lines = sym (append-nil run.lines) ∙ ap (λ left. run.lines ++ flat_map line_of (items_seen left)) (sym none) ∙ is.lines;
+      senders = sym (append-nil run.senders) ∙ ap (λ left. run.senders ++ flat_map sender_of (items_seen left)) (sym none) ∙ is.senders;
+      marks = sym (append-nil run.marks) ∙ ap (λ left. run.marks ++ flat_map mark_of (items_seen left)) (sym none) ∙ is.marks;
+    }

@@ -1,0 +1,176 @@
+//! A block of packets as one run of lines, for links that take all packets.
+ghost use Rattle.std.specs.Prelude.{◌≡◌, ◌<◌, ◌≤◌, ◌==◌, ◌++◌, true, IfOk, IfSome, OnOk, length};
+ghost use Rattle.std.specs.Arc.{arc_value};
+ghost use Rattle.std.specs.List.{list_any};
+ghost use Rattle.filter_eval.specs.Passes.{is_some_and};
+ghost use Rattle.worker_match.specs.Items.{item_seen, items_seen};
+ghost use Rattle.worker_match.specs.Runs.{IsRunOf, added, empty_run, fresh, is_packet, mark, sent_by, suits};
+
+use crate::items::Item;
+use crate::links::LinkState;
+use aprs_base::{Call, Line, Memory, Source};
+use link_queue::Batch;
+use std::alloc::Global;
+use std::marker::Model;
+use std::sync::Arc;
+
+/// Packets: the lines of those that aren't refused duplicates, the links that they came from, and the marks of their sources.
+#[derive(Drop)]
+pub(crate) struct Run {
+    pub batch: Arc<Batch>,
+    senders: Vec<u32>,
+    marks: Vec<u64>,
+}
+
+impl Model for Run {
+    ghost use Rattle.std.specs.Arc.{arc_value};
+    ghost use Rattle.worker_match.specs.Runs.{RunSeen};
+
+    ghost Value = { RunSeen };
+
+    ghost view = { λ r. record { lines = arc_value r.batch; senders = r.senders.items; marks = r.marks.items } };
+}
+
+impl Run {
+    /// Whether the link takes just these lines: it takes all packets, none of these came from it, and none has its login's
+    /// mark, so that none tells where it is.
+    pub fn suits(&self, link: &LinkState) -> bool
+        ensures { result ≡ suits link.now self.now }
+    {
+        link.is_plain() && !is_among(link.link, self.senders.as_slice()) && !self.has_mark_of(&link.me)
+    }
+
+    /// Whether one of the packets has the login's mark.
+    fn has_mark_of(&self, me: &Option<Call>) -> bool
+        ensures { result ≡ is_some_and (λ own. list_any (λ other. mark own == other) self.now.marks) me.now }
+    {
+        match me {
+            Some(own) => is_marked(mark(own.bytes()), self.marks.as_slice()),
+            None => false,
+        }
+    }
+}
+
+fn is_among(number: u32, numbers: &[u32]) -> bool
+    ensures { result ≡ list_any (λ other. number == other) numbers.now }
+{
+    numbers.iter().any(|other| number == *other)
+}
+
+fn is_marked(mark: u64, marks: &[u64]) -> bool
+    ensures { result ≡ list_any (λ other. mark == other) marks.now }
+{
+    marks.iter().any(|other| mark == *other)
+}
+
+/// Equal calls have equal marks.
+fn mark(call: &[u8]) -> u64
+    ensures { result ≡ mark call.now }
+{
+    let mut so_far = 0u64;
+    for byte in call {
+        so_far = so_far.wrapping_mul(31).wrapping_add(u64::from(*byte));
+    }
+    so_far
+}
+
+/// A run that packets are added to.
+#[derive(Drop)]
+struct Draft {
+    batch: Batch,
+    senders: Vec<u32>,
+    marks: Vec<u64>,
+}
+
+impl Model for Draft {
+    ghost use Rattle.worker_match.specs.Runs.{RunSeen};
+
+    ghost Value = { RunSeen };
+
+    ghost view = { λ d. record { lines = d.batch; senders = d.senders.items; marks = d.marks.items } };
+}
+
+impl Draft {
+    fn new(alloc: Global) -> Draft
+        ensures { result ≡ empty_run }
+    {
+        Draft {
+            batch: Batch::new(alloc),
+            senders: Vec::new(alloc),
+            marks: Vec::new(alloc),
+        }
+    }
+
+    /// Adds an item, and says whether it is a packet, as nothing else is added.
+    fn add(&mut self, item: &Item) -> Result<bool, Memory>
+        requires { length self.old.lines < 1000 }
+        ensures packet { IfOk result (λ packet. packet ≡ is_packet (item_seen item.now)) }
+        ensures added { IfOk result (λ packet. packet ≡ true → self.new ≡ added (item_seen item.now) self.old) }
+    {
+        match item {
+            Item::Packet { packet, dupe, .. } => {
+                add_line(&mut self.batch, *dupe, &packet.line)?;
+                add_sender(&mut self.senders, &packet.from)?;
+                self.marks.push(mark(packet.parts.source.bytes()))?;
+                Ok(true)
+            }
+            _ => Ok(false),
+        }
+    }
+
+    fn share(self, alloc: Global) -> Result<Run, Memory>
+        ensures { IfOk result (λ run. run ≡ self) }
+    {
+        Ok(Run {
+            batch: Arc::new(alloc, self.batch)?,
+            senders: self.senders,
+            marks: self.marks,
+        })
+    }
+}
+
+/// A refused duplicate isn't added.
+fn add_line(batch: &mut Batch, dupe: bool, line: &Arc<Line>) -> Result<(), Memory>
+    requires { length batch.old < 1000 }
+    ensures { OnOk result (batch.new ≡ batch.old ++ fresh dupe (arc_value line.now)) }
+{
+    if !dupe {
+        batch.push(line.clone()?)?;
+    }
+    Ok(())
+}
+
+fn add_sender(senders: &mut Vec<u32>, from: &Source) -> Result<(), Memory>
+    ensures { OnOk result (senders.new.items ≡ senders.old.items ++ sent_by from.now) }
+{
+    match from {
+        Source::Link(number) => senders.push(*number)?,
+        Source::Submit(_) | Source::Peer(_) => {}
+    }
+    Ok(())
+}
+
+/// The items as one run, where they are packets alone.
+pub(crate) fn run_of(items: &[Item]) -> Result<Option<Run>, Memory>
+    requires { length items.now ≤ 1000 }
+    ensures { IfOk result (λ run. IfSome run (λ run. IsRunOf (items_seen items.now) run)) }
+{
+    let Some(alloc) = memory_of(items) else {
+        return Ok(None);
+    };
+    let mut draft = Draft::new(alloc);
+    for item in items {
+        if !draft.add(item)? {
+            return Ok(None);
+        }
+    }
+    Ok(Some(draft.share(alloc)?))
+}
+
+/// Where the first packet has its memory.
+fn memory_of(items: &[Item]) -> Option<Global> {
+    match items.first() {
+        Some(Item::Packet { extra, .. }) => Some(*extra.allocator()),
+        _ => None,
+    }
+}
