@@ -180,7 +180,7 @@ module _ (link : LinkSeen) (plain : IsPlain link) where
           let more : suc (min left (length lines)) ≡ min free (suc (length lines)) = omega arith in
           run_is link _ _ _ _ _ _
           (ap (λ all. record link.queue { lines = all })
-              (append_assoc link.queue.lines (line ∷ []) (take (min left (length lines)) lines) ∙ ap (λ n. link.queue.lines ++ take n (line ∷ lines)) more))
+          (append_assoc link.queue.lines (line ∷ []) (take (min left (length lines)) lines) ∙ ap (λ n. link.queue.lines ++ take n (line ∷ lines)) more))
           (omega arith)
           (ap (λ b. link.over || b) (elim (cases_lt left (length lines)) [
             | inl less ↦ lt-ltb left (length lines) less ∙ sym (lt-ltb free (suc (length lines)) (omega arith))
@@ -238,10 +238,10 @@ suited items run link is suit few counted =
     let open' = both (is_open link) (takes_all link.feed) fed.0 in
     ap (λ lines. with_run lines link) is.lines
     ∙ sym (run_walked items link
-        (record { open' = open'.0; full = takes_is link.feed open'.1; none = none_is link.filter fed.1; few = few; counted = counted })
-        is.packets
-        (ap (list_any (λ sender. link.link == sender)) (sym is.senders) ∙ is_not _ plain.1)
-        (ap (λ marks. is_some_and (λ own. list_any (λ other. mark own == other) marks) link.me) (sym is.marks) ∙ is_not _ apart.1))
+    (record { open' = open'.0; full = takes_is link.feed open'.1; none = none_is link.filter fed.1; few = few; counted = counted })
+    is.packets
+    (ap (list_any (λ sender. link.link == sender)) (sym is.senders) ∙ is_not _ plain.1)
+    (ap (λ marks. is_some_and (λ own. list_any (λ other. mark own == other) marks) link.me) (sym is.marks) ∙ is_not _ apart.1))
 
 pub run_met : {T E : Type 0} (result : Result T E) (items : List ItemSeen) (run : RunSeen) (lines : List (List ℕ)) (old new : LinkSeen)
     → IsRunOf items run → suits old run ≡ true → lines ≡ run.lines → OnOk result (new ≡ with_run lines old)

@@ -37,7 +37,9 @@ impl Run {
     pub fn suits(&self, link: &LinkState) -> bool
         ensures { result ≡ suits link.now self.now }
     {
-        link.is_plain() && !is_among(link.link, self.senders.as_slice()) && !self.has_mark_of(&link.me)
+        link.is_plain()
+            && !is_among(link.link, self.senders.as_slice())
+            && !self.has_mark_of(&link.me)
     }
 
     /// Whether one of the packets has the login's mark.
