@@ -1,7 +1,7 @@
 //! Links and items worked by hand.
-ghost use Rattle.std.specs.Prelude.{◌≤◌, IfOk};
+ghost use Rattle.std.specs.Prelude.{◌≤◌, All, IfOk};
 ghost use Rattle.std.specs.List.Sorted.{IsStrictlyIncreasing};
-ghost use Rattle.worker_match.specs.Items.{item_seen};
+ghost use Rattle.worker_match.specs.Items.{item_seen, items_seen};
 ghost use Rattle.worker_match.specs.Walk.{IsOrdered};
 
 use aprs_base::{Body, Call, Gate, Line, Memory, OpenGate, Packet, Parts, Place, Source};
@@ -44,13 +44,17 @@ fn link(alloc: Global, number: u32, feed: Feed, filter: &str) -> Result<LinkStat
     })
 }
 
-fn line<R: Abort>(rt: &R, alloc: Global) -> Result<Arc<Line>, Fail> {
-    let line = Line::new(b"x").expect(rt, "a line");
+fn line_of<R: Abort>(rt: &R, alloc: Global, text: &[u8]) -> Result<Arc<Line>, Fail> {
+    let line = Line::new(text).expect(rt, "a line");
     Ok(Arc::new(alloc, line)?)
 }
 
-/// A position of K1ABC that came from that link.
-fn position<R: Abort>(rt: &R, alloc: Global, from: u32) -> Result<Packet, Fail> {
+fn line<R: Abort>(rt: &R, alloc: Global) -> Result<Arc<Line>, Fail> {
+    line_of(rt, alloc, b"x")
+}
+
+/// A position that came from that link.
+fn position<R: Abort>(rt: &R, from: u32, source: &[u8], line: Arc<Line>) -> Result<Packet, Fail> {
     let place = Place {
         lat: 60_000_000,
         lon: 25_000_000,
@@ -62,7 +66,7 @@ fn position<R: Abort>(rt: &R, alloc: Global, from: u32) -> Result<Packet, Fail> 
         from: Source::Link(from),
         moment: 1000,
         parts: Parts {
-            source: Call::read(b"K1ABC").expect(rt, "a call"),
+            source: Call::read(source).expect(rt, "a call"),
             dest: Call::read(b"APRS").expect(rt, "a call"),
             vias: ArrayVec::new(),
             body: ArrayVec::new(),
@@ -74,7 +78,7 @@ fn position<R: Abort>(rt: &R, alloc: Global, from: u32) -> Result<Packet, Fail> 
             live: false,
             to: None,
         },
-        line: line(rt, alloc)?,
+        line,
     })
 }
 
@@ -89,7 +93,7 @@ fn offered<R: Abort>(
 ) -> Result<Item, Fail>
     ensures { IfOk result (λ item. IsOrdered (item_seen item)) }
 {
-    let packet = Arc::new(alloc, position(rt, alloc, 1)?)?;
+    let packet = Arc::new(alloc, position(rt, 1, b"K1ABC", line(rt, alloc)?)?)?;
     let extra = numbers(alloc, owed)?;
     Ok(Item::Packet {
         packet,
@@ -281,6 +285,144 @@ fn a_friend_counts_from_the_next_packet_on(rt: HostRuntime) -> Result<(), Fail> 
         let item = offered(&rt, alloc, false, true, None)?;
         assert!(rt; was_put(&links[0], put.saturating_sub(1)));
         bring(&rt, &mut links, item, 1)?;
+    }
+    Ok(())
+}
+
+/// A position: the link that it came from, its source, whether it is a refused duplicate, and its line.
+type Sent = (u32, &'static [u8], bool, &'static [u8]);
+
+static BLOCK: [Sent; 8] = [
+    (9, b"K1ABC", false, b"a"),
+    (2, b"K1ABC", false, b"b"),
+    (9, b"N0CALL", false, b"c"),
+    (9, b"K1ABC", true, b"d"),
+    (9, b"K2ABC", false, b"e"),
+    (9, b"K1ABC", false, b"f"),
+    (9, b"K3ABC", false, b"g"),
+    (9, b"K1ABC", false, b"h"),
+];
+
+fn sent<R: Abort>(rt: &R, alloc: Global, packet: &Sent) -> Result<Item, Fail>
+    ensures { IfOk result (λ item. IsOrdered (item_seen item)) }
+{
+    let (from, source, dupe, text) = packet;
+    let line = line_of(rt, alloc, text)?;
+    Ok(Item::Packet {
+        packet: Arc::new(alloc, position(rt, *from, source, line)?)?,
+        dupe: *dupe,
+        submitted: true,
+        known: None,
+        gate: false,
+        extra: numbers(alloc, None)?,
+    })
+}
+
+fn block<R: Abort>(rt: &R, alloc: Global) -> Result<Vec<Item>, Fail>
+    ensures { IfOk result (λ items. All IsOrdered (items_seen items.items)) }
+{
+    let mut items = Vec::new(alloc);
+    for packet in &BLOCK {
+        items.push(sent(rt, alloc, packet)?)?;
+    }
+    Ok(items)
+}
+
+/// The room of a link that takes all packets, and its login; then what it has to take of the block, how many packet lines it
+/// was put, whether it is over, and whether it was seen.
+type Fed = (usize, Option<&'static [u8]>, &'static [u8], u64, bool, bool);
+
+/// Links 1 to 6.
+static FED: [Fed; 6] = [
+    (
+        1000,
+        None,
+        b"a\r\nb\r\nc\r\ne\r\nf\r\ng\r\nh\r\n",
+        7,
+        false,
+        false,
+    ),
+    (
+        1000,
+        Some(b"N2CALL"),
+        b"a\r\nc\r\ne\r\nf\r\ng\r\nh\r\n",
+        6,
+        false,
+        false,
+    ),
+    (
+        1000,
+        Some(b"N0CALL"),
+        b"a\r\nb\r\nc\r\ne\r\nf\r\ng\r\nh\r\n",
+        7,
+        false,
+        true,
+    ),
+    (3, None, b"a\r\nb\r\nc\r\n", 3, true, false),
+    (
+        7,
+        Some(b"N5CALL"),
+        b"a\r\nb\r\nc\r\ne\r\nf\r\ng\r\nh\r\n",
+        7,
+        false,
+        false,
+    ),
+    (6, None, b"a\r\nb\r\nc\r\ne\r\nf\r\ng\r\n", 6, true, false),
+];
+
+fn plain<R: Abort>(rt: &R, alloc: Global, number: u32, fed: &Fed) -> Result<LinkState, Fail> {
+    let me = match fed.1 {
+        Some(login) => Some(Call::read(login).expect(rt, "a call")),
+        None => None,
+    };
+    Ok(LinkState {
+        link: number,
+        feed: Feed::Full,
+        inbound: true,
+        alive: true,
+        over: false,
+        me,
+        friends: Box::new(alloc, nowhere(0))?,
+        filter: None,
+        mine: None,
+        queue: Queue::with_limit(alloc, fed.0.clamp(1, 1000))?,
+        put: 0,
+    })
+}
+
+/// Whether the link has taken what it is to take.
+fn is_fed(link: &LinkState, fed: &Fed) -> bool {
+    let (_, _, text, put, over, seen) = fed;
+    let mut out = [0u8; 64];
+    let count = link.queue.front_bytes(&mut out);
+    out.get(..count) == Some(*text)
+        && has(link, text.len(), *put, true, *over)
+        && link.mine.is_some() == *seen
+}
+
+#[test]
+fn a_block_leaves_what_its_packets_leave(rt: HostRuntime) -> Result<(), Fail> {
+    let alloc = rt.alloc();
+    for workers in [1, 3] {
+        let mut links = Vec::new(alloc);
+        for (number, fed) in (1u32..7).zip(&FED) {
+            links.push(plain(&rt, alloc, number, fed)?)?;
+        }
+        let items = block(&rt, alloc)?;
+        spread(
+            &rt,
+            links.as_mut_slice(),
+            items.as_slice(),
+            workers,
+            &OpenGate,
+        )?;
+        for (link, fed) in links.iter().zip(&FED) {
+            assert!(rt;
+                is_fed(link, fed),
+                "link {} of {workers} workers",
+                link.link
+            );
+        }
     }
     Ok(())
 }

@@ -94,6 +94,7 @@ impl LinkState {
     /// Takes the lines of a batch, which are counted, as many as fit; where one doesn't the link is over.
     pub(crate) fn take_run(&mut self, batch: &Arc<Batch>) -> Result<(), Memory>
         ensures ok { OnOk result (self.new ≡ with_run (arc_value batch.now) self.old) }
+        ensures err { OnErr result (self.new ≡ self.old) }
         ensures within { OnOk result (length self.old.queue.lines ≤ self.old.queue.limit) }
         ensures counted { OnOk result (self.old.put < 2 ^ 64) }
     {

@@ -1,5 +1,5 @@
 //! A block of packets as one run of lines, for links that take all packets.
-ghost use Rattle.std.specs.Prelude.{◌≡◌, ◌<◌, ◌≤◌, ◌==◌, ◌++◌, true, IfOk, IfSome, OnOk, length};
+ghost use Rattle.std.specs.Prelude.{◌≡◌, ◌<◌, ◌≤◌, ◌==◌, ◌++◌, if◌then◌else◌, IfOk, IfSome, OnErr, OnOk, length};
 ghost use Rattle.std.specs.Arc.{arc_value};
 ghost use Rattle.std.specs.List.{list_any};
 ghost use Rattle.filter_eval.specs.Passes.{is_some_and};
@@ -103,11 +103,11 @@ impl Draft {
         }
     }
 
-    /// Adds an item, and says whether it is a packet, as nothing else is added.
+    /// Adds an item, and says whether it is a packet: nothing else is added. After `Memory` nothing is said of the draft.
     fn add(&mut self, item: &Item) -> Result<bool, Memory>
         requires { length self.old.lines < 1000 }
         ensures packet { IfOk result (λ packet. packet ≡ is_packet (item_seen item.now)) }
-        ensures added { IfOk result (λ packet. packet ≡ true → self.new ≡ added (item_seen item.now) self.old) }
+        ensures added { IfOk result (λ packet. self.new ≡ (if packet then added (item_seen item.now) self.old else self.old)) }
     {
         match item {
             Item::Packet { packet, dupe, .. } => {
@@ -134,7 +134,8 @@ impl Draft {
 /// A refused duplicate isn't added.
 fn add_line(batch: &mut Batch, dupe: bool, line: &Arc<Line>) -> Result<(), Memory>
     requires { length batch.old < 1000 }
-    ensures { OnOk result (batch.new ≡ batch.old ++ fresh dupe (arc_value line.now)) }
+    ensures ok { OnOk result (batch.new ≡ batch.old ++ fresh dupe (arc_value line.now)) }
+    ensures err { OnErr result (batch.new ≡ batch.old) }
 {
     if !dupe {
         batch.push(line.clone()?)?;
@@ -143,7 +144,8 @@ fn add_line(batch: &mut Batch, dupe: bool, line: &Arc<Line>) -> Result<(), Memor
 }
 
 fn add_sender(senders: &mut Vec<u32>, from: &Source) -> Result<(), Memory>
-    ensures { OnOk result (senders.new.items ≡ senders.old.items ++ sent_by from.now) }
+    ensures ok { OnOk result (senders.new.items ≡ senders.old.items ++ sent_by from.now) }
+    ensures err { OnErr result (senders.new.items ≡ senders.old.items) }
 {
     match from {
         Source::Link(number) => senders.push(*number)?,
