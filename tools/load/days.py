@@ -6,9 +6,9 @@
 Without SPEED they are sent as fast as they go. With it the server's clock runs so many times as fast (by libfaketime), and the
 packets are spread over three of its days, but for the first 10,000, which come at once, as many as fit while the server is held, so that
 rounds as large as any are among them; or with `unpaced` all are sent so, and many of them are past by the way.
-Each line of what is printed: packets sent, processor seconds, kilobytes of memory, packets that the other client has got. That client
-says nothing, so it ends as a silent one after two of the days. Where it got them all, the last line has the processor seconds of a
-tenth of the packets after the first 10,000, of a tenth before the last 10,000, and how many times the first the last are.
+Each line of what is printed: packets sent, processor seconds, kilobytes of memory now and at most so far, packets that the other client has got. That client
+says a comment for each such line, or it would end as a silent one after two of the days. Where it got them all, the last line has the
+processor seconds of a tenth of the packets after the first 10,000, of a tenth before the last 10,000, and how many times the first the last are.
 """
 
 import os
@@ -49,11 +49,11 @@ def log_in(call, code):
 
 
 def cost(server):
-    """Processor seconds of a process and kilobytes of its own memory, without those of its file. Its clock has the number that clock_getcpuclockid gives."""
+    """Processor seconds of a process, kilobytes of its own memory, without those of its files, and the most that it ever had, with them. Its clock has the number that clock_getcpuclockid gives."""
     seconds = time.clock_gettime(~server.pid << 3 | 2)
     with open(f"/proc/{server.pid}/status", encoding="ascii") as file:
-        memory = next(line.split()[1] for line in file if line.startswith("RssAnon"))
-    return round(seconds, 3), memory
+        sizes = dict(line.split()[:2] for line in file if line.startswith(("RssAnon", "VmHWM")))
+    return round(seconds, 3), sizes["RssAnon:"], sizes["VmHWM:"]
 
 
 def packets(first):
@@ -139,6 +139,7 @@ def main():
                 marks.pass_by(got, server)
                 time.sleep(max(0.0, began + seconds * sent / count - time.monotonic()))
                 if sent in (MARGIN, count - STATIONS) or sent % (count // 20) == 0:
+                    reader.sendall(b"# here\r\n")
                     print(sent, *cost(server), got, flush=True)
             ended = time.monotonic()
             while marks.left and time.monotonic() < ended + 5:
