@@ -1,5 +1,5 @@
 -- The bytes and the short texts of APRS-IS: calls, lines, and the limits of their lengths.
-use Rattle.std.specs.Prelude.{ℕ, ◌≡◌, ◌==◌, ◌&&◌, ◌||◌, Bool, true, false, nat_le, not, List, [], ◌∷◌, length, IsTrue}
+use Rattle.std.specs.Prelude.{ℕ, ◌≡◌, ◌==◌, ◌&&◌, ◌||◌, Bool, true, false, nat_le, not, List, [], ◌∷◌, ◌++◌, length, drop, replicate, IsTrue}
 use Rattle.std.specs.List.{list_all, before_first, after_first}
 
 -- CR, LF and the blank
@@ -43,6 +43,10 @@ is_call text = nat_le (length text) 9 && nat_le 1 (length (base_of text)) && lis
 
 abbrev pub IsCall : List ℕ → Type 0
 IsCall text = IsTrue (is_call text)
+
+-- a text in the room of two words, with zeros behind it
+abbrev pub as_words : List ℕ → List ℕ
+as_words text = text ++ drop (length text) (replicate 16 0)
 
 -- a construct: `q`, `A` and one letter (aprs-is.net, q Construct)
 abbrev pub is_construct : List ℕ → Bool

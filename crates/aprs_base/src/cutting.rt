@@ -66,10 +66,10 @@ impl Cutter {
             self.extend(piece);
             return Ok(());
         };
-        let mut cuts = Vec::new(alloc);
+        let mut cuts = Vec::with_capacity(alloc, cuts_expected(piece))?;
         self.end_line(&piece[..end], &mut cuts)?;
         let rest = cut_lines(past(piece, end), &mut cuts)?;
-        out.append(&mut cuts)?;
+        put_behind(out, cuts)?;
         self.begin_line(rest);
         Ok(())
     }
@@ -109,6 +109,28 @@ impl Cutter {
         self.text.clear();
         self.long = self.text.try_extend_from_slice(bytes).is_err();
     }
+}
+
+/// So many bytes of a piece are taken for a line, so that its cuts have room at once and are seldom moved.
+const SHORT_LINE: usize = 64;
+
+/// How many lines a piece may end.
+fn cuts_expected(piece: &[u8]) -> usize {
+    piece.len() / SHORT_LINE + 1
+}
+
+/// Puts cuts behind those that there are. Where there are none, none is moved.
+fn put_behind(out: &mut Vec<Cut>, cuts: Vec<Cut>) -> Result<(), Memory>
+    ensures ok { OnOk result (out.new.items ≡ out.old.items ++ cuts.items) }
+    ensures err { OnErr result (out.new.items ≡ out.old.items) }
+{
+    let mut cuts = cuts;
+    if out.is_empty() {
+        *out = cuts;
+    } else {
+        out.append(&mut cuts)?;
+    }
+    Ok(())
 }
 
 /// Appends the cut of a long line.

@@ -2,11 +2,12 @@
 ghost use Rattle.std.specs.Prelude.{◌≡◌, ℕ, ◌≤◌, ◌<◌, ◌∷◌, [], List, length, IsSome, IfOk, IfSome, IsTrue, ◌↔◌};
 ghost use Rattle.std.specs.List.{list_all, position_or_len};
 ghost use Rattle.memchr.specs.Find.{is_byte};
-ghost use Rattle.aprs_base.specs.Bytes.{IsCall, IsLine, base_of, is_alphanumeric, is_call, is_construct, is_inner, is_ssid_text, is_station};
+ghost use Rattle.aprs_base.specs.Bytes.{IsCall, IsLine, as_words, base_of, is_alphanumeric, is_call, is_construct, is_inner, is_ssid_text, is_station};
 
 use arrayvec::ArrayVec;
 use memchr::memchr;
 use std::alloc::{AllocError, AllocFailed, Global};
+use std::hash::{Hash, Hasher};
 use std::marker::Model;
 
 /// Memory was wanting.
@@ -31,7 +32,7 @@ pub struct Failed;
 
 /// The name of a station: 1 to 9 letters and digits, perhaps `-` and one or two more, at most 9 bytes in all
 /// (aprs-is.net, Connecting).
-#[derive(Clone, PartialEq, Eq, Hash, Debug, Drop)]
+#[derive(Clone, PartialEq, Eq, Debug, Drop)]
 pub struct Call {
     pub text: ArrayVec<u8, 9>,
 }
@@ -47,6 +48,31 @@ impl Model for Call {
     ghost invariant = { λ c. IsCall c.text.items };
 
     ghost inverse = { λ xs. record { text = record { items = xs } } };
+}
+
+/// A call is hashed as two words at once. Byte by byte it took the hasher of the tables longer than all else that they do.
+impl Hash for Call {
+    ghost use Rattle.std.specs.Cmp.Rules.{hashing};
+    ghost use Rattle.std.proofs.Common.{rules};
+    ghost use Rattle.aprs_base.specs.Bytes.{as_words};
+
+    ghost hash_input = { λ c. as_words c ∷ [] };
+
+    ghost respects_eq = { Prim.search (hashing, rules) };
+
+    fn hash<H: Hasher>(&self, state: &mut H) {
+        state.write(&as_words(self.text.as_slice()));
+    }
+}
+
+/// The text in the room of two words, with zeros behind it.
+fn as_words(text: &[u8]) -> [u8; 16]
+    requires { length text.now ≤ 16 }
+    ensures { result ≡ as_words text.now }
+{
+    let mut words = [0; 16];
+    words[..text.len()].copy_from_slice(text);
+    words
 }
 
 impl Default for Call {

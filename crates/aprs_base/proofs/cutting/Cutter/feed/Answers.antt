@@ -45,8 +45,8 @@ returns-clause-cuts c = λ before is.
     let first = c.end_line.new.out.items in
     let cut : cuts_by before piece ≡ first ++ cuts_of (drop (c.in-Some.end + 1) piece) =
     cut_step (rest_of before) piece c.in-Some.end [] first (inner_rest before) place c.in-Some.ensures.0.high
-    (c.in_ok-end_line.ensures (rest_of before) (inner_rest before) is ∙ ap (λ xs. xs ++ cons_option (cut_of (rest_of before ++ take c.in-Some.end piece)) []) c.new-cuts.ensures.items) in
-    c.in_ok-append.ensures.items ∙ ap (λ cuts. c.args.out.now.items ++ cuts) (
+    (c.in_ok-end_line.ensures (rest_of before) (inner_rest before) is ∙ ap (λ xs. xs ++ cons_option (cut_of (rest_of before ++ take c.in-Some.end piece)) []) c.in_ok-cuts.ensures.items) in
+    c.in_ok-put_behind.ensures.ok ∙ ap (λ cuts. c.args.out.now.items ++ cuts) (
     c.in_ok-rest.ensures.cuts ∙ ap (λ bytes. first ++ cuts_of bytes) c.past.ensures ∙ sym cut)
 
 pub returns-clause-stream : goal.returns-clause-stream
