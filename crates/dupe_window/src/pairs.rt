@@ -6,7 +6,7 @@ ghost use Rattle.dupe_window.specs.Keys.{Key, is_same_key};
 ghost use Rattle.dupe_window.specs.Windows.{is_inside, is_inside_pair, moment_in};
 
 use crate::hashing::ByWords;
-use crate::keys::{Key, Packed};
+use crate::keys::Key;
 use aprs_base::Memory;
 use indexmap::IndexMap;
 use std::alloc::Global;
@@ -49,7 +49,7 @@ impl Pairs {
     }
 
     /// The moment that is kept with a key.
-    pub fn moment_of(&self, key: &Packed) -> Option<u64>
+    pub fn moment_of(&self, key: &Key) -> Option<u64>
         ensures { result ≡ lookup (is_same_key key.now) self.now }
     {
         self.texts.get(key.bytes()).copied()
@@ -81,8 +81,7 @@ impl Pairs {
         ensures ok { OnOk result (self.new ≡ self.old ++ (key.now, now) ∷ []) }
         ensures err { OnErr result (self.new ≡ self.old) }
     {
-        let packed = key.packed();
-        let text = packed.bytes().to_vec(*self.texts.allocator())?;
+        let text = key.bytes().to_vec(*self.texts.allocator())?;
         self.texts.insert(text, now)?;
         Ok(())
     }

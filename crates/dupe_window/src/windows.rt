@@ -48,10 +48,9 @@ fn kept_at(older: &Pairs, late: &Pairs, seconds: u32, last: u64, key: &Key) -> O
     requires once { IsOnce (kept_pairs seconds last older.now late.now) }
     ensures { result ≡ lookup (is_same_key key.now) (kept_pairs seconds last older.now late.now) }
 {
-    let packed = key.packed();
-    match late.moment_of(&packed) {
+    match late.moment_of(key) {
         Some(moment) => Some(moment),
-        None => if_inside(seconds, last, older.moment_of(&packed)),
+        None => if_inside(seconds, last, older.moment_of(key)),
     }
 }
 

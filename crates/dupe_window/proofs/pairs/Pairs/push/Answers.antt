@@ -13,7 +13,7 @@ invariant_of-self-2 c =
     let key = c.args.key.now in
     let entries = c.self.inside.texts.entries in
     let text = c.in_ok-text.text in
-    let is : text.items ≡ packed key = c.in_ok-text.ensures.items_if_clones_equal (λ x y same. same) ∙ c.bytes.ensures ∙ ap packed c.packed-packed.ensures in
+    let is : text.items ≡ packed key = c.in_ok-text.ensures.items_if_clones_equal (λ x y same. same) ∙ c.bytes.ensures in
     let absent : lookup (λ holder. is_text text.items holder.items) entries ≡ None =
     ap (λ bytes. lookup (λ holder. is_text bytes holder.items) entries) is ∙ lookup-unpacked (λ holder. holder.items) key entries c.self.invariant ∙ ap (lookup (is_same_key key)) c.self.view_is ∙ c.requires.new in
     subst (ArePacked (λ holder. holder.items)) (sym (c.in_ok-insert.ensures.entries ∙ insert_entry-new (λ a b. is_text a.items b.items) c.self.inside.texts text c.args.now absent))
@@ -24,7 +24,7 @@ returns-clause-ok c =
     let key = c.args.key.now in
     let entries = c.self.inside.texts.entries in
     let text = c.in_ok-text.text in
-    let is : text.items ≡ packed key = c.in_ok-text.ensures.items_if_clones_equal (λ x y same. same) ∙ c.bytes.ensures ∙ ap packed c.packed-packed.ensures in
+    let is : text.items ≡ packed key = c.in_ok-text.ensures.items_if_clones_equal (λ x y same. same) ∙ c.bytes.ensures in
     let absent : lookup (λ holder. is_text text.items holder.items) entries ≡ None =
     ap (λ bytes. lookup (λ holder. is_text bytes holder.items) entries) is ∙ lookup-unpacked (λ holder. holder.items) key entries c.self.invariant ∙ ap (lookup (is_same_key key)) c.self.view_is ∙ c.requires.new in
     ap (unpacked_pairs (λ holder. holder.items)) (c.in_ok-insert.ensures.entries ∙ insert_entry-new (λ a b. is_text a.items b.items) c.self.inside.texts text c.args.now absent)
