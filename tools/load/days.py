@@ -1,18 +1,16 @@
 #!/usr/bin/env python3
 """Sends packets of 50 stations to a server, and prints what it costs and keeps by the way.
 
-    days.py PROGRAM PACKETS [SPEED [unpaced]]     PROGRAM -c FILE is the server
+    days.py PROGRAM PACKETS [days]     PROGRAM -c FILE is the server
 
-Without SPEED they are sent as fast as they go. With it the server's clock runs so many times as fast (by libfaketime), and the
-packets are spread over three of its days, but for the first 10,000, which come at once, as many as fit while the server is held, so that
-rounds as large as any are among them; or with `unpaced` all are sent so, and many of them are past by the way.
+They are sent as fast as they go, and all in a few seconds; or with `days` they are spread over three days of the server's clock, which
+stands still (by libfaketime) while a packet of each station is sent and has come back to another client, and then is moved on.
 Each line of what is printed: packets sent, processor seconds, kilobytes of memory now and at most so far, packets that the other client has got. That client
-says a comment for each such line, or it would end as a silent one after two of the days. Where it got them all, the last line has the
+says a comment for each such line, or it would end as a silent one after two of the days. Without `days`, where it got them all, the last line has the
 processor seconds of a tenth of the packets after the first 10,000, of a tenth before the last 10,000, and how many times the first the last are.
 """
 
 import os
-import signal
 import socket
 import subprocess
 import sys
@@ -30,14 +28,30 @@ Listen "Full feed" fullfeed tcp 127.0.0.1 {PORT}
 """
 
 
-def start(program, folder, speed):
+class Clock:
+    """The server's clock, which stands still where it is put."""
+
+    def __init__(self, folder):
+        self.path = f"{folder}/clock"
+        self.begins = int(time.time())
+        self.put(0)
+
+    def put(self, seconds):
+        """So many seconds after the beginning."""
+        with open(f"{self.path}.new", "w", encoding="ascii") as file:
+            file.write(time.strftime("%Y-%m-%d %H:%M:%S", time.localtime(self.begins + seconds)))
+        os.rename(f"{self.path}.new", self.path)
+
+    def surroundings(self):
+        """What a process needs in its surroundings to have this clock."""
+        return {"LD_PRELOAD": LIBRARY, "FAKETIME_TIMESTAMP_FILE": self.path, "FAKETIME_NO_CACHE": "1", "FAKETIME_DONT_FAKE_MONOTONIC": "1"}
+
+
+def start(program, folder, surroundings):
     with open(f"{folder}/aprsc.conf", "w", encoding="ascii") as file:
         file.write(CONFIGURATION)
-    surroundings = dict(os.environ)
-    if speed:
-        surroundings |= {"LD_PRELOAD": LIBRARY, "FAKETIME": f"+0 x{speed}", "FAKETIME_DONT_FAKE_MONOTONIC": "1"}
     command = [os.path.abspath(program), "-c", "aprsc.conf"]
-    server = subprocess.Popen(command, cwd=folder, env=surroundings, stderr=subprocess.DEVNULL)
+    server = subprocess.Popen(command, cwd=folder, env=os.environ | surroundings, stderr=subprocess.DEVNULL)
     time.sleep(0.5)
     return server
 
@@ -75,31 +89,11 @@ def lines_in(client):
         count += piece.count(b"\n")
 
 
-def send_held(server, sender, reader, text):
-    """Sends a text of which as much as fits waits while the server is held, and how many line ends have come."""
-    server.send_signal(signal.SIGSTOP)
-    sender.setblocking(False)
-    sent, got = 0, 0
-    try:
-        while sent < len(text):
-            sent += sender.send(text[sent:])
-    except BlockingIOError:
-        pass
-    sender.setblocking(True)
-    server.send_signal(signal.SIGCONT)
-    for at in range(sent, len(text), 4096):
-        sender.sendall(text[at : at + 4096])
-        got += lines_in(reader)
-    return got
-
-
-def wait_for(reader, count):
-    """How many line ends have come once these have, or five seconds have gone by."""
-    began, got = time.monotonic(), 0
-    while got < count and time.monotonic() < began + 5:
-        time.sleep(0.01)
-        got += lines_in(reader)
-    return got
+def await_packets(client, count):
+    """Waits until so many packets have come."""
+    text = b""
+    while text.count(b",qA") < count:
+        text += client.recv(1 << 20)
 
 
 class Marks:
@@ -121,32 +115,50 @@ class Marks:
             print(f"first tenth {first:.3f} s, last tenth {last:.3f} s, ratio {last / first:.2f}")
 
 
+def tell(server, sent, count, reader, got):
+    """Prints a line, where one is due after so many packets."""
+    if sent == MARGIN or sent == count or sent % (count // 20) == 0:
+        reader.sendall(b"# here\r\n")
+        print(sent, *cost(server), got, flush=True)
+
+
+def send_fast(server, count, sender, reader):
+    """Sends the packets as fast as they go."""
+    got, marks = 0, Marks(count)
+    for sent in range(0, count, STATIONS):
+        sender.sendall(packets(sent))
+        got += lines_in(reader)
+        marks.pass_by(got, server)
+        tell(server, sent + STATIONS, count, reader, got)
+    ended = time.monotonic()
+    while marks.left and time.monotonic() < ended + 5:
+        time.sleep(0.01)
+        got += lines_in(reader)
+        marks.pass_by(got, server)
+    marks.print_ratio()
+
+
+def send_for_days(server, count, sender, reader, clock):
+    """Sends a packet of each station after another over the days."""
+    for sent in range(0, count, STATIONS):
+        clock.put(DAYS * 86_400 * sent // count)
+        sender.sendall(packets(sent))
+        await_packets(reader, STATIONS)
+        lines_in(sender)
+        tell(server, sent + STATIONS, count, reader, sent + STATIONS)
+
+
 def main():
-    program, count, speed = sys.argv[1], int(sys.argv[2]), int(sys.argv[3]) if len(sys.argv) > 3 else 0
-    paced = speed and sys.argv[4:] != ["unpaced"]
+    program, count, for_days = sys.argv[1], int(sys.argv[2]), sys.argv[3:] == ["days"]
     with tempfile.TemporaryDirectory() as folder:
-        server = start(program, folder, speed)
+        clock = Clock(folder) if for_days else None
+        server = start(program, folder, clock.surroundings() if clock else {})
         try:
-            sender, reader, got, marks = log_in("N0CALL", 13023), log_in("K1ABC", 14993), 0, Marks(count)
-            began, seconds, first = time.monotonic(), DAYS * 86_400 / speed if paced else 0, 0
-            if paced:
-                time.sleep(0.5)
-                got += send_held(server, sender, reader, b"".join(packets(n) for n in range(0, MARGIN, STATIONS)))
-                got, first = got + wait_for(reader, MARGIN - got), MARGIN
-            for sent in range(first, count, STATIONS):
-                sender.sendall(packets(sent))
-                got += lines_in(reader)
-                marks.pass_by(got, server)
-                time.sleep(max(0.0, began + seconds * sent / count - time.monotonic()))
-                if sent in (MARGIN, count - STATIONS) or sent % (count // 20) == 0:
-                    reader.sendall(b"# here\r\n")
-                    print(sent, *cost(server), got, flush=True)
-            ended = time.monotonic()
-            while marks.left and time.monotonic() < ended + 5:
-                time.sleep(0.01)
-                got += lines_in(reader)
-                marks.pass_by(got, server)
-            marks.print_ratio()
+            sender, reader = log_in("N0CALL", 13023), log_in("K1ABC", 14993)
+            if clock:
+                send_for_days(server, count, sender, reader, clock)
+            else:
+                send_fast(server, count, sender, reader)
         finally:
             server.terminate()
 

@@ -2,7 +2,7 @@
 ghost use Rattle.std.specs.Prelude.{◌≡◌, [], IfSome, OnErr, OnOk, Some, slice_get};
 ghost use Rattle.parsed_lines.specs.Lines.{IsParsed};
 
-use crate::parsing::{Parsed, parse, parse_all};
+use crate::parsing::{Parsed, parse_all, parse_over};
 use aprs_base::{Line, Memory};
 use std::alloc::Global;
 use std::marker::{Model, Sync};
@@ -100,7 +100,7 @@ impl Ahead {
             }
             None => {
                 self.last = self.parsed.len();
-                self.other = parse(line);
+                parse_over(&mut self.other, line);
             }
         }
     }

@@ -1,8 +1,9 @@
 //! From many lines to what each of them is.
-ghost use Rattle.std.specs.Prelude.{◌≡◌, ◌++◌, All, IfOk, OnErr, OnOk, map};
+ghost use Rattle.std.specs.Prelude.{◌≡◌, ◌++◌, All, IfErr, IfOk, OnErr, OnOk, map};
 ghost use Rattle.std.specs.List.{AllZip};
 ghost use Rattle.parsed_lines.specs.Lines.{IsParsed, IsSound, parsed_of};
 ghost use Rattle.parsed_lines.specs.Pieces.{joined};
+ghost use Rattle.parsed_lines.specs.declared.parsing.Parsed.{Parsed};
 
 use aprs_base::{Body, Line, Memory, Parts};
 use aprs_body::classify;
@@ -32,6 +33,33 @@ pub(crate) fn parse(line: &Line) -> Parsed
             let body = classify(&parts.dest, parts.body.as_slice());
             Parsed::Good { parts, body }
         }
+    }
+}
+
+/// Fills a packet's parts and what its body says anew, where they are.
+fn refill(parts: &mut Parts, body: &mut Body, line: &Line) -> Result<(), LineFault>
+    ensures ok { OnOk result (IsParsed line.now (Parsed.Good parts.new body.new)) }
+    ensures bad { IfErr result (λ fault. IsParsed line.now (Parsed.Bad fault)) }
+{
+    parts.vias.clear();
+    parts.body.clear();
+    read_into(line, parts)?;
+    *body = classify(&parts.dest, parts.body.as_slice());
+    Ok(())
+}
+
+/// What the line is, in place of what another one is. A packet's parts are large, and those of the one before are filled where they
+/// are.
+pub(crate) fn parse_over(parsed: &mut Parsed, line: &Line)
+    ensures { IsParsed line.now parsed.new }
+{
+    match parsed {
+        Parsed::Good { parts, body } => {
+            if let Err(fault) = refill(parts, body, line) {
+                *parsed = Parsed::Bad(fault);
+            }
+        }
+        Parsed::Bad(_) => *parsed = parse(line),
     }
 }
 
