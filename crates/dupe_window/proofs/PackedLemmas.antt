@@ -52,28 +52,26 @@ same_packed key text is = one_answer (is_text (packed key) text) (is_same_key ke
 
 -- ---- pairs
 
-module _ {Holder : Type 0} (text_in : Holder → List ℕ) where
-  pub lookup-unpacked : (key : Key) (pairs : List (Holder × ℕ)) → ArePacked text_in pairs
-      → lookup (λ holder. is_text (packed key) (text_in holder)) pairs ≡ lookup (is_same_key key) (unpacked_pairs text_in pairs)
-  lookup-unpacked key [] are = refl
-  lookup-unpacked key (pair ∷ pairs) are =
-      by (is_same_key key (unpacked (text_in pair.0))) refl (same_packed key (text_in pair.0) (are 0 pair (omega arith)))
-      (lookup-unpacked key pairs (λ k d within. are (suc k) d (omega arith)))
-    where
-      by : (b : Bool) → is_same_key key (unpacked (text_in pair.0)) ≡ b → is_text (packed key) (text_in pair.0) ≡ is_same_key key (unpacked (text_in pair.0))
-          → lookup (λ holder. is_text (packed key) (text_in holder)) pairs ≡ lookup (is_same_key key) (unpacked_pairs text_in pairs)
-          → lookup (λ holder. is_text (packed key) (text_in holder)) (pair ∷ pairs) ≡ lookup (is_same_key key) (unpacked_pairs text_in (pair ∷ pairs))
-      by true is same rest = rw (same, is) refl
-      by false is same rest = rw (same, is) rest
+pub lookup-unpacked : (key : Key) (pairs : List (List ℕ × ℕ)) → ArePacked pairs → lookup (is_text (packed key)) pairs ≡ lookup (is_same_key key) (unpacked_pairs pairs)
+lookup-unpacked key [] are = refl
+lookup-unpacked key (pair ∷ pairs) are =
+    by (is_same_key key (unpacked pair.0)) refl (same_packed key pair.0 (are 0 pair (omega arith)))
+    (lookup-unpacked key pairs (λ k d within. are (suc k) d (omega arith)))
+  where
+    by : (b : Bool) → is_same_key key (unpacked pair.0) ≡ b → is_text (packed key) pair.0 ≡ is_same_key key (unpacked pair.0)
+        → lookup (is_text (packed key)) pairs ≡ lookup (is_same_key key) (unpacked_pairs pairs)
+        → lookup (is_text (packed key)) (pair ∷ pairs) ≡ lookup (is_same_key key) (unpacked_pairs (pair ∷ pairs))
+    by true is same rest = rw (same, is) refl
+    by false is same rest = rw (same, is) rest
 
-  -- what is kept by the moments alone
-  pub unpacked_pairs-filter : (seconds now : ℕ) (pairs : List (Holder × ℕ))
-      → unpacked_pairs text_in (filter (λ pair. is_inside seconds now pair.1) pairs) ≡ filter (is_inside_pair seconds now) (unpacked_pairs text_in pairs)
-  unpacked_pairs-filter seconds now [] = refl
-  unpacked_pairs-filter seconds now (pair ∷ pairs) = by (is_inside seconds now pair.1) refl (unpacked_pairs-filter seconds now pairs)
-    where
-      by : (b : Bool) → is_inside seconds now pair.1 ≡ b
-          → unpacked_pairs text_in (filter (λ pair. is_inside seconds now pair.1) pairs) ≡ filter (is_inside_pair seconds now) (unpacked_pairs text_in pairs)
-          → unpacked_pairs text_in (filter (λ pair. is_inside seconds now pair.1) (pair ∷ pairs)) ≡ filter (is_inside_pair seconds now) (unpacked_pairs text_in (pair ∷ pairs))
-      by true is rest = rw is (ap (λ l. unpacked_pair text_in pair ∷ l) rest)
-      by false is rest = rw is rest
+-- what is kept by the moments alone
+pub unpacked_pairs-filter : (seconds now : ℕ) (pairs : List (List ℕ × ℕ))
+    → unpacked_pairs (filter (λ pair. is_inside seconds now pair.1) pairs) ≡ filter (is_inside_pair seconds now) (unpacked_pairs pairs)
+unpacked_pairs-filter seconds now [] = refl
+unpacked_pairs-filter seconds now (pair ∷ pairs) = by (is_inside seconds now pair.1) refl (unpacked_pairs-filter seconds now pairs)
+  where
+    by : (b : Bool) → is_inside seconds now pair.1 ≡ b
+        → unpacked_pairs (filter (λ pair. is_inside seconds now pair.1) pairs) ≡ filter (is_inside_pair seconds now) (unpacked_pairs pairs)
+        → unpacked_pairs (filter (λ pair. is_inside seconds now pair.1) (pair ∷ pairs)) ≡ filter (is_inside_pair seconds now) (unpacked_pairs (pair ∷ pairs))
+    by true is rest = rw is (ap (λ l. unpacked_pair pair ∷ l) rest)
+    by false is rest = rw is rest

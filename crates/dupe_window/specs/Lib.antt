@@ -1,4 +1,3 @@
-pub mod Hashing
 pub mod Keys
 pub mod Packed
 pub mod Recalled

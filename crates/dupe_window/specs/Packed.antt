@@ -15,14 +15,13 @@ unpacked [] = divided 0 0 []
 unpacked (source ∷ []) = divided 0 0 []
 unpacked (source ∷ dest ∷ text) = divided source dest text
 
--- pairs whose keys are such texts, held in something
-module _ {Holder : Type 0} (text_in : Holder → List ℕ) where
-  abbrev pub unpacked_pair : Holder × ℕ → Key × ℕ
-  unpacked_pair pair = (unpacked (text_in pair.0), pair.1)
+-- pairs whose keys are such texts
+abbrev pub unpacked_pair : List ℕ × ℕ → Key × ℕ
+unpacked_pair pair = (unpacked pair.0, pair.1)
 
-  abbrev pub unpacked_pairs : List (Holder × ℕ) → List (Key × ℕ)
-  unpacked_pairs pairs = map unpacked_pair pairs
+abbrev pub unpacked_pairs : List (List ℕ × ℕ) → List (Key × ℕ)
+unpacked_pairs pairs = map unpacked_pair pairs
 
-  -- each is the text of a key
-  abbrev pub ArePacked : List (Holder × ℕ) → Type 0
-  ArePacked pairs = All (λ pair. packed (unpacked (text_in pair.0)) ≡ text_in pair.0) pairs
+-- each is the text of a key
+abbrev pub ArePacked : List (List ℕ × ℕ) → Type 0
+ArePacked pairs = All (λ pair. packed (unpacked pair.0) ≡ pair.0) pairs

@@ -1,7 +1,6 @@
 //! The packets that came a moment ago, so that their copies are told from new packets.
 #![tactic(auto)]
 
-mod hashing;
 mod keys;
 mod pairs;
 mod windows;

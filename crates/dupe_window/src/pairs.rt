@@ -5,8 +5,7 @@ ghost use Rattle.std.specs.Option.{option_map};
 ghost use Rattle.dupe_window.specs.Keys.{Key, is_same_key};
 ghost use Rattle.dupe_window.specs.Windows.{is_inside, is_inside_pair, moment_in};
 
-use crate::hashing::ByWords;
-use crate::keys::Key;
+use crate::keys::{Key, KeptKey};
 use aprs_base::Memory;
 use indexmap::IndexMap;
 use std::alloc::Global;
@@ -16,7 +15,7 @@ use std::marker::Model;
 /// Keys with their moments. A key is kept as one text of no more than its length.
 #[derive(Drop)]
 pub struct Pairs {
-    texts: IndexMap<Vec<u8>, u64, ByWords>,
+    texts: IndexMap<KeptKey, u64, RandomState>,
 }
 
 impl Model for Pairs {
@@ -26,9 +25,9 @@ impl Model for Pairs {
 
     ghost Value = { List (Key × ℕ) };
 
-    ghost view = { λ p. unpacked_pairs (λ text. text.items) p.texts.entries };
+    ghost view = { λ p. unpacked_pairs p.texts.entries };
 
-    ghost invariant = { λ p. ArePacked (λ text. text.items) p.texts.entries };
+    ghost invariant = { λ p. ArePacked p.texts.entries };
 }
 
 /// Whether that moment was less than so many seconds ago.
@@ -44,7 +43,7 @@ impl Pairs {
         ensures { result ≡ [] }
     {
         Pairs {
-            texts: IndexMap::with_hasher(alloc, ByWords { state: hasher }),
+            texts: IndexMap::with_hasher(alloc, hasher),
         }
     }
 
@@ -52,7 +51,7 @@ impl Pairs {
     pub fn moment_of(&self, key: &Key) -> Option<u64>
         ensures { result ≡ lookup (is_same_key key.now) self.now }
     {
-        self.texts.get(key.bytes()).copied()
+        self.texts.get(key).copied()
     }
 
     /// The first moment.
@@ -81,7 +80,7 @@ impl Pairs {
         ensures ok { OnOk result (self.new ≡ self.old ++ (key.now, now) ∷ []) }
         ensures err { OnErr result (self.new ≡ self.old) }
     {
-        let text = key.bytes().to_vec(*self.texts.allocator())?;
+        let text = KeptKey::copied(*self.texts.allocator(), key)?;
         self.texts.insert(text, now)?;
         Ok(())
     }
