@@ -1,22 +1,11 @@
 //! What is answered to lines, from the public description of APRS-IS.
-ghost use Rattle.std.specs.Prelude.{IsTrue};
-ghost use Rattle.aprs_base.specs.Bytes.{is_station};
-ghost use Rattle.q_construct.specs.Rule.{has_station};
-
-use crate::window_tests::window_of;
-use aprs_base::{Call, Cut, Line, Parts};
+use aprs_base::{Call, Cut, Line};
 use aprs_history::{FilterAnswer, Refusal, Verdict};
-use dupe_window::{Key, Window};
-use line_verdict::{
-    Voice, denied_line, is_copy, judge_comment, judge_login, judge_packet, line_of, route_packet,
-    submitter_of, uplink_line,
-};
+use line_verdict::{Voice, denied_line, judge_comment, judge_login, submitter_of, uplink_line};
 use login_pass::LoginFault;
-use q_construct::{Listed, Origin, QDrop};
+use q_construct::{Origin, QDrop};
 use std::alloc::Global;
 use std::process::Abort;
-use std::test::Fail;
-use tnc2_line::LineFault;
 
 fn call<R: Abort>(rt: &R, text: &[u8]) -> Call {
     Call::read(text).expect(rt, "a call")
@@ -140,77 +129,4 @@ fn knows_who_submits(rt: HostRuntime) {
         is_refused(&rt, &Cut::Line(line(&rt, said)), refusal);
     }
     is_refused(&rt, &Cut::Long, &Refusal::Long);
-}
-
-fn station<R: Abort>(rt: &R, text: &[u8]) -> Call
-    ensures { IsTrue (is_station result) }
-{
-    let call = call(rt, text);
-    assert!(rt; call.is_station());
-    call
-}
-
-/// A client that has logged in so.
-fn sender<R: Abort>(rt: &R, text: &[u8]) -> Origin
-    ensures { IsTrue (has_station result) }
-{
-    Origin::Client {
-        login: station(rt, text),
-        verified: true,
-        only: false,
-    }
-}
-
-/// The verdict on a packet of N0CALL, where OH7LZB has logged in, too.
-fn verdict<R: Abort>(rt: &R, window: &Window, text: &[u8]) -> Verdict {
-    let others = [call(rt, b"OH7LZB")];
-    let server = station(rt, b"T2TEST");
-    let origin = sender(rt, b"N0CALL");
-    judge_packet(&server, &origin, &others, 1000, window, &line(rt, text))
-}
-
-fn accepted(verdict: Verdict) -> Option<(Parts, Line)> {
-    match verdict {
-        Verdict::Accepted(parts, line) => Some((parts, line)),
-        _other => None,
-    }
-}
-
-fn refused(verdict: Verdict) -> Option<Refusal> {
-    match verdict {
-        Verdict::Refused(refusal) => Some(refusal),
-        _other => None,
-    }
-}
-
-#[test]
-fn accepts_packets(rt: HostRuntime) -> Result<(), Fail> {
-    let window = window_of(&rt, rt.alloc(), 30)?;
-    let said = b"N0CALL>APRS:>hi".as_slice();
-    let verdict_on_it = verdict(&rt, window, said);
-    let (parts, sent) = accepted(verdict_on_it).expect(&rt, "a packet");
-    assert!(rt; sent.bytes() == b"N0CALL>APRS,TCPIP*,qAC,T2TEST:>hi".as_slice());
-    window.insert(Key::of(&parts), 1000)?;
-    let again = refused(verdict(&rt, window, said)).expect(&rt, "a refusal");
-    assert!(rt; again == Refusal::Duplicate(parts, sent));
-    let other = refused(verdict(&rt, window, b"K1ABC>APRS,qAR,OH7LZB:>x")).expect(&rt, "a refusal");
-    assert!(rt; other == Refusal::Path(QDrop::OtherLogin(call(&rt, b"OH7LZB"))));
-    Ok(())
-}
-
-#[test]
-fn routes_packets(rt: HostRuntime) -> Result<(), Fail> {
-    let server = station(&rt, b"T2TEST");
-    let origin = sender(&rt, b"N0CALL");
-    let others = Listed { calls: &[] };
-    let mut whole = Parts::unfilled();
-    let said = line(&rt, b"N0CALL>APRS:>hi");
-    assert!(rt; route_packet(&mut whole, &server, &origin, &others, &said) == Ok(()));
-    assert!(rt; line_of(&whole) == line(&rt, b"N0CALL>APRS,TCPIP*,qAC,T2TEST:>hi"));
-    let window = window_of(&rt, rt.alloc(), 30)?;
-    assert!(rt; !is_copy(1000, window, &whole));
-    let said = line(&rt, b"N0CALL>APRS:");
-    let why = Refusal::Packet(LineFault::NoBody);
-    assert!(rt; route_packet(&mut Parts::unfilled(), &server, &origin, &others, &said) == Err(why));
-    Ok(())
 }

@@ -47,7 +47,7 @@ fn key_with<R: Abort>(rt: &R, body: &[u8]) -> Key {
 }
 
 /// A window of so many seconds, with no packet in it.
-pub(crate) fn window_of<'a, R: RandomSource>(
+fn window_of<'a, R: RandomSource>(
     rt: &R,
     alloc: Global,
     seconds: u32,

@@ -1,26 +1,21 @@
 //! The verdict on a line.
-ghost use Rattle.std.specs.Prelude.{◌≡◌, ◌-◌, ◌≤◌, ◌&&◌, [], IsTrue, IfOk, OnOk, Result, length, option_map};
+ghost use Rattle.std.specs.Prelude.{◌≡◌, ◌-◌, ◌≤◌, IfOk, length, option_map};
 ghost use Rattle.std.specs.List.{prefix_len, suffix_len};
 ghost use Rattle.filter_lang.specs.Grammar.{terms_of};
-ghost use Rattle.aprs_base.specs.Bytes.{is_blank, is_station};
-ghost use Rattle.dupe_window.specs.Windows.{has_copy};
-ghost use Rattle.aprs_history.specs.Verdicts.{after_filter, answer_by, answer_of, filter_command, is_comment, login_answer, login_verdict, packet_verdict, read_and_routed, text_at, unpadded};
+ghost use Rattle.aprs_base.specs.Bytes.{is_blank};
+ghost use Rattle.aprs_history.specs.Verdicts.{after_filter, answer_by, answer_of, filter_command, is_comment, login_answer, login_verdict, text_at, unpadded};
 ghost use Rattle.login_pass.specs.Login.{login_of};
 ghost use Rattle.line_verdict.specs.Voices.{comment_verdict, filtered};
-ghost use Rattle.tnc2_line.specs.Pieces.{Fills};
-ghost use Rattle.q_construct.specs.Rule.{has_station};
-ghost use Rattle.tnc2_line.specs.Packet.{IsParts, parts_of, text_of};
+ghost use Rattle.tnc2_line.specs.Packet.{IsParts, text_of};
 
 use crate::replies::active_line;
 use crate::voices::Voice;
 use aprs_base::{Call, Line, Memory, Parts};
 use aprs_history::{FilterAnswer, FilterFault, Refusal, Session, Verdict};
-use dupe_window::{Key, Window};
 use filter_lang::FilterError;
 use login_pass::read_login;
-use q_construct::{Calls, Listed, Origin, process_into};
 use std::alloc::Global;
-use tnc2_line::{read_into, write};
+use tnc2_line::write;
 
 /// Whether a line is a comment or a command.
 pub fn is_comment_line(line: &Line) -> bool
@@ -173,95 +168,6 @@ fn last_blanks(text: &[u8]) -> usize
     ensures { result ≡ suffix_len is_blank text.now }
 {
     text.iter().rev().take_while(|byte| **byte == b' ').count()
-}
-
-/// Whether the packet is a copy of one that the window has. `moment` is in seconds.
-pub fn is_copy(moment: u64, window: &Window, parts: &Parts) -> bool
-    ensures { result ≡ has_copy moment window.now parts.now }
-{
-    window.seen(&Key::of(parts), moment).is_some()
-}
-
-/// The verdict on a packet that goes on so: it is accepted, unless it is a copy.
-fn judge_whole(moment: u64, window: &Window, parts: Parts) -> Verdict
-    requires sound { IsParts parts }
-    requires short { length (text_of parts) ≤ 510 }
-    ensures { result ≡ packet_verdict (has_copy moment window.now) (Ok parts) }
-{
-    let line = line_of(&parts);
-    if is_copy(moment, window, &parts) {
-        Verdict::Refused(Refusal::Duplicate(parts, line))
-    } else {
-        Verdict::Accepted(parts, line)
-    }
-}
-
-/// Puts the packet of a line from there, as it goes on, into parts that are still to be filled, or says why it is refused, which
-/// leaves them as they happen to be. `others` are the logins of the other verified links. That it may be a copy isn't looked at.
-pub fn route_packet<O: Calls>(
-    whole: &mut Parts,
-    server: &Call,
-    origin: &Origin,
-    others: &O,
-    line: &Line,
-) -> Result<(), Refusal>
-    requires server { IsTrue (is_station server.now) }
-    requires origin { IsTrue (has_station origin.now) }
-    requires vias { whole.old.vias ≡ [] }
-    requires body { whole.old.body ≡ [] }
-    ensures exact { Fills result whole.new (read_and_routed server.now origin.now (O.calls others.now) (parts_of line.now)) }
-    ensures sound { OnOk result (IsParts whole.new) }
-    ensures short { OnOk result (length (text_of whole.new) ≤ 510) }
-{
-    let mut parts = Parts::unfilled();
-    match read_into(line, &mut parts) {
-        Err(fault) => Err(Refusal::Packet(fault)),
-        Ok(()) => route_parts(whole, server, origin, others, &parts),
-    }
-}
-
-/// The same of a packet that was read.
-fn route_parts<O: Calls>(
-    whole: &mut Parts,
-    server: &Call,
-    origin: &Origin,
-    others: &O,
-    parts: &Parts,
-) -> Result<(), Refusal>
-    requires parts { IsParts parts.now }
-    requires server { IsTrue (is_station server.now) }
-    requires origin { IsTrue (has_station origin.now) }
-    requires vias { whole.old.vias ≡ [] }
-    requires body { whole.old.body ≡ [] }
-    ensures exact { Fills result whole.new (read_and_routed server.now origin.now (O.calls others.now) (Ok parts.now)) }
-    ensures sound { OnOk result (IsParts whole.new) }
-    ensures short { OnOk result (length (text_of whole.new) ≤ 510) }
-{
-    match process_into(whole, parts, origin, server, others) {
-        Err(why) => Err(Refusal::Path(why)),
-        Ok(()) => Ok(()),
-    }
-}
-
-/// The verdict on a packet from there. `others` are the logins of the other verified links, and the window has the packets that
-/// were accepted before; `moment` is in seconds.
-pub fn judge_packet(
-    server: &Call,
-    origin: &Origin,
-    others: &[Call],
-    moment: u64,
-    window: &Window,
-    line: &Line,
-) -> Verdict
-    requires server { IsTrue (is_station server.now) }
-    requires origin { IsTrue (has_station origin.now) }
-    ensures { result ≡ packet_verdict (has_copy moment window.now) (read_and_routed server.now origin.now others.now (parts_of line.now)) }
-{
-    let mut whole = Parts::unfilled();
-    match route_packet(&mut whole, server, origin, &Listed { calls: others }, line) {
-        Err(why) => Verdict::Refused(why),
-        Ok(()) => judge_whole(moment, window, whole),
-    }
 }
 
 /// The line of a packet that isn't too long.

@@ -6,9 +6,7 @@ mod replies;
 mod submitting;
 mod voices;
 
-pub use judging::{
-    is_comment_line, is_copy, judge_comment, judge_login, judge_packet, line_of, route_packet,
-};
+pub use judging::{is_comment_line, judge_comment, judge_login, line_of};
 pub use replies::{banner_line, comment_of, denied_line, login_line, refusal_line, uplink_line};
 pub use submitting::submitter_of;
 pub use voices::Voice;
