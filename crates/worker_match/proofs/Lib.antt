@@ -1,5 +1,7 @@
+pub mod AlongLemmas
 pub mod FriendLemmas
 pub mod MemberLemmas
 pub mod PushLemmas
 pub mod RunLemmas
+pub mod TakenLemmas
 pub mod WalkLemmas

@@ -21,6 +21,7 @@ use Rattle.worker_match.specs.Seen.{LinkSeen, OfferSeen, ItemSeen, Told, ToldAll
 use Rattle.worker_match.specs.Walk.{after, feed_wants, friends_seen, is_from, is_full, is_open, met, mine_seen, one_more, terms_of, told_by, walked, wants, with_copy, with_packet, with_seen}
 use Rattle.worker_match.specs.Runs.{IsRunOf, RunSeen, added, empty_run, fresh, is_packet, line_of, mark, mark_of, sender_of, sent_by, suits, takes_all, with_run}
 use Rattle.worker_match.proofs.PushLemmas.{full_is, not_full}
+use Rattle.worker_match.proofs.TakenLemmas.{run_is}
 use Rattle.worker_match.proofs.WalkLemmas.{closed_stays}
 
 -- ---- tests
@@ -111,30 +112,6 @@ module _ (offer : OfferSeen) (link : LinkSeen) (plain : IsPlain link) (from : is
           unseen offer.packet.parts.source (told_by offer) (record link { queue = with_line offer.packet.line link.queue; put = one_more link.put }) plain.none other
 
 -- ---- what a run leaves
-
-run_is : (link : LinkSeen) (queue other : QueueSeen) (put count : ℕ) (over last : Bool) → queue ≡ other → put ≡ count → over ≡ last
-    → record link { queue = queue; put = put; over = over } ≡ record link { queue = other; put = count; over = last }
-run_is link queue other put count over last a b c = rw (a, b, c) refl
-
-less_taken : (room size : ℕ) → nat_lt (min room size) size ≡ nat_lt room size
-less_taken room size = elim (cases_lt room size) [
-  | inl less ↦ lt-ltb (min room size) size (omega arith) ∙ sym (lt-ltb room size less)
-  | inr enough ↦ le-ltb (min room size) size (omega arith) ∙ sym (le-ltb room size enough)
-]
-
-pub run_taken : (lines : List (List ℕ)) (inside now : LinkSeen) (queue : QueueSeen) (put count size : ℕ) (over : Bool) → inside ≡ now
-    → queue ≡ with_lines (take count (drop 0 lines)) inside.queue → count ≡ min (inside.queue.limit - length inside.queue.lines) (size - 0) → size ≡ length lines
-    → put ≡ min (inside.put + count) (2 ^ 64 - 1) → over ≡ (inside.over || nat_lt count size)
-    → record inside { queue = queue; put = put; over = over } ≡ with_run lines now
-unfolding with_run
-run_taken lines inside now queue put count size over is more many all counted short =
-    let room = inside.queue.limit - length inside.queue.lines in
-    let taken : count ≡ min room (length lines) = omega arith in
-    run_is inside _ _ _ _ _ _
-    (more ∙ ap (λ n. with_lines (take n lines) inside.queue) taken)
-    (counted ∙ ap (λ n. min (inside.put + n) (2 ^ 64 - 1)) taken)
-    (short ∙ ap (λ n. inside.over || nat_lt n size) taken ∙ ap (λ n. inside.over || nat_lt (min room (length lines)) n) all ∙ ap (λ b. inside.over || b) (less_taken room (length lines)))
-    ∙ ap (with_run lines) is
 
 module _ (link : LinkSeen) (plain : IsPlain link) where
   under : link.over ≡ false

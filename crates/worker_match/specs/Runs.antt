@@ -69,6 +69,15 @@ abbrev pub takes_all : Feed → Bool
 takes_all feed.Full = true
 takes_all other = false
 
+-- packets that aren't refused duplicates may be wanted
+abbrev pub takes_some : Feed → Bool
+takes_some feed.Nothing = false
+takes_some feed.Dupe = false
+takes_some other = true
+
+abbrev pub is_eager : LinkSeen → Bool
+is_eager link = is_open link && takes_some link.feed
+
 -- it lives, isn't over, takes all packets, and has no filter
 abbrev pub is_plain : LinkSeen → Bool
 is_plain link = (is_open link && takes_all link.feed) && is_none link.filter

@@ -1,6 +1,7 @@
 //! Links and what comes to them: one walk of each link over a list of items, shared out among workers.
 #![tactic(auto)]
 
+mod along;
 mod friends;
 mod items;
 mod laws;

@@ -1,16 +1,16 @@
 //! A link, and what each item leaves of it.
-ghost use Rattle.std.specs.Prelude.{◌≡◌, ◌^◌, ◌<◌, ◌≤◌, if◌then◌else◌, IfOk, OnErr, OnOk, Some, length, option_map};
+ghost use Rattle.std.specs.Prelude.{◌≡◌, ◌^◌, ◌-◌, ◌<◌, ◌≤◌, if◌then◌else◌, IfOk, OnErr, OnOk, Some, drop, length, option_map, take};
 ghost use Rattle.std.specs.Arc.{arc_value};
 ghost use Rattle.std.specs.List.Sorted.{IsStrictlyIncreasing};
 ghost use Rattle.filter_eval.specs.Passes.{passes_of};
 ghost use Rattle.worker_match.specs.Items.{item_seen};
-ghost use Rattle.worker_match.specs.Runs.{is_plain, takes_all, with_run};
+ghost use Rattle.worker_match.specs.Runs.{fresh, is_eager, is_plain, takes_all, takes_some, with_run};
 ghost use Rattle.worker_match.specs.Seen.{Became, Came, Ended, Told};
-ghost use Rattle.worker_match.specs.Walk.{IsOrdered, after, feed_wants, is_chosen, is_open, met, terms_of, wants, with_copy, with_packet, with_seen, with_text};
+ghost use Rattle.worker_match.specs.Walk.{IsOrdered, after, feed_wants, is_chosen, is_open, met, terms_of, told_by, wants, with_copy, with_packet, with_seen, with_text};
 
 use crate::friends::{copy_friends, see_friends, see_mine};
 use crate::items::Item;
-use crate::offers::Offer;
+use crate::offers::{Offer, offered};
 use aprs_base::{Call, Line, Memory, copy_call};
 use filter_eval::{Friends, Seen, passes};
 use filter_lang::FilterSet;
@@ -91,18 +91,41 @@ impl LinkState {
         self.is_open() && takes_all(self.feed) && self.filter.is_none()
     }
 
-    /// Takes the lines of a batch, which are counted, as many as fit; where one doesn't the link is over.
+    /// Whether it is open, and may want packets that are no refused duplicates.
+    pub(crate) fn is_eager(&self) -> bool
+        ensures { result ≡ is_eager self.now }
+    {
+        self.is_open() && takes_some(self.feed)
+    }
+
+    /// Takes the lines of a batch from the place `from` to before the place `to`, which are counted, as many as fit; where one
+    /// doesn't the link is over.
+    pub(crate) fn take_lines(
+        &mut self,
+        batch: &Arc<Batch>,
+        from: usize,
+        to: usize,
+    ) -> Result<(), Memory>
+        requires { (from ≤ to) × (to ≤ length (arc_value batch.now)) }
+        ensures ok { OnOk result (self.new ≡ with_run (take (to - from) (drop from (arc_value batch.now))) self.old) }
+        ensures err { OnErr result (self.new ≡ self.old) }
+        ensures within { OnOk result (length self.old.queue.lines ≤ self.old.queue.limit) }
+        ensures counted { OnOk result (self.old.put < 2 ^ 64) }
+    {
+        let count = self.queue.push_run(batch, from, to)?;
+        self.put = self.put.saturating_add(count as u64);
+        self.over |= count < to - from;
+        Ok(())
+    }
+
+    /// The same for all its lines.
     pub(crate) fn take_run(&mut self, batch: &Arc<Batch>) -> Result<(), Memory>
         ensures ok { OnOk result (self.new ≡ with_run (arc_value batch.now) self.old) }
         ensures err { OnErr result (self.new ≡ self.old) }
         ensures within { OnOk result (length self.old.queue.lines ≤ self.old.queue.limit) }
         ensures counted { OnOk result (self.old.put < 2 ^ 64) }
     {
-        let size = batch.len();
-        let count = self.queue.push_run(batch, 0, size)?;
-        self.put = self.put.saturating_add(count as u64);
-        self.over |= count < size;
-        Ok(())
+        self.take_lines(batch, 0, batch.len())
     }
 
     /// Takes a line; where it doesn't fit the link is over.
@@ -192,6 +215,16 @@ impl LinkState {
         see_mine(call, seen, &self.me, &mut self.mine);
     }
 
+    /// Sees where the packet's source is, where it tells that.
+    fn see_source(&mut self, offer: &Offer)
+        ensures { self.new ≡ with_seen offer.now.packet.parts.source (told_by offer.now) self.old }
+    {
+        if let Some(seen) = offer.told() {
+            let packet = offer.packet;
+            self.see(&packet.parts.source, seen);
+        }
+    }
+
     /// Meets a packet: takes its line, where it wants it, and sees where its source is.
     fn meet_packet(&mut self, offer: &Offer) -> Result<(), Memory>
         requires { IsStrictlyIncreasing offer.now.extra }
@@ -199,10 +232,48 @@ impl LinkState {
         ensures err { OnErr result (self.new ≡ self.old) }
     {
         self.take_copy(offer)?;
-        if let Some(seen) = offer.told() {
-            let packet = offer.packet;
-            self.see(&packet.parts.source, seen);
+        self.see_source(offer);
+        Ok(())
+    }
+
+    /// Takes the packet's line, where it wants it. Where it is no refused duplicate the line is that of a batch from the
+    /// place `from` to before the place `to`. After `Memory` nothing is said of the link.
+    fn take_placed(
+        &mut self,
+        offer: &Offer,
+        batch: &Arc<Batch>,
+        from: usize,
+        to: usize,
+    ) -> Result<(), Memory>
+        requires rising { IsStrictlyIncreasing offer.now.extra }
+        requires within { (from ≤ to) × (to ≤ length (arc_value batch.now)) }
+        requires line { take (to - from) (drop from (arc_value batch.now)) ≡ fresh offer.now.dupe offer.now.packet.line }
+        ensures { OnOk result (self.new ≡ with_packet offer.now self.old) }
+    {
+        if offer.dupe {
+            self.take_copy(offer)
+        } else if self.wants(offer) {
+            self.take_lines(batch, from, to)
+        } else {
+            Ok(())
         }
+    }
+
+    /// The same, and sees where its source is.
+    pub(crate) fn meet_placed(
+        &mut self,
+        offer: &Offer,
+        batch: &Arc<Batch>,
+        from: usize,
+        to: usize,
+    ) -> Result<(), Memory>
+        requires rising { IsStrictlyIncreasing offer.now.extra }
+        requires within { (from ≤ to) × (to ≤ length (arc_value batch.now)) }
+        requires line { take (to - from) (drop from (arc_value batch.now)) ≡ fresh offer.now.dupe offer.now.packet.line }
+        ensures { OnOk result (self.new ≡ met (Came offer.now) self.old) }
+    {
+        self.take_placed(offer, batch, from, to)?;
+        self.see_source(offer);
         Ok(())
     }
 
@@ -277,6 +348,9 @@ impl LinkState {
         ensures ok { OnOk result (self.new ≡ met (item_seen item.now) self.old) }
         ensures err { OnErr result (self.new ≡ self.old) }
     {
+        if let Some(offer) = offered(item) {
+            return self.meet_packet(&offer);
+        }
         match item {
             Item::Text { link, line } => self.take_text(self.link == *link, line),
             Item::All { line } => self.take_text(self.inbound, line),
@@ -292,21 +366,7 @@ impl LinkState {
                 friends,
                 mine,
             } => self.begin(*link, *feed, me, filter, friends, *mine),
-            Item::Packet {
-                packet,
-                dupe,
-                submitted,
-                known,
-                gate,
-                extra,
-            } => self.meet_packet(&Offer {
-                packet,
-                dupe: *dupe,
-                submitted: *submitted,
-                known,
-                gate: *gate,
-                extra: extra.as_slice(),
-            }),
+            Item::Packet { .. } => unreachable!(),
         }
     }
 }
@@ -317,6 +377,16 @@ fn takes_all(feed: Feed) -> bool
     match feed {
         Feed::Full => true,
         Feed::Nothing | Feed::Up | Feed::Dupe | Feed::Filter => false,
+    }
+}
+
+/// Whether packets that are no refused duplicates may be wanted.
+fn takes_some(feed: Feed) -> bool
+    ensures { result ≡ takes_some feed }
+{
+    match feed {
+        Feed::Full | Feed::Up | Feed::Filter => true,
+        Feed::Nothing | Feed::Dupe => false,
     }
 }
 

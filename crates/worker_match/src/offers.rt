@@ -1,9 +1,13 @@
 //! A packet as it is offered to links.
-ghost use Rattle.std.specs.Prelude.{◌≡◌, ◌==◌};
+ghost use Rattle.std.specs.Prelude.{◌≡◌, ◌==◌, ◌↔◌, IfSome, IsSome, IsTrue, length};
 ghost use Rattle.std.specs.List.{list_any};
 ghost use Rattle.std.specs.List.Sorted.{IsStrictlyIncreasing};
+ghost use Rattle.worker_match.specs.Items.{item_seen};
+ghost use Rattle.worker_match.specs.Runs.{fresh, is_packet};
+ghost use Rattle.worker_match.specs.Seen.{Came};
 ghost use Rattle.worker_match.specs.Walk.{is_from, told_by};
 
+use crate::items::Item;
 use aprs_base::{Packet, Source};
 use filter_eval::Seen;
 use station_table::seen_in;
@@ -55,12 +59,44 @@ impl<'a> Offer<'a> {
         }
     }
 
+    /// How many lines of a run are its own: a refused duplicate has none.
+    pub fn run_lines(&self) -> usize
+        ensures { result ≡ length (fresh self.now.dupe self.now.packet.line) }
+    {
+        if self.dupe { 0 } else { 1 }
+    }
+
     /// Whether the message rule asks for it at that link.
     pub fn is_owed(&self, link: u32) -> bool
         requires { IsStrictlyIncreasing self.now.extra }
         ensures { result ≡ list_any (λ other. link == other) self.now.extra }
     {
         is_among(link, self.extra)
+    }
+}
+
+/// The packet of an item, where it is one.
+pub(crate) fn offered(item: &Item) -> Option<Offer<'_>>
+    ensures is { IfSome result (λ offer. item_seen item.now ≡ Came offer) }
+    ensures packet { IsSome result ↔ IsTrue (is_packet (item_seen item.now)) }
+{
+    match item {
+        Item::Packet {
+            packet,
+            dupe,
+            submitted,
+            known,
+            gate,
+            extra,
+        } => Some(Offer {
+            packet,
+            dupe: *dupe,
+            submitted: *submitted,
+            known,
+            gate: *gate,
+            extra: extra.as_slice(),
+        }),
+        Item::Text { .. } | Item::All { .. } | Item::End { .. } | Item::Session { .. } => None,
     }
 }
 

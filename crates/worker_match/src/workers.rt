@@ -5,6 +5,7 @@ ghost use Rattle.worker_match.specs.Items.{items_seen};
 ghost use Rattle.worker_match.specs.Runs.{IsRunOf};
 ghost use Rattle.worker_match.specs.Walk.{IsOrdered, walked};
 
+use crate::along::walk_along;
 use crate::items::Item;
 use crate::links::LinkState;
 use crate::runs::{Run, run_of};
@@ -14,7 +15,7 @@ use std::thread::{Threads, join_mut};
 /// All links of a part meet so many items before they meet the next ones: what a walk touches of these stays near the processor.
 const BLOCK: usize = 64;
 
-/// A run of a block is made where the block has so many items, and so many links take all packets.
+/// A run of a block is made where the block has so many items, and so many links of a part may want their lines.
 const LEAST: usize = 4;
 
 /// Each link meets the items in their order. The links are split into at most `workers` parts, which are walked at the same
@@ -142,13 +143,13 @@ fn run_for(links: &[LinkState], items: &[Item]) -> Result<Option<Run>, Memory>
     requires { length items.now ≤ 1000 }
     ensures { IfOk result (λ run. IfSome run (λ run. IsRunOf (items_seen items.now) run)) }
 {
-    if items.len() < LEAST || links.iter().filter(|link| link.is_plain()).count() < LEAST {
+    if items.len() < LEAST || links.iter().filter(|link| link.is_eager()).count() < LEAST {
         return Ok(None);
     }
     run_of(items)
 }
 
-/// One link meets the items, or takes the lines of their run where that comes to the same.
+/// One link meets the items, or takes their run's lines where that comes to the same.
 fn meet_block(link: &mut LinkState, items: &[Item], run: &Option<Run>) -> Result<(), Memory>
     requires ordered { All IsOrdered (items_seen items.now) }
     requires run { IfSome run.now (λ run. IsRunOf (items_seen items.now) run) }
@@ -156,7 +157,8 @@ fn meet_block(link: &mut LinkState, items: &[Item], run: &Option<Run>) -> Result
 {
     match run {
         Some(run) if run.suits(link) => link.take_run(&run.batch),
-        _ => walk_link(link, items),
+        Some(run) => walk_along(link, items, run),
+        None => walk_link(link, items),
     }
 }
 

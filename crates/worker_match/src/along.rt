@@ -1,0 +1,32 @@
+//! A link along the run of the items that it meets.
+ghost use Rattle.std.specs.Prelude.{◌≡◌, All, OnOk};
+ghost use Rattle.worker_match.specs.Items.{items_seen};
+ghost use Rattle.worker_match.specs.Runs.{IsRunOf};
+ghost use Rattle.worker_match.specs.Walk.{IsOrdered, walked};
+
+use crate::items::Item;
+use crate::links::LinkState;
+use crate::offers::offered;
+use crate::runs::Run;
+use aprs_base::Memory;
+
+/// One link meets the items, as long as it lives and isn't over, and takes the lines that it wants from their run.
+pub(crate) fn walk_along(link: &mut LinkState, items: &[Item], run: &Run) -> Result<(), Memory>
+    requires ordered { All IsOrdered (items_seen items.now) }
+    requires run { IsRunOf (items_seen items.now) run.now }
+    ensures { OnOk result (link.new ≡ walked (items_seen items.now) link.old) }
+{
+    let mut place = 0;
+    for item in items {
+        if !link.is_open() {
+            return Ok(());
+        }
+        let Some(offer) = offered(item) else {
+            unreachable!();
+        };
+        let next = place + offer.run_lines();
+        link.meet_placed(&offer, &run.batch, place, next)?;
+        place = next;
+    }
+    Ok(())
+}
