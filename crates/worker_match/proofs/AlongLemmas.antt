@@ -1,11 +1,11 @@
 -- A walk along the run of the items that are met.
-use Rattle.std.proofs.Common.{◌≡◌, ℕ, suc, ◌+◌, ◌-◌, ◌<◌, ◌≤◌, ◌^◌, Bool, true, false, not, ◌&&◌, List, [], ◌∷◌, ◌++◌, length, take, drop, get_or, inl, inr, OnOk, Result, Ok, Err, refl, ap, sym, ◌∙◌, subst, cond, arith, add-one}
+use Rattle.std.proofs.Common.{◌≡◌, ℕ, suc, ◌+◌, ◌-◌, ◌<◌, ◌≤◌, ◌^◌, Bool, true, false, ◌&&◌, List, [], ◌∷◌, ◌++◌, length, take, drop, get_or, inl, inr, OnOk, Result, Ok, Err, refl, ap, sym, ◌∙◌, subst, cond, arith}
 use Rattle.std.specs.List.{flat_map, list_all}
 use Rattle.std.proofs.lemmas.Bool.{cases_Bool}
 use Rattle.std.proofs.lemmas.List.{drop_more, length-drop}
 use Rattle.worker_match.specs.declared.items.Item.{Item}
 use Rattle.worker_match.specs.Items.{item_seen, items_seen}
-use Rattle.worker_match.specs.Seen.{LinkSeen, OfferSeen, ItemSeen, Came}
+use Rattle.worker_match.specs.Seen.{LinkSeen, OfferSeen, Came}
 use Rattle.worker_match.specs.Walk.{wants, with_copy, with_packet}
 use Rattle.worker_match.specs.Runs.{IsRunOf, RunSeen, fresh, is_packet, line_of, with_run}
 use Rattle.worker_match.proofs.TakenLemmas.{one_taken}
@@ -66,14 +66,16 @@ module _ (items : List Item) (lines : List (List ℕ)) (i place : ℕ) (x : Item
         | inl dupe ↦
             let none : step ≡ 0 = counted ∙ ap (λ b. length (fresh b offer.packet.line)) dupe in
             let none_there : drop place lines ≡ rest = there ∙ ap (λ b. fresh b offer.packet.line ++ rest) dupe in
-            subst (λ n. IsAlong items lines (i + 1) (place + n) × (take (place + n - place) (drop place lines) ≡ fresh offer.dupe offer.packet.line)) (sym none)
-            (record { packets = packets_left.1; left = ap (λ n. drop n lines) (let same : place + 0 ≡ place = omega arith in same) ∙ none_there; few = omega arith; within = omega arith },
-            ap (λ n. take n (drop place lines)) (let same : place + 0 - place ≡ 0 = omega arith in same) ∙ ap (λ b. fresh b offer.packet.line) (sym dupe))
+            subst (λ n. IsAlong items lines (i + 1) (place + n) × (take (place + n - place) (drop place lines) ≡ fresh offer.dupe offer.packet.line)) (sym none) (
+              record { packets = packets_left.1; left = ap (λ n. drop n lines) (let same : place + 0 ≡ place = omega arith in same) ∙ none_there; few = omega arith; within = omega arith },
+              ap (λ n. take n (drop place lines)) (let same : place + 0 - place ≡ 0 = omega arith in same) ∙ ap (λ b. fresh b offer.packet.line) (sym dupe),
+            )
         | inr fresh_is ↦
             let one : step ≡ 1 = counted ∙ ap (λ b. length (fresh b offer.packet.line)) fresh_is in
             let one_there : drop place lines ≡ offer.packet.line ∷ rest = there ∙ ap (λ b. fresh b offer.packet.line ++ rest) fresh_is in
             let after = one_line lines place offer.packet.line rest one_there in
-            subst (λ n. IsAlong items lines (i + 1) (place + n) × (take (place + n - place) (drop place lines) ≡ fresh offer.dupe offer.packet.line)) (sym one)
-            (record { packets = packets_left.1; left = after.1; few = omega arith; within = after.0 },
-            ap (λ n. take n (drop place lines)) (let one_more : place + 1 - place ≡ 1 = omega arith in one_more) ∙ ap (take 1) one_there ∙ ap (λ b. fresh b offer.packet.line) (sym fresh_is))
+            subst (λ n. IsAlong items lines (i + 1) (place + n) × (take (place + n - place) (drop place lines) ≡ fresh offer.dupe offer.packet.line)) (sym one) (
+              record { packets = packets_left.1; left = after.1; few = omega arith; within = after.0 },
+              ap (λ n. take n (drop place lines)) (let one_more : place + 1 - place ≡ 1 = omega arith in one_more) ∙ ap (take 1) one_there ∙ ap (λ b. fresh b offer.packet.line) (sym fresh_is),
+            )
       ]

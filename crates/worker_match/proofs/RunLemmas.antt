@@ -12,14 +12,14 @@ use Rattle.filter_lang.specs.Terms.{TermSeen}
 use Rattle.filter_eval.specs.Passes.{is_some_and, is_text}
 use Rattle.filter_eval.specs.declared.seen.Seen.{Seen}
 use Rattle.station_table.specs.Stations.{seen_in}
-use Rattle.link_queue.specs.Queues.{QueueSeen, with_line, with_lines}
+use Rattle.link_queue.specs.Queues.{with_line, with_lines}
 use Rattle.worker_match.specs.declared.links.Feed.{Feed}
 use Rattle.worker_match.specs.declared.links.Feed.TheVariants as feed
 use Rattle.worker_match.specs.declared.items.Item.{Item}
 use Rattle.worker_match.specs.Items.{item_seen, items_seen}
 use Rattle.worker_match.specs.Seen.{LinkSeen, OfferSeen, ItemSeen, Told, ToldAll, Ended, Became, Came}
 use Rattle.worker_match.specs.Walk.{after, feed_wants, friends_seen, is_from, is_full, is_open, met, mine_seen, one_more, terms_of, told_by, walked, wants, with_copy, with_packet, with_seen}
-use Rattle.worker_match.specs.Runs.{IsRunOf, RunSeen, added, empty_run, fresh, is_packet, line_of, mark, mark_of, sender_of, sent_by, suits, takes_all, with_run}
+use Rattle.worker_match.specs.Runs.{IsRunOf, RunSeen, added, empty_run, fresh, is_packet, is_plain, line_of, mark, mark_of, sender_of, sent_by, suits, suits_others, takes_all, with_run}
 use Rattle.worker_match.proofs.PushLemmas.{full_is, not_full}
 use Rattle.worker_match.proofs.TakenLemmas.{run_is}
 use Rattle.worker_match.proofs.WalkLemmas.{closed_stays}
@@ -111,6 +111,13 @@ module _ (offer : OfferSeen) (link : LinkSeen) (plain : IsPlain link) (from : is
       unseen_either false =
           unseen offer.packet.parts.source (told_by offer) (record link { queue = with_line offer.packet.line link.queue; put = one_more link.put }) plain.none other
 
+module _ (offer : OfferSeen) (link : LinkSeen) (plain : IsPlain link) (own : is_from link.link offer.packet.from ≡ true) where
+  after_own : is_some_and (λ own. is_text own offer.packet.parts.source) link.me ≡ false → after link (Came offer) ≡ link
+  after_own other =
+      ap (λ b. cond b (met (Came offer) link) link) plain.open'
+      ∙ ap (λ b. with_seen offer.packet.parts.source (told_by offer) (cond (not b && feed_wants link.feed offer link) (with_copy offer.packet.line link) link)) own
+      ∙ unseen offer.packet.parts.source (told_by offer) link plain.none other
+
 -- ---- what a run leaves
 
 module _ (link : LinkSeen) (plain : IsPlain link) where
@@ -172,53 +179,88 @@ less_from_ne a b le ne = elim (cases_lt a b) [
   | inr ge ↦ absurd (ne (omega arith))
 ]
 
-run_walked : (items : List ItemSeen) (link : LinkSeen) → IsPlain link → list_all is_packet items ≡ true
-    → list_any (λ sender. link.link == sender) (flat_map sender_of items) ≡ false
+-- the lines of the packets of others
+abbrev pub line_of_others : ℕ → ItemSeen → List (List ℕ)
+line_of_others link (Came offer) = cond (is_from link offer.packet.from) [] (fresh offer.dupe offer.packet.line)
+line_of_others link item = []
+
+others_walked : (items : List ItemSeen) (link : LinkSeen) → IsPlain link → list_all is_packet items ≡ true
     → is_some_and (λ own. list_any (λ other. mark own == other) (flat_map mark_of items)) link.me ≡ false
-    → walked items link ≡ with_run (flat_map line_of items) link
-run_walked [] link plain packets senders marks = sym (with_none link plain)
-run_walked (Told number line ∷ items) link plain packets senders marks = absurd (cc)
-run_walked (ToldAll line ∷ items) link plain packets senders marks = absurd (cc)
-run_walked (Ended number ∷ items) link plain packets senders marks = absurd (cc)
-run_walked (Became session ∷ items) link plain packets senders marks = absurd (cc)
-run_walked (Came offer ∷ items) link plain packets senders marks =
+    → walked items link ≡ with_run (flat_map (line_of_others link.link) items) link
+others_walked [] link plain packets marks = sym (with_none link plain)
+others_walked (Told number line ∷ items) link plain packets marks = absurd (cc)
+others_walked (ToldAll line ∷ items) link plain packets marks = absurd (cc)
+others_walked (Ended number ∷ items) link plain packets marks = absurd (cc)
+others_walked (Became session ∷ items) link plain packets marks = absurd (cc)
+others_walked (Came offer ∷ items) link plain packets marks =
     let line = offer.packet.line in
-    let lines = flat_map line_of items in
-    let from = not_from link.link offer.packet.from (flat_map sender_of items) senders in
+    let lines = flat_map (line_of_others link.link) items in
     let mine = not_mine link.me offer.packet.parts.source (flat_map mark_of items) marks in
-    elim (cases_Bool offer.dupe) [
-      | inl dupe ↦
-          ap (walked items) (after_dupe offer link plain from.0 dupe)
-          ∙ run_walked items link plain packets from.1 mine.1
-          ∙ ap (λ b. with_run (fresh b line ++ lines) link) (sym dupe)
-      | inr new ↦ elim (cases_eq (length link.queue.lines) link.queue.limit) [
-        | inl full ↦
-            ap (walked items) (after_copy offer link plain from.0 true new mine.0 (full_is link.queue full))
-            ∙ closed_stays items (record link { over = true }) (and-false link.alive)
-            ∙ sym (with_full link plain line lines full)
-            ∙ ap (λ b. with_run (fresh b line ++ lines) link) (sym new)
-        | inr room ↦
-            let lt = less_from_ne _ _ plain.few room in
-            ap (walked items) (after_copy offer link plain from.0 false new mine.0 (not_full link.queue room))
-            ∙ run_walked items (one_taken link plain line lines) (still_plain link plain line lines lt) packets from.1 mine.1
-            ∙ with_more link plain line lines lt
-            ∙ ap (λ b. with_run (fresh b line ++ lines) link) (sym new)
+    elim (cases_Bool (is_from link.link offer.packet.from)) [
+      | inl own ↦
+          ap (walked items) (after_own offer link plain own mine.0)
+          ∙ others_walked items link plain packets mine.1
+          ∙ ap (λ b. with_run (cond b [] (fresh offer.dupe line) ++ lines) link) (sym own)
+      | inr from ↦ elim (cases_Bool offer.dupe) [
+        | inl dupe ↦
+            ap (walked items) (after_dupe offer link plain from dupe)
+            ∙ others_walked items link plain packets mine.1
+            ∙ ap (λ b. with_run (fresh b line ++ lines) link) (sym dupe)
+            ∙ ap (λ b. with_run (cond b [] (fresh offer.dupe line) ++ lines) link) (sym from)
+        | inr new ↦ elim (cases_eq (length link.queue.lines) link.queue.limit) [
+          | inl full ↦
+              ap (walked items) (after_copy offer link plain from true new mine.0 (full_is link.queue full))
+              ∙ closed_stays items (record link { over = true }) (and-false link.alive)
+              ∙ sym (with_full link plain line lines full)
+              ∙ ap (λ b. with_run (fresh b line ++ lines) link) (sym new)
+              ∙ ap (λ b. with_run (cond b [] (fresh offer.dupe line) ++ lines) link) (sym from)
+          | inr room ↦
+              let lt = less_from_ne _ _ plain.few room in
+              ap (walked items) (after_copy offer link plain from false new mine.0 (not_full link.queue room))
+              ∙ others_walked items (one_taken link plain line lines) (still_plain link plain line lines lt) packets mine.1
+              ∙ with_more link plain line lines lt
+              ∙ ap (λ b. with_run (fresh b line ++ lines) link) (sym new)
+              ∙ ap (λ b. with_run (cond b [] (fresh offer.dupe line) ++ lines) link) (sym from)
+        ]
       ]
     ]
+
+-- where none is from the link
+all_others : (link : ℕ) (items : List ItemSeen) → list_any (λ sender. link == sender) (flat_map sender_of items) ≡ false
+    → flat_map (line_of_others link) items ≡ flat_map line_of items
+all_others link [] is = refl
+all_others link (Told number line ∷ items) is = all_others link items is
+all_others link (ToldAll line ∷ items) is = all_others link items is
+all_others link (Ended number ∷ items) is = all_others link items is
+all_others link (Became session ∷ items) is = all_others link items is
+all_others link (Came offer ∷ items) is =
+    let from = not_from link offer.packet.from (flat_map sender_of items) is in
+    ap (λ b. cond b [] (fresh offer.dupe offer.packet.line) ++ flat_map (line_of_others link) items) from.0
+    ∙ ap (λ lines. fresh offer.dupe offer.packet.line ++ lines) (all_others link items from.1)
+
+suited_plain : (run : RunSeen) (link : LinkSeen) → suits_others link run ≡ true → length link.queue.lines ≤ link.queue.limit → link.put < 2 ^ 64
+    → IsPlain link × (is_some_and (λ own. list_any (λ other. mark own == other) run.marks) link.me ≡ false)
+suited_plain run link suit few counted =
+    let apart = both (is_plain link) (not (is_some_and (λ own. list_any (λ other. mark own == other) run.marks) link.me)) suit in
+    let fed = both (is_open link && takes_all link.feed) (is_none link.filter) apart.0 in
+    let open' = both (is_open link) (takes_all link.feed) fed.0 in
+    (record { open' = open'.0; full = takes_is link.feed open'.1; none = none_is link.filter fed.1; few = few; counted = counted }, is_not _ apart.1)
+
+-- the lines of others alone
+pub others_suited : (items : List ItemSeen) (run : RunSeen) (link : LinkSeen) → IsRunOf items run → suits_others link run ≡ true
+    → length link.queue.lines ≤ link.queue.limit → link.put < 2 ^ 64 → with_run (flat_map (line_of_others link.link) items) link ≡ walked items link
+others_suited items run link is suit few counted =
+    let suited = suited_plain run link suit few counted in
+    sym (others_walked items link suited.0 is.packets
+    (ap (λ marks. is_some_and (λ own. list_any (λ other. mark own == other) marks) link.me) (sym is.marks) ∙ suited.1))
 
 suited : (items : List ItemSeen) (run : RunSeen) (link : LinkSeen) → IsRunOf items run → suits link run ≡ true
     → length link.queue.lines ≤ link.queue.limit → link.put < 2 ^ 64 → with_run run.lines link ≡ walked items link
 suited items run link is suit few counted =
-    let apart = both _ (not (is_some_and (λ own. list_any (λ other. mark own == other) run.marks) link.me)) suit in
-    let plain = both _ (not (list_any (λ sender. link.link == sender) run.senders)) apart.0 in
-    let fed = both (is_open link && takes_all link.feed) (is_none link.filter) plain.0 in
-    let open' = both (is_open link) (takes_all link.feed) fed.0 in
-    ap (λ lines. with_run lines link) is.lines
-    ∙ sym (run_walked items link
-    (record { open' = open'.0; full = takes_is link.feed open'.1; none = none_is link.filter fed.1; few = few; counted = counted })
-    is.packets
-    (ap (list_any (λ sender. link.link == sender)) (sym is.senders) ∙ is_not _ plain.1)
-    (ap (λ marks. is_some_and (λ own. list_any (λ other. mark own == other) marks) link.me) (sym is.marks) ∙ is_not _ apart.1))
+    let apart = both (suits_others link run) (not (list_any (λ sender. link.link == sender) run.senders)) suit in
+    ap (λ lines. with_run lines link)
+    (is.lines ∙ sym (all_others link.link items (ap (list_any (λ sender. link.link == sender)) (sym is.senders) ∙ is_not _ apart.1)))
+    ∙ others_suited items run link is apart.0 few counted
 
 pub run_met : {T E : Type 0} (result : Result T E) (items : List ItemSeen) (run : RunSeen) (lines : List (List ℕ)) (old new : LinkSeen)
     → IsRunOf items run → suits old run ≡ true → lines ≡ run.lines → OnOk result (new ≡ with_run lines old)

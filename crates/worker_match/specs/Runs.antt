@@ -82,11 +82,13 @@ is_eager link = is_open link && takes_some link.feed
 abbrev pub is_plain : LinkSeen → Bool
 is_plain link = (is_open link && takes_all link.feed) && is_none link.filter
 
--- it is plain, no packet came from it, and none has its login's mark
+-- it is plain, and no packet has its login's mark
+abbrev pub suits_others : LinkSeen → RunSeen → Bool
+suits_others link run = is_plain link && not (is_some_and (λ own. list_any (λ other. mark own == other) run.marks) link.me)
+
+-- and none came from it
 abbrev pub suits : LinkSeen → RunSeen → Bool
-suits link run =
-    (is_plain link && not (list_any (λ sender. link.link == sender) run.senders))
-    && not (is_some_and (λ own. list_any (λ other. mark own == other) run.marks) link.me)
+suits link run = suits_others link run && not (list_any (λ sender. link.link == sender) run.senders)
 
 -- as many lines as fit are behind its queue, and are counted; where one doesn't the link is over
 unfoldable pub with_run : List (List ℕ) → LinkSeen → LinkSeen

@@ -1,7 +1,7 @@
 //! A link along the run of the items that it meets.
-ghost use Rattle.std.specs.Prelude.{◌≡◌, All, OnOk};
+ghost use Rattle.std.specs.Prelude.{◌≡◌, All, OnOk, true};
 ghost use Rattle.worker_match.specs.Items.{items_seen};
-ghost use Rattle.worker_match.specs.Runs.{IsRunOf};
+ghost use Rattle.worker_match.specs.Runs.{IsRunOf, suits_others};
 ghost use Rattle.worker_match.specs.Walk.{IsOrdered, walked};
 
 use crate::items::Item;
@@ -29,4 +29,27 @@ pub(crate) fn walk_along(link: &mut LinkState, items: &[Item], run: &Run) -> Res
         place = next;
     }
     Ok(())
+}
+
+/// A link that takes all lines that others sent takes the stretches of the run between its own packets.
+pub(crate) fn take_others(link: &mut LinkState, items: &[Item], run: &Run) -> Result<(), Memory>
+    requires run { IsRunOf (items_seen items.now) run.now }
+    requires suits { suits_others link.old run.now ≡ true }
+    ensures { OnOk result (link.new ≡ walked (items_seen items.now) link.old) }
+{
+    let number = link.link;
+    let mut from = 0;
+    let mut place = 0;
+    for item in items {
+        let Some(offer) = offered(item) else {
+            unreachable!();
+        };
+        let next = place + offer.run_lines();
+        if offer.is_from(number) {
+            link.take_lines(&run.batch, from, place)?;
+            from = next;
+        }
+        place = next;
+    }
+    link.take_lines(&run.batch, from, place)
 }

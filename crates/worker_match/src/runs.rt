@@ -4,7 +4,7 @@ ghost use Rattle.std.specs.Arc.{arc_value};
 ghost use Rattle.std.specs.List.{list_any};
 ghost use Rattle.filter_eval.specs.Passes.{is_some_and};
 ghost use Rattle.worker_match.specs.Items.{item_seen, items_seen};
-ghost use Rattle.worker_match.specs.Runs.{IsRunOf, added, empty_run, fresh, is_packet, mark, sent_by, suits};
+ghost use Rattle.worker_match.specs.Runs.{IsRunOf, added, empty_run, fresh, is_packet, mark, sent_by, suits, suits_others};
 
 use crate::items::Item;
 use crate::links::LinkState;
@@ -32,14 +32,19 @@ impl Model for Run {
 }
 
 impl Run {
-    /// Whether the link takes just these lines: it takes all packets, none of these came from it, and none has its login's
-    /// mark, so that none tells where it is.
+    /// Whether the link takes just the lines that others sent: it takes all packets, and none of these has its login's mark,
+    /// so that none tells where it is.
+    pub fn suits_others(&self, link: &LinkState) -> bool
+        ensures { result ≡ suits_others link.now self.now }
+    {
+        link.is_plain() && !self.has_mark_of(&link.me)
+    }
+
+    /// Whether it takes just these lines: none of them came from it.
     pub fn suits(&self, link: &LinkState) -> bool
         ensures { result ≡ suits link.now self.now }
     {
-        link.is_plain()
-            && !is_among(link.link, self.senders.as_slice())
-            && !self.has_mark_of(&link.me)
+        self.suits_others(link) && !is_among(link.link, self.senders.as_slice())
     }
 
     /// Whether one of the packets has the login's mark.

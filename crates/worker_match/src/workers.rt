@@ -5,7 +5,7 @@ ghost use Rattle.worker_match.specs.Items.{items_seen};
 ghost use Rattle.worker_match.specs.Runs.{IsRunOf};
 ghost use Rattle.worker_match.specs.Walk.{IsOrdered, walked};
 
-use crate::along::walk_along;
+use crate::along::{take_others, walk_along};
 use crate::items::Item;
 use crate::links::LinkState;
 use crate::runs::{Run, run_of};
@@ -157,6 +157,7 @@ fn meet_block(link: &mut LinkState, items: &[Item], run: &Option<Run>) -> Result
 {
     match run {
         Some(run) if run.suits(link) => link.take_run(&run.batch),
+        Some(run) if run.suits_others(link) => take_others(link, items, run),
         Some(run) => walk_along(link, items, run),
         None => walk_link(link, items),
     }

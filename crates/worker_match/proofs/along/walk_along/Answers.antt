@@ -1,5 +1,5 @@
 use Rattle.std.proofs.Common.{ap, subst, sym, ◌∙◌, drop}
-use Rattle.worker_match.specs.Items.{item_seen, items_seen}
+use Rattle.worker_match.specs.Items.{items_seen}
 use Rattle.worker_match.specs.Walk.{IsOrdered, met}
 use Rattle.worker_match.proofs.AlongLemmas.{along_more}
 use Rattle.worker_match.proofs.WalkLemmas.{closed_stays, ordered_at, walk_more}

@@ -1,0 +1,86 @@
+-- A link that takes the stretches of a run between its own packets.
+use Rattle.std.proofs.Common.{◌≡◌, ℕ, zero, suc, ◌+◌, ◌-◌, ◌<◌, ◌≤◌, ◌^◌, true, false, List, [], ◌∷◌, ◌++◌, length, take, drop, get_or, ap, sym, ◌∙◌, cond, arith, append_assoc, append-nil}
+use Rattle.std.specs.List.{flat_map}
+use Rattle.std.proofs.Math.Seq.{drop-nil, take-add}
+use Rattle.std.proofs.lemmas.List.{drop_all, drop_more}
+use Rattle.worker_match.specs.declared.items.Item.{Item}
+use Rattle.worker_match.specs.Items.{item_seen, items_seen}
+use Rattle.worker_match.specs.Seen.{LinkSeen, OfferSeen, Came}
+use Rattle.worker_match.specs.Walk.{is_from, walked}
+use Rattle.worker_match.specs.Runs.{IsRunOf, RunSeen, fresh, suits_others, with_run}
+use Rattle.worker_match.proofs.AlongLemmas.{IsAlong, along, along_more}
+use Rattle.worker_match.proofs.RunLemmas.{line_of_others, others_suited}
+use Rattle.worker_match.proofs.TakenLemmas.{both_taken}
+
+drop_twice : {X : Type 0} (from to : ℕ) (xs : List X) → from ≤ to → drop (to - from) (drop from xs) ≡ drop to xs
+drop_twice zero to xs le = ap (λ n. drop n xs) (let same : to - 0 ≡ to = omega arith in same)
+drop_twice (suc from) zero xs le = absurd (omega arith)
+drop_twice (suc from) (suc to) [] le = drop-nil (suc to - suc from)
+drop_twice (suc from) (suc to) (x ∷ xs) le =
+    ap (λ n. drop n (drop from xs)) (let same : suc to - suc from ≡ to - from = omega arith in same) ∙ drop_twice from to xs (omega arith)
+
+-- the stretch so far, and after it the lines of the others that are left, leave of the link what all items leave of it
+pub record IsAround (items : List Item) (lines : List (List ℕ)) (start link : LinkSeen) (i from place : ℕ) : Type 0 where
+  pub along : IsAlong items lines i place
+  pub within : from ≤ place
+  pub so_far : length link.queue.lines ≤ link.queue.limit → link.put < 2 ^ 64
+      → with_run (take (place - from) (drop from lines) ++ flat_map (line_of_others start.link) (items_seen (drop i items))) link ≡ walked (items_seen items) start
+
+pub around : (items : List Item) (run : RunSeen) (link : LinkSeen) → IsRunOf (items_seen items) run → suits_others link run ≡ true → IsAround items run.lines link link 0 0 0
+around items run link is suit = record { along = along items run is; within = omega arith; so_far = λ few counted. others_suited (items_seen items) run link is suit few counted }
+
+module _ (items : List Item) (lines : List (List ℕ)) (start link : LinkSeen) (i from place : ℕ) (x : Item) (is : IsAround items lines start link i from place)
+    (lt : i < length items) (at : x ≡ get_or items i x) (offer : OfferSeen) (step : ℕ) (seen : item_seen x ≡ Came offer)
+    (counted : step ≡ length (fresh offer.dupe offer.packet.line)) where
+  abbrev later : List (List ℕ)
+  later = flat_map (line_of_others start.link) (items_seen (drop (i + 1) items))
+
+  others_left : flat_map (line_of_others start.link) (items_seen (drop i items)) ≡ cond (is_from start.link offer.packet.from) [] (fresh offer.dupe offer.packet.line) ++ later
+  others_left =
+      ap (λ left. flat_map (line_of_others start.link) (items_seen left)) (drop_more items i x lt ∙ ap (λ y. y ∷ drop (i + 1) items) (sym at))
+      ∙ ap (λ y. line_of_others start.link y ++ later) seen
+
+  next : IsAlong items lines (i + 1) (place + step) × (take (place + step - place) (drop place lines) ≡ fresh offer.dupe offer.packet.line)
+  next = along_more items lines i place x is.along lt at offer step seen counted
+
+  -- the link's own packet
+  pub around_own : (new : LinkSeen) → is_from start.link offer.packet.from ≡ true → new ≡ with_run (take (place - from) (drop from lines)) link
+      → length link.queue.lines ≤ link.queue.limit → link.put < 2 ^ 64 → IsAround items lines start new (i + 1) (place + step) (place + step)
+  around_own new own taken few under = record {
+    along = next.0;
+    within = omega arith;
+    so_far = λ _ _.
+        ap (λ n. with_run (take n (drop (place + step) lines) ++ later) new) (let none : place + step - (place + step) ≡ 0 = omega arith in none)
+        ∙ ap (with_run later) taken
+        ∙ sym (both_taken link few under (take (place - from) (drop from lines)) later)
+        ∙ ap (λ left. with_run (take (place - from) (drop from lines) ++ left) link)
+        (sym (others_left ∙ ap (λ b. cond b [] (fresh offer.dupe offer.packet.line) ++ later) own))
+        ∙ is.so_far few under;
+  }
+
+  -- another's
+  pub around_other : is_from start.link offer.packet.from ≡ false → IsAround items lines start link (i + 1) from (place + step)
+  around_other other =
+      let within = is.within in
+      let sum : place + step - from ≡ place - from + (place + step - place) = omega arith in
+      record {
+        along = next.0;
+        within = omega arith;
+        so_far = λ few under.
+            ap (λ all. with_run (all ++ later) link)
+            (ap (λ n. take n (drop from lines)) sum ∙ take-add (place - from) (place + step - place) (drop from lines)
+            ∙ ap (λ left. take (place - from) (drop from lines) ++ take (place + step - place) left) (drop_twice from place lines within)
+            ∙ ap (λ more. take (place - from) (drop from lines) ++ more) next.1)
+            ∙ ap (λ all. with_run all link) (append_assoc (take (place - from) (drop from lines)) (fresh offer.dupe offer.packet.line) later)
+            ∙ ap (λ left. with_run (take (place - from) (drop from lines) ++ left) link)
+            (sym (others_left ∙ ap (λ b. cond b [] (fresh offer.dupe offer.packet.line) ++ later) other))
+            ∙ is.so_far few under;
+      }
+
+-- the last stretch
+pub around_done : (items : List Item) (lines : List (List ℕ)) (start link : LinkSeen) (i from place : ℕ) → IsAround items lines start link i from place → length items ≤ i
+    → length link.queue.lines ≤ link.queue.limit → link.put < 2 ^ 64 → with_run (take (place - from) (drop from lines)) link ≡ walked (items_seen items) start
+around_done items lines start link i from place is past few under =
+    ap (λ all. with_run all link) (sym (append-nil (take (place - from) (drop from lines))))
+    ∙ ap (λ left. with_run (take (place - from) (drop from lines) ++ flat_map (line_of_others start.link) (items_seen left)) link) (sym (drop_all i items past))
+    ∙ is.so_far few under
