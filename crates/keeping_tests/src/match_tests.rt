@@ -289,7 +289,8 @@ fn a_friend_counts_from_the_next_packet_on(rt: HostRuntime) -> Result<(), Fail> 
     Ok(())
 }
 
-/// A position: the link that it came from, its source, whether it is a refused duplicate, and its line.
+/// A position: the link that it came from, which relays where it is link 9, its source, whether it is a refused duplicate,
+/// and its line.
 type Sent = (u32, &'static [u8], bool, &'static [u8]);
 
 static BLOCK: [Sent; 8] = [
@@ -311,18 +312,18 @@ fn sent<R: Abort>(rt: &R, alloc: Global, packet: &Sent) -> Result<Item, Fail>
     Ok(Item::Packet {
         packet: Arc::new(alloc, position(rt, *from, source, line)?)?,
         dupe: *dupe,
-        submitted: true,
+        submitted: *from != 9,
         known: None,
         gate: false,
         extra: numbers(alloc, None)?,
     })
 }
 
-fn block<R: Abort>(rt: &R, alloc: Global) -> Result<Vec<Item>, Fail>
+fn block<R: Abort>(rt: &R, alloc: Global, packets: &[Sent]) -> Result<Vec<Item>, Fail>
     ensures { IfOk result (λ items. All IsOrdered (items_seen items.items)) }
 {
     let mut items = Vec::new(alloc);
-    for packet in &BLOCK {
+    for packet in packets {
         items.push(sent(rt, alloc, packet)?)?;
     }
     Ok(items)
@@ -390,14 +391,17 @@ fn plain<R: Abort>(rt: &R, alloc: Global, number: u32, fed: &Fed) -> Result<Link
     })
 }
 
+/// Whether it has just that text to take.
+fn has_text(link: &LinkState, text: &[u8]) -> bool {
+    let mut out = [0u8; 64];
+    let count = link.queue.front_bytes(&mut out);
+    out.get(..count) == Some(text)
+}
+
 /// Whether the link has taken what it is to take.
 fn is_fed(link: &LinkState, fed: &Fed) -> bool {
     let (_, _, text, put, over, seen) = fed;
-    let mut out = [0u8; 64];
-    let count = link.queue.front_bytes(&mut out);
-    out.get(..count) == Some(*text)
-        && has(link, text.len(), *put, true, *over)
-        && link.mine.is_some() == *seen
+    has_text(link, text) && has(link, text.len(), *put, true, *over) && link.mine.is_some() == *seen
 }
 
 #[test]
@@ -408,7 +412,7 @@ fn a_block_leaves_what_its_packets_leave(rt: HostRuntime) -> Result<(), Fail> {
         for (number, fed) in (1u32..7).zip(&FED) {
             links.push(plain(&rt, alloc, number, fed)?)?;
         }
-        let items = block(&rt, alloc)?;
+        let items = block(&rt, alloc, &BLOCK)?;
         spread(
             &rt,
             links.as_mut_slice(),
@@ -421,6 +425,121 @@ fn a_block_leaves_what_its_packets_leave(rt: HostRuntime) -> Result<(), Fail> {
                 is_fed(link, fed),
                 "link {} of {workers} workers",
                 link.link
+            );
+        }
+    }
+    Ok(())
+}
+
+static MIXED: [Sent; 8] = [
+    (9, b"K1ABC", false, b"a"),
+    (2, b"K2ABC", false, b"b"),
+    (9, b"K1ABC", true, b"c"),
+    (2, b"K1ABC", true, b"d"),
+    (9, b"N0CALL", false, b"e"),
+    (2, b"K1ABC", false, b"f"),
+    (9, b"K2ABC", false, b"g"),
+    (9, b"K1ABC", false, b"h"),
+];
+
+/// A link's number, feed, filter and room; then what it has to take of the packets, how many packet lines it was put, and
+/// whether it is over.
+type Taker = (
+    u32,
+    Feed,
+    Option<&'static str>,
+    usize,
+    &'static [u8],
+    u64,
+    bool,
+);
+
+static TAKERS: [Taker; 12] = [
+    (
+        1,
+        Feed::Full,
+        None,
+        9,
+        b"a\r\nb\r\ne\r\nf\r\ng\r\nh\r\n",
+        6,
+        false,
+    ),
+    (2, Feed::Full, None, 9, b"a\r\ne\r\ng\r\nh\r\n", 4, false),
+    (2, Feed::Full, None, 3, b"a\r\ne\r\ng\r\n", 3, true),
+    (
+        3,
+        Feed::Full,
+        Some(""),
+        9,
+        b"a\r\nb\r\ne\r\nf\r\ng\r\nh\r\n",
+        6,
+        false,
+    ),
+    (
+        4,
+        Feed::Filter,
+        Some("p/K1"),
+        9,
+        b"a\r\nf\r\nh\r\n",
+        3,
+        false,
+    ),
+    (4, Feed::Filter, Some("p/K1"), 2, b"a\r\nf\r\n", 2, true),
+    (2, Feed::Filter, Some("p/K1"), 9, b"a\r\nh\r\n", 2, false),
+    (
+        5,
+        Feed::Filter,
+        Some("f/K2ABC/9"),
+        9,
+        b"e\r\nf\r\ng\r\nh\r\n",
+        4,
+        false,
+    ),
+    (6, Feed::Up, None, 9, b"b\r\nf\r\n", 2, false),
+    (7, Feed::Dupe, None, 9, b"c\r\nd\r\n", 2, false),
+    (2, Feed::Dupe, None, 9, b"c\r\n", 1, false),
+    (8, Feed::Nothing, None, 9, b"", 0, false),
+];
+
+fn taker(alloc: Global, taker: &Taker) -> Result<LinkState, Fail> {
+    let (number, feed, filter, room, ..) = taker;
+    let mut state = link(alloc, *number, *feed, filter.unwrap_or(""))?;
+    if filter.is_none() {
+        state.filter = None;
+    }
+    state.queue = Queue::with_limit(alloc, (*room).clamp(1, 1000))?;
+    Ok(state)
+}
+
+/// Three times all of them, so that each of three parts has each.
+fn takers(alloc: Global) -> Result<Vec<LinkState>, Fail> {
+    let mut links = Vec::new(alloc);
+    for _ in 0..3 {
+        for row in &TAKERS {
+            links.push(taker(alloc, row)?)?;
+        }
+    }
+    Ok(links)
+}
+
+#[test]
+fn each_takes_its_lines_of_a_block(rt: HostRuntime) -> Result<(), Fail> {
+    let alloc = rt.alloc();
+    for workers in [1, 3] {
+        let mut links = takers(alloc)?;
+        let items = block(&rt, alloc, &MIXED)?;
+        spread(
+            &rt,
+            links.as_mut_slice(),
+            items.as_slice(),
+            workers,
+            &OpenGate,
+        )?;
+        for (place, link) in links.iter().enumerate() {
+            let (_, _, _, _, text, put, over) = &TAKERS[place % 12];
+            assert!(rt;
+                has_text(link, text) && has(link, text.len(), *put, true, *over),
+                "place {place} of {workers} workers"
             );
         }
     }
