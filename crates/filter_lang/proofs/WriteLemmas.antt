@@ -1,16 +1,11 @@
 -- Texts that are written piece by piece.
-use Rattle.std.proofs.Common.{◌≡◌, ℕ, zero, suc, ◌+◌, ◌-◌, ◌*◌, ◌/◌, ◌%◌, ◌<◌, Bool, true, false, cond, ◌==◌, List, [], ◌∷◌, ◌++◌, Result, map, filter, drop, get_or, refl, sym, ap, ◌∙◌, arith, append_assoc, append-nil, drop-cons, add-one}
-use Rattle.std.specs.Prelude.{OnOk, bit_and, slice_index_or, if◌then◌else◌}
+use Rattle.std.proofs.Common.{◌≡◌, ℕ, zero, suc, ◌+◌, ◌-◌, ◌*◌, ◌/◌, ◌%◌, ◌<◌, Bool, true, false, cond, ◌==◌, List, [], ◌∷◌, ◌++◌, map, filter, drop, get_or, refl, sym, ap, ◌∙◌, arith, append_assoc, append-nil, drop-cons, add-one}
+use Rattle.std.specs.Prelude.{bit_and, slice_index_or, if◌then◌else◌}
 use Rattle.std.specs.List.{range_with_len}
-use Rattle.std.proofs.lemmas.Result.{on_ok_weaker}
 use Rattle.std.proofs.lemmas.Bool.{ne_eqb}
 use Rattle.filter_lang.specs.Names.{spelled}
-use Rattle.filter_lang.specs.Numbers.{fraction_text, places}
+use Rattle.filter_lang.specs.Numbers.{dotted_text, fraction_digits, fraction_text, places}
 use Rattle.filter_lang.specs.Sets.{is_set, mask_text, classes}
-
--- a last piece y after a piece x
-pub appended : {T E : Type 0} (r : Result T E) (new mid old x y whole : List ℕ) → whole ≡ x ++ y → mid ≡ old ++ x → OnOk r (new ≡ mid ++ y) → OnOk r (new ≡ old ++ whole)
-appended r new mid old x y whole e m h = on_ok_weaker r (λ (last : new ≡ mid ++ y). last ∙ ap (λ (z : List ℕ). z ++ y) m ∙ append_assoc old x y ∙ ap (λ (z : List ℕ). old ++ z) (sym e)) h
 
 pub places_tens : (i : ℕ) → i < 5 → get_or places i 0 ≡ 10 * get_or places (i + 1) 0
 places_tens zero h = refl
@@ -39,6 +34,13 @@ fraction_small i rest h p = rw (← places_tens i (omega arith)) (omega arith)
 pub fraction_zero : (ps : List ℕ) → fraction_text ps 0 ≡ []
 fraction_zero [] = refl
 fraction_zero (p ∷ ps) = refl
+
+some_dotted : (n : ℕ) → (n ≡ 0 → ⊥) → dotted_text n ≡ 46 ∷ fraction_digits n
+some_dotted n some = rw (ne_eqb n 0 some) refl
+
+pub dotted_put : (old new : List ℕ) (n : ℕ) → (n ≡ 0 → ⊥) → new ≡ old ++ 46 ∷ [] → new ++ fraction_text places n ≡ old ++ dotted_text n
+unfolding fraction_digits
+dotted_put old new n some e = ap (λ text. text ++ fraction_text places n) e ∙ append_assoc old (46 ∷ []) (fraction_text places n) ∙ ap (λ text. old ++ text) (sym (some_dotted n some))
 
 pub mask_put : (out new : List ℕ) (i mask : ℕ) → i < 10 → new ≡ out ++ (if bit_and mask (slice_index_or classes i (0, 0)).1 == 0 then [] else (slice_index_or classes i (0, 0)).0 ∷ []) → new ++ mask_text (drop (i + 1) classes) mask ≡ out ++ mask_text (drop i classes) mask
 mask_put out new i mask h e = rw (drop-cons classes i (0, 0) h, add-one i, e) (append_assoc out _ (mask_text (drop (suc i) classes) mask))

@@ -1,7 +1,7 @@
 use Rattle.std.proofs.Common.{refl, ◌∙◌}
 use Rattle.filter_lang.specs.Sets.{letters_of}
 use Rattle.filter_lang.proofs.WriteLemmas.{mask_put}
-use Rattle.filter_lang.proofs.writing.push_classes.Goals as goal
+use Rattle.filter_lang.proofs.writing.Writer.classes.Goals as goal
 
 pub loop-letter-init : goal.loop-letter-init
 unfolding letters_of
@@ -9,6 +9,6 @@ loop-letter-init c = record { so_far = refl; items = refl }
 
 pub loop-letter-preserved : goal.loop-letter-preserved
 loop-letter-preserved c = record {
-  so_far = mask_put c.loop-letter.out.items c.push_if_in.new.out.items c.loop-letter.letter-index c.args.mask c.loop-letter-test.true c.in_ok-push_if_in.ensures ∙ c.loop-letter.invariant.so_far;
+  so_far = mask_put c.loop-letter.self c.class.new.self c.loop-letter.letter-index c.args.mask c.loop-letter-test.true c.in_ok-class.ensures ∙ c.loop-letter.invariant.so_far;
   items = c.loop-letter.invariant.items;
 }

@@ -1,6 +1,0 @@
-use Rattle.std.proofs.Common.{◌≡◌, ◌++◌, drop, map}
-use Rattle.filter_lang.specs.Names.{names_text, starless}
-use Rattle.filter_lang.proofs.writing.push_beginnings.Given as goal
-
-abbrev pub invariant-loop-name : goal.invariant-loop-name
-invariant-loop-name l = l.out.items ++ names_text (map starless (drop l.name-index l.names)) ≡ l.initial.out.items ++ names_text (map starless l.names)
