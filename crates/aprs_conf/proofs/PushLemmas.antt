@@ -17,12 +17,7 @@ appended r new mid old x y whole e m h = on_ok_weaker r (λ (last : new ≡ mid 
 joined : (new mid old x y : List ℕ) → mid ≡ old ++ x → new ≡ mid ++ y → new ≡ old ++ (x ++ y)
 joined new mid old x y first last = last ∙ ap (λ (z : List ℕ). z ++ y) first ∙ append_assoc old x y
 
--- a last piece z after two
-pub three_pieces : {T E : Type 0} (r : Result T E) (new second first old x y z whole : List ℕ) → whole ≡ x ++ y ++ z
-    → first ≡ old ++ x → second ≡ first ++ y → OnOk r (new ≡ second ++ z) → OnOk r (new ≡ old ++ whole)
-three_pieces r new second first old x y z whole e one two h = appended r new second old (x ++ y) z whole e (joined second first old x y one two) h
-
--- and after three
+-- a last piece z after three
 pub four_pieces : {T E : Type 0} (r : Result T E) (new third second first old w x y z whole : List ℕ) → whole ≡ w ++ x ++ y ++ z
     → first ≡ old ++ w → second ≡ first ++ x → third ≡ second ++ y → OnOk r (new ≡ third ++ z) → OnOk r (new ≡ old ++ whole)
 four_pieces r new third second first old w x y z whole e one two three h =
@@ -70,10 +65,7 @@ uplink_pieces start host port = simp (append_assoc, append-nil)
 pub group_pieces : (start ip port peers : List ℕ) → start ++ ((ip ++ (port ++ peers)) ++ 10 ∷ []) ++ [] ≡ start ++ (ip ++ (port ++ [])) ++ peers ++ 10 ∷ []
 group_pieces start ip port peers = simp (append_assoc, append-nil)
 
--- the pieces of three lines, and of the whole
-pub limit_pieces : (first second third : List (List ℕ)) → flat_map line_text (first ∷ second ∷ third ∷ []) ≡ line_text first ++ line_text second ++ line_text third
-limit_pieces first second third = (let split : (x y z : List ℕ) → x ++ (y ++ (z ++ [])) ≡ x ++ y ++ z = λ x y z. simp (append_assoc, append-nil) in split (line_text first) (line_text second) (line_text third))
-
+-- the pieces of the whole
 pub whole_pieces : (conf : ConfSeen) → text_of_conf conf ≡ flat_map line_text (identity_lines conf) ++ flat_map line_text (limit_lines conf) ++ flat_map line_text (list_lines conf)
 unfolding text_of_conf
 whole_pieces conf =

@@ -7,5 +7,5 @@ use Rattle.aprs_conf.proofs.types.Conf.write.Goals as goal
 pub returns-clause-again : goal.returns-clause-again
 returns-clause-again c = λ text h.
     let conf = c.args.self.now in
-    let is : c.new.result ≡ text_of_conf conf = c.new.ensures ∙ c.in_ok-push_conf.ensures ∙ ap (λ front. front ++ text_of_conf conf) c.new-out.ensures.items in
+    let is : c.new-2.result ≡ text_of_conf conf = c.new-2.ensures ∙ c.out.view_is ∙ c.in_ok-conf.ensures ∙ ap (λ front. front ++ text_of_conf conf) c.new.ensures.items in
     subst (λ written. conf_of written ≡ Ok conf) (sym is) (written_again text conf h)

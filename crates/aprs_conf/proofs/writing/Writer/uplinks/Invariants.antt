@@ -1,8 +1,8 @@
 use Rattle.std.proofs.Common.{◌≡◌, ◌++◌, drop, map}
 use Rattle.std.specs.List.{flat_map}
 use Rattle.aprs_conf.specs.Writing.{line_text, uplink_line}
-use Rattle.aprs_conf.proofs.writing.push_uplinks.Given as goal
+use Rattle.aprs_conf.proofs.writing.Writer.uplinks.Given as goal
 
 -- what was written and what is left are the whole
 abbrev pub invariant-loop-uplink : goal.invariant-loop-uplink
-invariant-loop-uplink l = l.out.items ++ flat_map line_text (map uplink_line (drop l.uplink-index l.uplinks)) ≡ l.initial.out.items ++ flat_map line_text (map uplink_line l.uplinks)
+invariant-loop-uplink l = l.self ++ flat_map line_text (map uplink_line (drop l.uplink-index l.uplinks)) ≡ l.initial.self ++ flat_map line_text (map uplink_line l.uplinks)
