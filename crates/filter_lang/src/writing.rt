@@ -2,7 +2,7 @@
 ghost use Rattle.std.specs.Prelude.{◌≡◌, ◌<◌, ◌≤◌, ◌∷◌, ◌++◌, ◌==◌, [], ℕ, List, Ok, length, map, filter, OnOk, IfOk, if◌then◌else◌, bit_and};
 ghost use Rattle.std.specs.Fmt.{decimal};
 ghost use Rattle.aprs_base.specs.Bytes.{IsInner};
-ghost use Rattle.filter_lang.specs.Names.{name_text, names_text, spelled, starless};
+ghost use Rattle.filter_lang.specs.Names.{names_text, spelled, star_text, starless};
 ghost use Rattle.filter_lang.specs.Numbers.{degrees_text, dotted_text, millionths_text};
 ghost use Rattle.filter_lang.specs.Sets.{is_set, members_of};
 ghost use Rattle.filter_lang.specs.Grammar.{terms_of};
@@ -145,7 +145,7 @@ impl Writer {
     }
 
     fn name(&mut self, text: &[u8], wild: bool) -> Result<(), AllocError>
-        ensures { OnOk result (self.new ≡ self.old ++ field (map spelled text.now ++ (if wild then 42 ∷ [] else []))) }
+        ensures { OnOk result (self.new ≡ self.old ++ field (map spelled text.now ++ star_text wild)) }
     {
         self.byte(b'/')?;
         self.spelled(text)?;
