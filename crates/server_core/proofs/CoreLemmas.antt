@@ -23,9 +23,7 @@ use Rattle.aprs_history.specs.declared.verdicts.Verdict.{Verdict}
 use Rattle.aprs_history.specs.declared.verdicts.Verdict.TheVariants.{PassedOver, Refused, LoggedIn, Filtered, Accepted}
 use Rattle.aprs_history.specs.Setting.{Setting, kind_at}
 use Rattle.aprs_history.specs.Scenes.{datagram_scene, logins_of, others_of, scene_of, speaker_of, verified_login, accepted_of}
-use Rattle.tnc2_line.specs.Packet.{parts_of, text_of}
-use Rattle.aprs_history.specs.declared.verdicts.Refusal.TheVariants as refusal
-use Rattle.aprs_history.specs.Verdicts.{Visitor, carried_verdict, is_comment, is_duplicate, packet_verdict, read_and_routed, verdict_of}
+use Rattle.aprs_history.specs.Verdicts.{Visitor, is_duplicate, verdict_of}
 use Rattle.aprs_history.specs.declared.verdicts.Admission.{Admission}
 use Rattle.aprs_history.specs.declared.verdicts.Admission.TheVariants.{NoPort, NotAsked, Served, TurnedAway}
 use Rattle.aprs_history.specs.Trace.{Trace, AtListener, ByUplink, Dated, Looked, Unjoined, RoundBegan, Ticked, Opened, Brought, Said, Roomed, Ended, is_live, is_member, is_other, live_links, moment_of, placed_all, stopped_links}
@@ -34,14 +32,16 @@ use Rattle.aprs_history.specs.Links.{client_links, is_client_link, session_of, o
 use Rattle.aprs_history.specs.Dates.{comment_text}
 use Rattle.aprs_history.specs.History.{admission, admitted, joined_admission, refuse_datagram, begin_round, comment_seconds, dated, end_each, end_stopped, refused_links, refused_reason, relay, say_all}
 use Rattle.aprs_history.specs.Stands.{LinkSeen, CoreSeen, ReachSeen, link_seen, Follows, window_of}
-use Rattle.server_core.specs.LinkSteps.{at_link, has_that, has_number, is_in_time, is_late_link, is_none_of, is_overfull, is_there, is_another, with_room, with_bytes, numbers, Rises, IsDatagram, admitted_in, joined_outcome, client_kept, clients_in, ended_all, held_at, held_kept, logins_at, speaker_at, speaker_kept, with_date, others_at, forgotten_all, is_lost, passed}
+use Rattle.served_links.specs.Changes.{at_link, with_room, with_bytes, with_date}
+use Rattle.served_links.specs.Links.{has_that, has_number, is_late_link, is_none_of, is_overfull, is_another, numbers, Rises, client_kept, clients_in, held_at, held_kept, logins_at, speaker_at, speaker_kept, others_at, is_lost}
+use Rattle.server_core.specs.LinkSteps.{is_in_time, is_there, IsDatagram, admitted_in, joined_outcome, ended_all, forgotten_all, passed}
 use Rattle.heard_routing.specs.Heard.{HeardSeen, without_link}
 use Rattle.aprs_conf.specs.Seen.{ConfSeen}
 use Rattle.server_core.specs.Meaning.{CoreMeaning, setting_of, timeouts_of}
-use Rattle.server_core.specs.Halves.{ServedSeen}
+use Rattle.served_links.specs.Halves.{ServedSeen}
 use Rattle.server_core.specs.Kept.{IsKept}
 use Rattle.server_core.specs.Steps.{SameRest, Walks, carried_at, scene_at, with_verdict}
-use Rattle.server_core.proofs.LinkLemmas.{changed_none, rises_at, rises_filter, rises_to, rises_push}
+use Rattle.served_links.proofs.LinkLemmas.{changed_none, rises_at, rises_filter, rises_to, rises_push}
 use Rattle.server_core.proofs.FollowLemmas.{picked_missing, picked_seen}
 use Rattle.server_core.proofs.HeardLemmas.{remembers_no_end}
 use Rattle.server_core.proofs.WalkLemmas.{with_ends, with_links, with_reach, filter_seen, follows_began, follows_dated, follows_gone, follows_late, follows_looked, follows_turned_away, follows_unasked, follows_unjoined, follows_refused_links, going_after, late_goes, refused_goes, follows_said, follows_roomed, follows_risen, follows_brought, follows_opened, follows_unserved, follows_ended, follows_stopped, follows_stayed}
@@ -58,10 +58,6 @@ relinked links core = record core { seen = record core.seen { links = links } }
 -- the same with all that is known of the links
 abbrev pub with_served : ServedSeen → CoreMeaning → CoreMeaning
 with_served served core = record { conf = core.conf; seen = record core.seen { links = served.links; totals = record core.seen.totals { queued = served.queued } }; rests = served.rests }
-
--- and with what was heard
-abbrev pub reheard : HeardSeen → CoreMeaning → CoreMeaning
-reheard heard core = record core { seen = record core.seen { heard = heard } }
 
 -- a round begins
 pub walks_begun : (core : CoreMeaning) (t : Trace) (links : List LinkSeen) (heard : HeardSeen) (reach : ReachSeen) (turned closing : List ℕ) → Walks core t → links ≡ filter is_there core.seen.links
@@ -398,9 +394,6 @@ risen_by (Ok done) number step old new high same gone is rises =
     subst (λ (s : ServedSeen). Rises 0 (numbers s.links) high) (sym is) (rises_at number step same high old.links (map (at_link number step) old.links) refl rises)
 risen_by (Err e) number step old new high same gone is rises = gone high rises
 
-pub kept_links : (core : CoreMeaning) (links : List LinkSeen) → links ≡ core.seen.links → IsKept core → IsKept (record core { seen = record core.seen { links = links } })
-kept_links core links same kept = subst (λ ls. IsKept (record core { seen = record core.seen { links = ls } })) (sym same) kept
-
 pub kept_pushed : (core : CoreMeaning) (k : ℕ) (link : LinkSeen) (links : List LinkSeen) → IsKept core → core.seen.greatest < k → k < 2 ^ 32 → link.link ≡ k → links ≡ core.seen.links ++ link ∷ []
     → IsKept (record core { seen = record core.seen { links = links; greatest = k } })
 kept_pushed core k link links kept above small is new =
@@ -515,32 +508,6 @@ follows_stop core conf stopped t ends closing heard reach walks same stops are f
     subst (λ (c : ConfSeen). Follows (setting_of c) (record core.seen { heard = heard; reach = reach; closing = closing }) (end_stopped stopped t)) same
     (stop_follows core stopped t ends closing heard reach walks stops are forgotten reached closed)
 
--- what a line of a datagram comes to is no login and no filter
-abbrev pub is_carried : Verdict → Bool
-is_carried PassedOver = true
-is_carried (Refused why) = true
-is_carried (LoggedIn session answer) = false
-is_carried (Filtered answer) = false
-is_carried (Accepted parts line) = true
-
-packet_carried : (copies : Parts → Bool) (read : Result Parts Refusal) → is_carried (packet_verdict copies read) ≡ true
-packet_carried copies (Err why) = refl
-packet_carried copies (Ok parts) = by (copies parts)
-  where
-    by : (b : Bool) → is_carried (if b then Refused (refusal.Duplicate parts (text_of parts)) else Accepted parts (text_of parts)) ≡ true
-    by true = refl
-    by false = refl
-
-pub line_carried : (core : CoreMeaning) (from : Origin) (cut : Cut) → is_carried (verdict_of (carried_at from core) cut) ≡ true
-line_carried core from cut.Long = refl
-line_carried core from (cut.Line text) = by (is_comment text)
-  where
-    by : (b : Bool) → is_carried (if b then PassedOver else carried_verdict (carried_at from core) from text) ≡ true
-    by true = refl
-    by false = packet_carried (has_copy core.seen.moment core.seen.window) (read_and_routed core.conf.server from (logins_at core.seen.links) (parts_of text))
-
--- ---- comment lines
-
 pub walks_dated : (core : CoreMeaning) (t : Trace) (before : ℕ) (links : List LinkSeen) (line : List ℕ) → Walks core t → nat_lt (before / comment_seconds) (core.seen.moment / comment_seconds) ≡ true
     → line ≡ comment_text core.conf.server core.seen.moment → links ≡ map (with_date line) core.seen.links → Walks (relinked links core) (dated before t)
 walks_dated core t before links line walks passed is new =
@@ -553,8 +520,3 @@ walks_dated core t before links line walks passed is new =
       follows = subst (λ ls. Follows s (with_links ls core.seen) (Dated m ∷ t)) (sym told) (follows_dated s core.seen t walks.follows walks.going m);
       going = walks.going;
     })
-
-pub walks_undated : (core : CoreMeaning) (t : Trace) (before : ℕ) → Walks core t → nat_lt (before / comment_seconds) (core.seen.moment / comment_seconds) ≡ false → Walks core (dated before t)
-walks_undated core t before walks not_passed =
-    let border : nat_lt (before / comment_seconds) (moment_of t / comment_seconds) ≡ false = ap (λ n. nat_lt (before / comment_seconds) (n / comment_seconds)) (sym walks.follows.moment) ∙ not_passed in
-    subst (λ b. Walks core (if b then Dated (moment_of t) ∷ t else t)) (sym border) walks

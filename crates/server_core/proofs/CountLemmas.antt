@@ -22,7 +22,9 @@ use Rattle.aprs_history.specs.Messages.{is_owed, is_to_heard}
 use Rattle.aprs_history.specs.Texts.{Text, TextLine, added_by, filter_reply, login_filter_reply, login_reply, most_waiting, refused_lines, refusal_reply, relayed, reply_lines, reply_of, shown, text_to, waiting_lines, with_text_line, with_text_lines}
 use Rattle.aprs_history.specs.Counts.{capped, counted, is_accepted, is_duplicate, is_duplicate_refusal, is_other_refusal, is_packet_line, is_refused, packet_lines, put_in, put_to, put_to_all, totals_of}
 use Rattle.aprs_history.specs.Stands.{LinkSeen, link_seen}
-use Rattle.server_core.specs.LinkSteps.{answer_counted, is_shown_at, more, takes_packet, takes_shown, wants_packet, with_accepted, with_duplicate, with_refused}
+use Rattle.server_core.specs.LinkSteps.{answer_counted, with_accepted, with_duplicate, with_refused}
+use Rattle.served_links.specs.Changes.{is_shown_at, takes_packet, takes_shown, wants_packet}
+use Rattle.served_links.specs.Halves.{more}
 use Rattle.server_core.proofs.FollowLemmas.{copies_seen, shows_seen, source_in}
 
 -- ---- counters

@@ -34,13 +34,15 @@ use Rattle.aprs_history.specs.declared.verdicts.Admission.TheVariants.{Served}
 use Rattle.aprs_history.specs.Trace.{is_from, is_member, last_moment, moment_of, Trace, Door, RoundBegan, Dated, Looked, Ticked, Opened, Brought, Said, Roomed, Took, Lost, Unjoined, is_live}
 use Rattle.aprs_history.specs.Links.{Opening, brought_by, filter_after, filter_by, filter_of, is_client_link, is_client_of, is_submitted, taken_by, session_of, opening_of}
 use Rattle.link_queue.specs.Lines.{Queued, queued, text_bytes, ended_line}
-use Rattle.link_queue.specs.Queues.{QueueSeen}
 use Rattle.aprs_history.specs.Texts.{Text, TextLine, comment_line, first_line, is_shown, most_waiting, lines_of, opening_wants, plain, plain_line, refused_lines, relayed, reply_of, shown, shows_duplicates, text_to, waiting_lines, with_text_line, with_text_lines, wants, filter_reply, login_filter_reply, login_reply, refusal_reply, reply_lines}
 use Rattle.aprs_history.specs.Stands.{LinkSeen, link_seen, TookNoMore, friends_kept, place_kept}
-use Rattle.server_core.specs.Pending.{with_line, pending_bytes}
-use Rattle.server_core.specs.declared.link.SourcePlace.{SourcePlace}
-use Rattle.server_core.specs.LinkSteps.{has_room, is_shown_at, passes_packet, wants_packet, picked_at, at_link, at_moment, with_answer, with_room, when_gone, with_taken, with_bytes, with_text, with_session, with_date, with_packet, with_places, with_seen, with_shown, new_link_seen}
+use Rattle.served_links.specs.Pending.{with_line, pending_bytes}
+use Rattle.served_links.specs.declared.link.SourcePlace.{SourcePlace}
+use Rattle.served_links.specs.Changes.{is_shown_at, passes_packet, wants_packet, at_link, at_moment, with_room, when_gone, with_taken, with_bytes, with_text, with_session, with_date, with_packet, with_places, with_shown, new_link_seen}
+use Rattle.served_links.specs.Links.{picked_at}
+use Rattle.server_core.specs.LinkSteps.{with_answer}
 use Rattle.server_core.proofs.SightLemmas.{friends_later, login_later, places_kept, told_at}
+use Rattle.served_links.proofs.OverLemmas.{over_unseen}
 
 -- where a packet's source was last seen, whether it is a gate, and whether the packet was submitted here
 abbrev pub source_in : Trace → Source → Parts → SourcePlace
@@ -193,36 +195,6 @@ text_number line link =
     (λ (open' : link.over ≡ false). ⊎_elim (λ (full : (length link.queue.lines == most_waiting) ≡ true). rw (open', full) refl) (λ (room : (length link.queue.lines == most_waiting) ≡ false). rw (open', room) refl) (cases_Bool (length link.queue.lines == most_waiting)))
     (cases_Bool link.over)
 
--- what a line more is where the link is overfull, where it becomes so, and where the line fits
--- a queue without its limit
-abbrev pub plain_queue : QueueSeen → Queued
-plain_queue queue = record { lines = queue.lines; offset = queue.offset }
-
-pub text_after : (line : List ℕ) (link : LinkSeen) → link.over ≡ true → link ≡ with_text line link
-unfolding with_text
-text_after line link over = rw over refl
-
-pub text_over : (line : List ℕ) (link : LinkSeen) → link.over ≡ false → length link.queue.lines ≡ most_waiting → record link { over = true; friends = []; mine = None } ≡ with_text line link
-unfolding with_text
-text_over line link open' full =
-    let is_full : (length link.queue.lines == most_waiting) ≡ true = eq-eqb (length link.queue.lines) most_waiting full in
-    rw (open', is_full) refl
-
-pub text_fits : (line : List ℕ) (link : LinkSeen) → link.over ≡ false → (length link.queue.lines ≡ most_waiting → ⊥) → record link { queue = with_line link.queue line } ≡ with_text line link
-unfolding with_text
-text_fits line link open' room =
-    let has_room : (length link.queue.lines == most_waiting) ≡ false = false_from_ne_true _ (λ full. room (eqb-true (length link.queue.lines) most_waiting full)) in
-    rw (open', has_room) refl
-
--- an overfull link takes no copy
-pub copy_over : (line : List ℕ) (link : LinkSeen) (wanted : Bool) → link.over ≡ true → link ≡ (if wanted then with_text line link else link)
-copy_over line link true over = text_after line link over
-copy_over line link false over = refl
-
--- whether a line fits, by the queue that it goes into
-pub fits_not_after : (link : LinkSeen) → link.over ≡ true → false ≡ has_room link
-fits_not_after link over = rw over refl
-
 -- another filter and a line more, in either order
 filter_then_text : (terms : List TermSeen) (friends : List (Option Seen)) (line : List ℕ) (link : LinkSeen)
     → record (with_text line link) { filter = terms; friends = friends_kept (with_text line link).over friends }
@@ -233,11 +205,6 @@ filter_then_text terms friends line link =
     (λ (over : link.over ≡ true). rw over refl)
     (λ (open' : link.over ≡ false). ⊎_elim (λ (full : (length link.queue.lines == most_waiting) ≡ true). rw (open', full) refl) (λ (room : (length link.queue.lines == most_waiting) ≡ false). rw (open', room) refl) (cases_Bool (length link.queue.lines == most_waiting)))
     (cases_Bool link.over)
-
--- an overfull link sees nothing
-pub over_unseen : (call : List ℕ) (told : Option Seen) (link : LinkSeen) → link.over ≡ true → link ≡ with_seen call told link
-over_unseen call None link over = refl
-over_unseen call (Some seen) link over = rw over refl
 
 -- what a packet tells of places
 places_shape : (base : LinkSeen) (accepted : List PacketSeen) (now : ℕ) (session : Option Session) (terms : List TermSeen) (text : Text) (taken : ℕ) (packet : PacketSeen) → packet.moment ≡ now

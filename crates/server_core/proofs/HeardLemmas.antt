@@ -28,7 +28,8 @@ use Rattle.aprs_history.specs.Scenes.{packet_of}
 use Rattle.aprs_history.specs.Messages.{has_heard, heard_of, is_message, is_owed, is_position, is_to_heard, promise_after, promise_of, promises}
 use Rattle.aprs_history.specs.History.{end_each}
 use Rattle.aprs_history.specs.Stands.{LinkSeen, Remembers, kept_hearing, kept_promise}
-use Rattle.server_core.specs.LinkSteps.{call_in, client_at, filters_at, forgotten_all, hearers_of, may_promise, noted_from, promised_all, promised_one, receiver_of, spent}
+use Rattle.server_core.specs.LinkSteps.{call_in, forgotten_all, hearers_of, may_promise, noted_from, promised_all, promised_one, receiver_of, spent}
+use Rattle.served_links.specs.Links.{client_at, filters_at}
 use Rattle.server_core.proofs.MemberLemmas.{eqb_turned, member_filter, member_push}
 use Rattle.std.proofs.Math.Nat.{le-max_right}
 

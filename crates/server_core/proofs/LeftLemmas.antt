@@ -5,8 +5,8 @@ use Rattle.std.proofs.lemmas.Bool.{cases_Bool}
 use Rattle.aprs_history.specs.Stands.{LinkSeen}
 use Rattle.aprs_history.specs.Trace.{is_member}
 use Rattle.heard_routing.specs.Heard.{is_among}
-use Rattle.server_core.specs.LinkSteps.{Rises, is_another, is_none_of, numbers}
-use Rattle.server_core.proofs.AskedLemmas.{listed_at}
+use Rattle.served_links.specs.Links.{Rises, is_another, is_none_of, numbers}
+use Rattle.served_links.proofs.AskedLemmas.{listed_at}
 use Rattle.server_core.proofs.MemberLemmas.{eqb_turned}
 
 member_among : (n : ℕ) (ns : List ℕ) → is_member n ns ≡ is_among n ns

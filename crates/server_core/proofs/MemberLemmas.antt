@@ -1,7 +1,6 @@
 -- Members of lists of numbers.
 use Rattle.std.proofs.Common.{◌≡◌, ℕ, ◌+◌, length, arith, ◌<◌, get_or, zero, suc, Some, slice_get, ◌==◌, Bool, true, false, ◌||◌, ◌&&◌, List, [], ◌∷◌, ◌++◌, filter, refl, sym, ap, ◌∙◌, ⊎_elim, eq-eqb, cond}
 use Rattle.std.proofs.lemmas.Bool.{eqb-true, cases_Bool, false_from_ne_true, true≢false}
-use Rattle.aprs_base.specs.declared.packets.ListenSpec.{ListenSpec}
 use Rattle.std.specs.List.{list_all}
 use Rattle.std.proofs.lemmas.List.Folds.{list_all_at}
 use Rattle.aprs_history.specs.Trace.{is_member}
@@ -87,21 +86,6 @@ member_later x (y ∷ xs) ys member = ap (λ b. (y == x) || b) (member_later x x
     or_true : (b : Bool) → b || true ≡ true
     or_true true = refl
     or_true false = refl
-
--- the listener of the peer group comes last
-pub listener_before : (specs : List ListenSpec) (group : List ListenSpec) (n : ℕ) (spec : ListenSpec) → slice_get specs n ≡ Some spec → slice_get (specs ++ group) n ≡ Some spec
-listener_before [] group n spec is = absurd (nothing n is)
-  where
-    nothing : (n : ℕ) → slice_get [] n ≡ Some spec → ⊥
-    nothing zero e = cc
-    nothing (suc n) e = cc
-listener_before (first ∷ specs) group zero spec is = is
-listener_before (first ∷ specs) group (suc n) spec is = listener_before specs group n spec is
-
-pub listener_after : (specs : List ListenSpec) (group : List ListenSpec) (n left : ℕ) → length specs + left ≡ n → slice_get (specs ++ group) n ≡ slice_get group left
-listener_after [] group n left is = ap (slice_get group) (omega (arith, is))
-listener_after (first ∷ specs) group zero left is = absurd (omega (arith, is))
-listener_after (first ∷ specs) group (suc n) left is = listener_after specs group n left (omega (arith, is))
 
 -- what holds of each holds of that at a place
 pub all_at : {X : Type 0} (p : X → Bool) (xs : List X) (i : ℕ) (x : X) → i < length xs → x ≡ get_or xs i x → list_all p xs ≡ true → p x ≡ true

@@ -25,10 +25,9 @@ use Rattle.link_queue.specs.Lines.{text_bytes}
 use Rattle.aprs_history.specs.Texts.{lines_of}
 use Rattle.aprs_history.specs.History.{History, open_events, ends_round, is_stop, is_stopped, greatest_link, trace_of, with_event, begun, begin_round, bring, comment_seconds, dated, datagram_cuts, end_each, end_round, ended, refused_links, refused_reason, relay, say_all, submit, with_lines}
 use Rattle.aprs_history.specs.Rounds.{is_whole, with_events, events_trace, greatest_after, stopped_after}
-use Rattle.aprs_history.specs.Journal.{journal_of, round_lines}
 use Rattle.aprs_history.specs.Acts.{acts_after, due, is_offered, offered_links}
 use Rattle.aprs_history.specs.Stands.{CoreSeen, link_seen, Follows}
-use Rattle.server_core.specs.LinkSteps.{is_ready, number_of}
+use Rattle.served_links.specs.Links.{is_ready, number_of}
 use Rattle.server_core.proofs.FollowLemmas.{left_over, queued-bytes}
 use Rattle.server_core.proofs.WalkLemmas.{filter_seen, going_after, late_goes, numbers_seen, refused_goes}
 
@@ -111,21 +110,6 @@ due_whole s n (e ∷ []) h whole open_is = ap (λ b. if b then acts_after s (tra
 due_whole s n (e ∷ next ∷ events) h whole open_is =
     let parts = ends_not n e next events whole in
     due_whole s (n + 1) (next ∷ events) (did.Event e ∷ h) parts.1 (more_events n e h parts.0 open_is)
-
--- the journal with the lines of a whole round
-pub journal_whole : (s : Setting) (n : ℕ) (events : List Event) (h : History) → is_whole n events ≡ true → open_events h ≡ n
-    → journal_of s (with_events events h) ≡ journal_of s h ++ round_lines s (trace_of s (with_events events h))
-journal_whole s n [] h whole open_is = absurd (false≢true whole)
-journal_whole s n (e ∷ []) h whole open_is =
-    ap (λ b. if b then journal_of s h ++ round_lines s (trace_of s (did.Event e ∷ h)) else journal_of s h) (ap (λ m. ends_round m e) open_is ∙ whole)
-journal_whole s n (e ∷ next ∷ events) h whole open_is =
-    let parts = ends_not n e next events whole in
-    let same : journal_of s (did.Event e ∷ h) ≡ journal_of s h =
-    ap (λ b. if b then journal_of s h ++ round_lines s (trace_of s (did.Event e ∷ h)) else journal_of s h) (ap (λ m. ends_round m e) open_is ∙ parts.0) in
-    journal_whole s (n + 1) (next ∷ events) (did.Event e ∷ h) parts.1 (more_events n e h parts.0 open_is)
-    ∙ ap (λ ls. ls ++ round_lines s (trace_of s (with_events (e ∷ next ∷ events) h))) same
-
--- ---- a stop
 
 said_going : (scene : Trace → Scene) (from : Source) (cuts : List Cut) (t : Trace) → stopped_links (say_all scene from cuts t) ≡ stopped_links t
 said_going scene from [] t = refl

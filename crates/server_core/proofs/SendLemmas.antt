@@ -19,7 +19,8 @@ use Rattle.aprs_history.specs.Texts.{lines_of, untaken}
 use Rattle.aprs_history.specs.History.{History, trace_of}
 use Rattle.aprs_history.specs.Rounds.{listens_after}
 use Rattle.aprs_history.specs.Stands.{LinkSeen, CoreSeen, link_seen, reach_of, Follows, StandsFor, Remembers}
-use Rattle.server_core.specs.LinkSteps.{at_link, has_number, with_taken, when_gone, pending_at, pending_of}
+use Rattle.served_links.specs.Changes.{at_link, with_taken, when_gone}
+use Rattle.served_links.specs.Links.{has_number, pending_at, pending_of}
 use Rattle.server_core.specs.Meaning.{CoreMeaning, setting_of, Stands}
 use Rattle.server_core.proofs.FollowLemmas.{queued-bytes, picked_seen, picked_missing}
 use Rattle.server_core.proofs.WalkLemmas.{follows_took, follows_lost}

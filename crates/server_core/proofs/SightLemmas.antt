@@ -18,7 +18,9 @@ use Rattle.aprs_history.specs.declared.verdicts.FilterAnswer.TheVariants.{Active
 use Rattle.aprs_history.specs.declared.verdicts.Session.{Session}
 use Rattle.aprs_history.specs.Sights.{friend_in, is_gate_at, login_in, named_call, sighting}
 use Rattle.aprs_history.specs.Stands.{LinkSeen, CoreSeen}
-use Rattle.server_core.specs.LinkSteps.{found_in, friend_seen, login_seen, place_young, source_found, submitted_from, with_answer, with_filter, with_seen}
+use Rattle.server_core.specs.LinkSteps.{found_in, place_young, source_found, with_answer}
+use Rattle.served_links.specs.Changes.{friend_seen, login_seen, with_filter, with_seen}
+use Rattle.served_links.specs.Links.{submitted_from}
 
 pub map_same : {X Y : Type 0} (f g : X → Y) → ((x : X) → f x ≡ g x) → (xs : List X) → map f xs ≡ map g xs
 map_same f g same [] = refl

@@ -22,10 +22,11 @@ use Rattle.aprs_history.specs.Verdicts.{verdict_of}
 use Rattle.aprs_history.specs.History.{admission, admitted, begin_round, bring, comment_seconds, dated, end_each, end_stopped, refused_links, refused_reason, say_all, with_bytes_of, with_tick}
 use Rattle.aprs_history.specs.Journal.{end_line, entry_lines, group_of, label, opening_lines, round_lines, unjoined_line, unjoined_lines, verdict_lines}
 use Rattle.aprs_history.specs.Stands.{ReachSeen, link_seen}
-use Rattle.server_core.specs.LinkSteps.{clients_in, has_number, is_late_link, is_lost, is_overfull, numbers}
+use Rattle.served_links.specs.Links.{clients_in, has_number, is_late_link, is_lost, is_overfull, numbers}
 use Rattle.server_core.specs.Meaning.{CoreMeaning, setting_of, timeouts_of}
 use Rattle.server_core.specs.Steps.{Walks, carried_at, scene_at}
-use Rattle.server_core.specs.Telling.{KnowUnasked, Tells, late_line, lost_line, refused_by, refused_line, said_lines, stop_line}
+use Rattle.server_core.specs.Telling.{KnowUnasked, Tells, refused_by, refused_line, said_lines}
+use Rattle.served_links.specs.EndLines.{late_line, lost_line, stop_line}
 use Rattle.server_core.proofs.CoreLemmas.{carried_now, clients_now, scene_now, there_now}
 use Rattle.server_core.proofs.WalkLemmas.{follows_began, late_seen, links_live, lost_seen_as, refused_are, tested_links}
 

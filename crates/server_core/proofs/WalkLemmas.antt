@@ -38,9 +38,11 @@ use Rattle.aprs_history.specs.Counts.{is_duplicate_refusal, is_other_refusal, pu
 use Rattle.aprs_history.specs.Stands.{LinkSeen, CoreSeen, ReachSeen, link_seen, place_kept, reach_of, TookNoMore, Follows, Keeps, Remembers, kept_hearing, kept_promise, window_of}
 use Rattle.aprs_history.specs.Dates.{comment_text}
 use Rattle.aprs_history.specs.History.{end_all, end_each, end_gone, refused_links, refused_reason}
-use Rattle.server_core.specs.LinkSteps.{answer_counted, refusal_counted, takes_packet, takes_shown, with_accepted, with_duplicate, with_refused, at_source, client_at, client_kept, ended_all, submitted_from, with_date, with_refusal, with_shown, filters_at, filters_kept, forgotten_all, hearers_of, is_lost, owed_in, receiver_of, after_answer, after_login, after_login_answer, after_packet, after_verdict, found_in, has_that, with_answer, with_reply, at_link, at_moment, with_room, when_gone, with_taken, with_bytes, with_text, with_session, with_packet, new_link_seen, numbers, is_there, is_another, is_in_time, is_late_link, is_none_of, is_overfull, Rises, passed}
-use Rattle.server_core.specs.declared.link.SourcePlace.{SourcePlace}
-use Rattle.server_core.specs.declared.link.Timeouts.{Timeouts}
+use Rattle.server_core.specs.LinkSteps.{answer_counted, refusal_counted, with_accepted, with_duplicate, with_refused, at_source, ended_all, with_refusal, forgotten_all, hearers_of, owed_in, receiver_of, after_answer, after_login, after_login_answer, after_packet, after_verdict, found_in, with_answer, with_reply, is_there, is_in_time, passed}
+use Rattle.served_links.specs.Changes.{takes_packet, takes_shown, with_date, with_shown, at_link, at_moment, with_room, when_gone, with_taken, with_bytes, with_text, with_session, with_packet, new_link_seen}
+use Rattle.served_links.specs.Links.{client_at, client_kept, submitted_from, filters_at, filters_kept, is_lost, has_that, numbers, is_another, is_late_link, is_none_of, is_overfull, Rises}
+use Rattle.served_links.specs.declared.link.SourcePlace.{SourcePlace}
+use Rattle.served_links.specs.declared.link.Timeouts.{Timeouts}
 use Rattle.aprs_history.proofs.EntryLemmas.{IsSaidBy}
 use Rattle.server_core.proofs.CountLemmas.{accepted_puts, accepted_totals, answer_totals, duplicate_totals, login_totals, other_totals, quiet_totals, shown_puts}
 use Rattle.server_core.proofs.SightLemmas.{answer_same, friends_found, map_same, sighting_found, source_known}

@@ -10,11 +10,12 @@ use Rattle.aprs_history.specs.Stands.{Follows, ReachSeen, StandsFor}
 use Rattle.aprs_base.specs.Journals.{JournalLineSeen}
 use Rattle.aprs_history.specs.Journal.{round_lines}
 use Rattle.server_core.specs.ActsSeen.{ActsSeen}
-use Rattle.server_core.specs.LinkSteps.{is_lost, is_ready, number_of}
+use Rattle.served_links.specs.Links.{is_lost, is_ready, number_of}
 use Rattle.server_core.specs.Meaning.{CoreMeaning, setting_of, Stands, AreActs}
 use Rattle.server_core.specs.Steps.{Walks, SameRest, AfterEvent}
 use Rattle.server_core.specs.RoundWalk.{GoesOn, Walking, Traced}
-use Rattle.server_core.specs.Telling.{AreTold, KnowUnasked, Tells, lost_line}
+use Rattle.server_core.specs.Telling.{AreTold, KnowUnasked, Tells}
+use Rattle.served_links.specs.EndLines.{lost_line}
 use Rattle.server_core.proofs.TellingLemmas.{tells_lost, tells_then}
 use Rattle.server_core.proofs.TurnedLemmas.{round_known}
 use Rattle.server_core.proofs.RoundLemmas.{ends_not, no_stop, open_whole, trace_whole, greatest_whole, stopped_whole, due_whole, history_going, offers_are}

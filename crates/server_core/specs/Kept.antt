@@ -3,7 +3,7 @@ use Rattle.std.specs.Prelude.{◌≡◌, ◌<◌, ◌≤◌, ◌^◌, ℕ, IsTru
 use Rattle.aprs_base.specs.Bytes.{is_station}
 use Rattle.aprs_conf.specs.Sound.{IsGroup}
 use Rattle.dupe_window.specs.Windows.{AreInside, IsUpTo, WindowSeen}
-use Rattle.server_core.specs.LinkSteps.{Rises, numbers}
+use Rattle.served_links.specs.Links.{Rises, numbers}
 use Rattle.server_core.specs.Meaning.{CoreMeaning, numbered}
 
 -- a window has what came in the last 30 seconds, and nothing that is past

@@ -1,11 +1,8 @@
-pub mod Fed
-pub mod Halves
 pub mod ActsSeen
 pub mod Kept
 pub mod LinkSteps
 pub mod Meaning
 pub mod Objections
-pub mod Pending
 pub mod RoundWalk
 pub mod Steps
 pub mod Telling

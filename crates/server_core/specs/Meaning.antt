@@ -11,7 +11,7 @@ use Rattle.aprs_history.specs.Stands.{CoreSeen, StandsFor}
 use Rattle.aprs_history.specs.History.{History, trace_of}
 use Rattle.aprs_history.specs.Acts.{Closes, cast_act, dials, due, offer_to}
 use Rattle.server_core.specs.ActsSeen.{ActsSeen}
-use Rattle.server_core.specs.declared.link.Timeouts.{Timeouts}
+use Rattle.served_links.specs.declared.link.Timeouts.{Timeouts}
 
 -- the listeners that have a number, in order: those that aren't idle
 abbrev pub numbered : List Listen → List ListenSpec

@@ -10,7 +10,8 @@ use Rattle.q_construct.specs.declared.origins.Origin.{Origin}
 use Rattle.aprs_history.specs.Verdicts.{Carrier, Scene}
 use Rattle.aprs_history.specs.History.{greater_link, is_stop}
 use Rattle.aprs_history.specs.Stands.{Follows}
-use Rattle.server_core.specs.LinkSteps.{after_verdict, logins_at, others_at, speaker_at}
+use Rattle.server_core.specs.LinkSteps.{after_verdict}
+use Rattle.served_links.specs.Links.{logins_at, others_at, speaker_at}
 use Rattle.server_core.specs.Meaning.{CoreMeaning, peer_of, setting_of}
 
 -- the core follows the trace so far, and no stop has ended links

@@ -6,33 +6,16 @@ use Rattle.aprs_base.specs.declared.events.Event.{Event}
 use Rattle.aprs_base.specs.declared.events.Event.TheVariants as event
 use Rattle.aprs_base.specs.declared.packets.Source.{Source}
 use Rattle.aprs_history.specs.declared.verdicts.EndReason.{EndReason}
-use Rattle.aprs_history.specs.declared.verdicts.EndReason.TheVariants.{FoundGone, NoLogin, Silent, Overfull, Full, Unasked, ByStop}
+use Rattle.aprs_history.specs.declared.verdicts.EndReason.TheVariants.{Overfull, Full, Unasked}
 use Rattle.aprs_history.specs.declared.verdicts.Verdict.{Verdict}
 use Rattle.aprs_history.specs.Setting.{Setting}
 use Rattle.aprs_history.specs.Trace.{Trace, is_member, is_unasked, turned_links}
 use Rattle.aprs_history.specs.Journal.{end_line, group_of, label, round_lines, verdict_lines}
-use Rattle.aprs_history.specs.Stands.{LinkSeen}
-use Rattle.server_core.specs.LinkSteps.{is_nameless_link}
 use Rattle.server_core.specs.Meaning.{CoreMeaning, setting_of}
 
 -- the lines of what was said
 abbrev pub said_lines : CoreMeaning → Source → Verdict → List JournalLineSeen
 said_lines core from verdict = verdict_lines (label (group_of (setting_of core.conf)) from) core.seen.moment verdict
-
--- the line of a link that was found gone
-abbrev pub lost_line : ℕ → LinkSeen → JournalLineSeen
-lost_line now link = end_line now link.link FoundGone
-
--- that of a link that is late, and why it ends
-abbrev pub late_reason_kept : ℕ → LinkSeen → EndReason
-late_reason_kept now link = if is_nameless_link now link then NoLogin else Silent
-
-abbrev pub late_line : ℕ → LinkSeen → JournalLineSeen
-late_line now link = end_line now link.link (late_reason_kept now link)
-
--- that of a link that a stop ends
-abbrev pub stop_line : ℕ → LinkSeen → JournalLineSeen
-stop_line now link = end_line now link.link ByStop
 
 -- whether a link came from an uplink with one of the events
 abbrev pub is_joining : ℕ → Event → Bool

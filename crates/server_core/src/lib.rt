@@ -4,13 +4,10 @@
 mod acts;
 mod conf;
 mod cores;
-mod link;
-mod links;
-mod logins;
 mod messages;
+mod numbers;
 mod places;
 mod reach;
-mod served;
 mod server;
 mod telling;
 

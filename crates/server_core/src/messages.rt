@@ -7,47 +7,16 @@ ghost use Rattle.aprs_history.specs.Messages.{is_message, is_position};
 ghost use Rattle.heard_routing.specs.Heard.{courtesies, is_among, without_promises};
 ghost use Rattle.server_core.specs.LinkSteps.{call_in, forgotten_all, hearers_of, may_promise, noted_from, promised_all, promised_one, receiver_of};
 
-use crate::link::is_from;
-use crate::served::Served;
+use served_links::{Served, is_from, is_message};
 use aprs_base::{Call, Memory, Packet, Source, Word9};
 use aprs_body::class;
 use heard_routing::Heard;
 use std::alloc::Global;
 
-pub(crate) fn is_message(packet: &Packet) -> bool
-    ensures { result ≡ is_message packet.now }
-{
-    packet.body.class & class::MESSAGE != 0
-}
-
 pub(crate) fn is_position(packet: &Packet) -> bool
     ensures { result ≡ is_position packet.now }
 {
     packet.body.class & class::POSITION != 0
-}
-
-/// Whether there is a receiver, and it is the call.
-fn is_for(to: &Option<Word9>, call: &Call) -> bool
-    ensures { result ≡ is_some_and (λ to. is_text to call.now) to.now }
-{
-    match to {
-        Some(to) => to.bytes() == call.bytes(),
-        None => false,
-    }
-}
-
-/// Whether the packet is a message to the call.
-pub(crate) fn is_message_to(packet: &Packet, call: &Call) -> bool
-    ensures { result ≡ (is_message packet.now && is_some_and (λ to. is_text to call.now) packet.now.body.to) }
-{
-    is_message(packet) && is_for(&packet.body.to, call)
-}
-
-pub(crate) fn is_among(number: u32, numbers: &[u32]) -> bool
-    requires rising { IsStrictlyIncreasing numbers.now }
-    ensures { result ≡ is_among number numbers.now }
-{
-    numbers.binary_search(&number).is_ok()
 }
 
 /// The word, where it is a call.

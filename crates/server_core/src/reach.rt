@@ -2,13 +2,14 @@
 ghost use Rattle.std.specs.Prelude.{◌≡◌, ◌++◌, ◌≤◌, [], IfOk, None, OnOk, length, map, if◌then◌else◌};
 ghost use Rattle.std.specs.Arc.{arc_value};
 ghost use Rattle.aprs_history.specs.Dials.{casts_to};
-ghost use Rattle.server_core.specs.LinkSteps.{ended_all, has_number};
+ghost use Rattle.server_core.specs.LinkSteps.{ended_all};
+ghost use Rattle.served_links.specs.Links.{has_number};
 ghost use Rattle.server_core.specs.Meaning.{peer_of};
 ghost use Rattle.uplinks_peers.specs.Uplinks.{acts_at, is_dialled, untried, uplinks_after};
 ghost use Rattle.uplinks_peers.specs.declared.uplinks.UpEvent.TheVariants as up;
 
 use crate::acts::CastOut;
-use crate::served::Served;
+use served_links::Served;
 use aprs_base::{Line, Memory};
 use aprs_conf::PeerSpec;
 use std::alloc::Global;

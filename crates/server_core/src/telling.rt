@@ -1,11 +1,10 @@
 //! What is told to the journals: each function puts its lines after those that are there.
-ghost use Rattle.std.specs.Prelude.{◌≡◌, ◌++◌, OnOk, filter, map};
+ghost use Rattle.std.specs.Prelude.{◌≡◌, ◌++◌, OnOk, map};
 ghost use Rattle.aprs_history.specs.Journal.{answer_lines, label, opening_lines, verdict_lines};
 ghost use Rattle.aprs_history.specs.Trace.{AtListener};
-ghost use Rattle.server_core.specs.LinkSteps.{is_late_link, is_lost};
-ghost use Rattle.server_core.specs.Telling.{has_joined, is_joining, late_line, lost_line, refused_by, refused_line, stop_line};
+ghost use Rattle.server_core.specs.Telling.{has_joined, is_joining, refused_by, refused_line};
 
-use crate::link::{Link, Timeouts, has_member};
+use served_links::has_member;
 use aprs_base::{Event, JournalLine, Memory, Source};
 use aprs_history::{Admission, EndReason, FilterAnswer, Verdict};
 use journal_lines::{end_line, filter_line, login_line, open_line, refusal_line};
@@ -73,53 +72,6 @@ pub(crate) fn tell_opened(
             Ok(())
         }
     }
-}
-
-/// The links that a send found gone.
-pub(crate) fn tell_lost(
-    links: &[Link],
-    now: u64,
-    lines: &mut Vec<JournalLine>,
-) -> Result<(), Memory>
-    ensures { OnOk result (lines.new.items ≡ lines.old.items ++ map (lost_line now) (filter is_lost links.now)) }
-{
-    for link in links {
-        if link.is_lost() {
-            lines.push(end_line(now, link.number(), EndReason::FoundGone))?;
-        }
-    }
-    Ok(())
-}
-
-/// The links that are late.
-pub(crate) fn tell_late(
-    links: &[Link],
-    timeouts: Timeouts,
-    now: u64,
-    lines: &mut Vec<JournalLine>,
-) -> Result<(), Memory>
-    ensures { OnOk result (lines.new.items ≡ lines.old.items ++ map (late_line now) (filter (is_late_link timeouts now) links.now)) }
-{
-    for link in links {
-        if link.is_late(timeouts, now) {
-            lines.push(end_line(now, link.number(), link.late_reason(now)))?;
-        }
-    }
-    Ok(())
-}
-
-/// All links, which a stop ends.
-pub(crate) fn tell_stopped(
-    links: &[Link],
-    now: u64,
-    lines: &mut Vec<JournalLine>,
-) -> Result<(), Memory>
-    ensures { OnOk result (lines.new.items ≡ lines.old.items ++ map (stop_line now) links.now) }
-{
-    for link in links {
-        lines.push(end_line(now, link.number(), EndReason::ByStop))?;
-    }
-    Ok(())
 }
 
 /// Whether the event brings this link from an uplink.

@@ -3,7 +3,7 @@ ghost use Rattle.std.specs.Prelude.{◌≡◌, OnOk};
 
 use super::Walker;
 use super::datagrams::cut_datagram;
-use crate::served::Served;
+use served_links::Served;
 use aprs_base::{Cut, Cutter, Event, Line, Memory};
 use indexmap::IndexMap;
 use std::alloc::Global;

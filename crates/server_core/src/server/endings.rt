@@ -5,14 +5,15 @@ ghost use Rattle.aprs_history.specs.declared.verdicts.EndReason.TheVariants.{ByP
 ghost use Rattle.aprs_history.specs.Links.{late_links, late_reason};
 ghost use Rattle.aprs_history.specs.Stands.{Follows};
 ghost use Rattle.aprs_history.specs.History.{end_each, end_stopped, refused_links, refused_reason};
-ghost use Rattle.server_core.specs.LinkSteps.{Rises, ended_all, forgotten_all, is_late_link, is_none_of, is_overfull, numbers};
+ghost use Rattle.served_links.specs.Links.{Rises, is_late_link, is_none_of, is_overfull, numbers};
+ghost use Rattle.server_core.specs.LinkSteps.{ended_all, forgotten_all};
 ghost use Rattle.server_core.specs.Meaning.{setting_of, timeouts_of};
 ghost use Rattle.server_core.specs.Steps.{SameRest, Walks};
 ghost use Rattle.server_core.specs.Telling.{KnowUnasked, Tells};
 
 use super::Walker;
 use crate::conf::timeouts;
-use crate::links::place_all;
+use crate::numbers::place_all;
 use crate::messages::forget_all;
 use aprs_base::{Event, JournalLine, Memory};
 use std::alloc::Global;

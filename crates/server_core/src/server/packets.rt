@@ -7,7 +7,8 @@ ghost use Rattle.dupe_window.specs.Keys.{key_of};
 ghost use Rattle.dupe_window.specs.Windows.{has_copy};
 ghost use Rattle.aprs_history.specs.Verdicts.{packet_verdict, read_and_routed};
 ghost use Rattle.aprs_history.specs.declared.verdicts.Verdict.{Verdict};
-ghost use Rattle.server_core.specs.LinkSteps.{after_packet, cast_with, noted_from, others_from, owed_in, promised_all, source_found, spent, submitted_from};
+ghost use Rattle.server_core.specs.LinkSteps.{after_packet, cast_with, noted_from, owed_in, promised_all, source_found, spent};
+ghost use Rattle.served_links.specs.Links.{others_from, submitted_from};
 ghost use Rattle.server_core.specs.Meaning.{peer_of};
 ghost use Rattle.q_construct.specs.Rule.{has_station};
 ghost use Rattle.server_core.specs.Steps.{with_verdict};
@@ -16,7 +17,7 @@ ghost use Rattle.tnc2_line.specs.Packet.{IsParts, parts_of, text_of};
 
 use super::{Walker, raised};
 use crate::conf::peers_of;
-use crate::link::SourcePlace;
+use served_links::SourcePlace;
 use crate::messages::{hearers_of, is_position, note_from, owed_to, promise_all, receiver_of};
 use aprs_base::{Body, JournalLine, Line, Memory, Packet, Parts, Shared, Source};
 use aprs_history::Verdict;

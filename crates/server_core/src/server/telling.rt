@@ -5,9 +5,10 @@ ghost use Rattle.aprs_history.specs.Journal.{end_line, join_line, opening_lines,
 ghost use Rattle.aprs_history.specs.Trace.{AtListener};
 ghost use Rattle.aprs_history.specs.declared.verdicts.EndReason.TheVariants.{ByPeer};
 ghost use Rattle.aprs_history.specs.declared.verdicts.Verdict.{Verdict};
-ghost use Rattle.server_core.specs.LinkSteps.{has_number, is_late_link, is_lost};
+ghost use Rattle.served_links.specs.Links.{has_number, is_late_link, is_lost};
 ghost use Rattle.server_core.specs.Meaning.{timeouts_of};
-ghost use Rattle.server_core.specs.Telling.{late_line, lost_line, refused_line, said_lines, stop_line};
+ghost use Rattle.served_links.specs.EndLines.{late_line, lost_line, stop_line};
+ghost use Rattle.server_core.specs.Telling.{refused_line, said_lines};
 
 use super::Walker;
 use crate::conf::{group_of, timeouts};

@@ -10,7 +10,7 @@ ghost use Rattle.line_verdict.specs.Voices.{HasStation, voice_of};
 ghost use Rattle.login_pass.specs.Login.{login_of};
 ghost use Rattle.parsed_lines.specs.Lines.{IsSound, parsed_of};
 ghost use Rattle.q_construct.specs.Rule.{has_station};
-ghost use Rattle.server_core.specs.LinkSteps.{others_from, speaker_at};
+ghost use Rattle.served_links.specs.Links.{others_from, speaker_at};
 ghost use Rattle.server_core.specs.Objections.{Routes, refusal_for};
 ghost use Rattle.tnc2_line.specs.Packet.{IsParts, parts_of, text_of};
 

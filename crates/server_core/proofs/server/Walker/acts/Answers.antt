@@ -1,8 +1,10 @@
 use Rattle.std.proofs.Common.{subst, sym, ap, ◌∙◌, map, filter}
 use Rattle.server_core.specs.Kept.{IsKept}
-use Rattle.server_core.specs.LinkSteps.{AreServed, Rises, is_ready, number_of}
+use Rattle.server_core.specs.LinkSteps.{AreServed}
+use Rattle.served_links.specs.Links.{Rises, is_ready, number_of}
 use Rattle.server_core.specs.Meaning.{CoreMeaning}
-use Rattle.server_core.proofs.LinkLemmas.{rises_filter, served_filter}
+use Rattle.served_links.proofs.LinkLemmas.{rises_filter}
+use Rattle.server_core.proofs.LinkLemmas.{served_filter}
 use Rattle.server_core.proofs.server.Walker.acts.Goals as goal
 
 pub returns-clause-rising : goal.returns-clause-rising

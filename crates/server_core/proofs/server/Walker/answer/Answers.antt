@@ -2,8 +2,9 @@ use Rattle.std.proofs.Common.{map, ap, sym, ◌∙◌}
 use Rattle.aprs_base.specs.declared.packets.Source.TheVariants as source
 use Rattle.aprs_history.specs.declared.verdicts.FilterAnswer.TheVariants.{Denied}
 use Rattle.aprs_history.specs.declared.verdicts.Verdict.TheVariants.{Filtered}
-use Rattle.server_core.specs.Halves.{ServedSeen}
-use Rattle.server_core.specs.LinkSteps.{at_link, with_refused, with_text}
+use Rattle.served_links.specs.Halves.{ServedSeen}
+use Rattle.served_links.specs.Changes.{at_link, with_text}
+use Rattle.server_core.specs.LinkSteps.{with_refused}
 use Rattle.server_core.specs.Meaning.{CoreMeaning}
 use Rattle.server_core.specs.Steps.{with_verdict}
 use Rattle.std.specs.Arc.{arc_value}

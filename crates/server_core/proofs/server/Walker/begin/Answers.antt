@@ -1,11 +1,12 @@
 use Rattle.std.proofs.Common.{◌≡◌, [], None, ap, false, filter, subst, sym, ◌∙◌}
 use Rattle.aprs_history.specs.History.{begin_round}
 use Rattle.aprs_history.specs.Stands.{ReachSeen}
-use Rattle.server_core.specs.LinkSteps.{ended_all, forgotten_all, is_lost, is_none_of, is_there, numbers}
+use Rattle.server_core.specs.LinkSteps.{ended_all, forgotten_all, is_there}
+use Rattle.served_links.specs.Links.{is_lost, is_none_of, numbers}
 use Rattle.server_core.specs.Steps.{Walks}
 use Rattle.server_core.proofs.CoreLemmas.{kept_left, walks_begun, walks_resting}
 use Rattle.server_core.proofs.LeftLemmas.{passing_left}
-use Rattle.server_core.proofs.LinkLemmas.{rises_filter}
+use Rattle.served_links.proofs.LinkLemmas.{rises_filter}
 use Rattle.server_core.proofs.server.Walker.begin.Goals as goal
 
 pub invariant_of-self : goal.invariant_of-self

@@ -1,6 +1,6 @@
 use Rattle.std.proofs.Common.{◌++◌, map, refl, subst, sym}
 use Rattle.aprs_base.specs.Held.{held_after}
-use Rattle.server_core.specs.LinkSteps.{at_link, with_bytes}
+use Rattle.served_links.specs.Changes.{at_link, with_bytes}
 use Rattle.server_core.specs.Steps.{Walks}
 use Rattle.std.proofs.lemmas.Result.{on_ok_weaker}
 use Rattle.aprs_history.specs.Links.{brought_by}

@@ -1,7 +1,7 @@
 use Rattle.std.proofs.Common.{subst, sym, ap, ◌∙◌, true, refl}
 use Rattle.std.proofs.lemmas.Result.{on_ok_weaker}
 use Rattle.std.proofs.Common.{true}
-use Rattle.server_core.specs.LinkSteps.{numbers}
+use Rattle.served_links.specs.Links.{numbers}
 use Rattle.server_core.specs.Meaning.{CoreMeaning}
 use Rattle.server_core.specs.Steps.{Walks}
 use Rattle.server_core.proofs.CoreLemmas.{follows_stop}

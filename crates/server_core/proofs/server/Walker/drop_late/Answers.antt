@@ -2,7 +2,7 @@ use Rattle.std.proofs.Common.{ap, filter, refl, subst, sym, ◌∙◌}
 use Rattle.std.proofs.lemmas.Result.{on_ok_weaker}
 use Rattle.aprs_history.specs.History.{end_each}
 use Rattle.aprs_history.specs.Links.{late_links, late_reason}
-use Rattle.server_core.specs.LinkSteps.{is_late_link, is_none_of}
+use Rattle.served_links.specs.Links.{is_late_link, is_none_of}
 use Rattle.server_core.specs.Meaning.{setting_of, timeouts_of}
 use Rattle.server_core.specs.Steps.{Walks}
 use Rattle.server_core.proofs.CoreLemmas.{walks_late}

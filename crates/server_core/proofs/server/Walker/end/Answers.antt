@@ -1,6 +1,6 @@
 use Rattle.std.proofs.Common.{filter, subst, sym, ◌∷◌, []}
 use Rattle.std.proofs.lemmas.Result.{on_ok_weaker}
-use Rattle.server_core.specs.LinkSteps.{is_none_of}
+use Rattle.served_links.specs.Links.{is_none_of}
 use Rattle.server_core.specs.Steps.{Walks}
 use Rattle.server_core.proofs.CoreLemmas.{kept_left, left_by, walks_ended, walks_no_end}
 use Rattle.server_core.proofs.LeftLemmas.{one_left}

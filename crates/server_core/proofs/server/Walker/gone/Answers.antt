@@ -1,8 +1,9 @@
 use Rattle.std.proofs.Common.{map, subst, sym, ap, ◌∙◌, refl}
-use Rattle.server_core.specs.Halves.{ServedSeen}
-use Rattle.server_core.specs.LinkSteps.{numbers, at_link, when_gone}
+use Rattle.served_links.specs.Halves.{ServedSeen}
+use Rattle.served_links.specs.Links.{numbers}
+use Rattle.served_links.specs.Changes.{at_link, when_gone}
 use Rattle.server_core.specs.Meaning.{CoreMeaning, Stands}
-use Rattle.server_core.proofs.LinkLemmas.{numbers_kept, at_keeps}
+use Rattle.served_links.proofs.LinkLemmas.{numbers_kept, at_keeps}
 use Rattle.server_core.proofs.CoreLemmas.{kept_at}
 use Rattle.server_core.proofs.SendLemmas.{stands_gone}
 use Rattle.server_core.proofs.server.Walker.gone.Goals as goal

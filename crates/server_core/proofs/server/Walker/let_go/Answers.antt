@@ -1,7 +1,7 @@
 use Rattle.std.proofs.Common.{filter}
-use Rattle.server_core.specs.LinkSteps.{is_none_of}
+use Rattle.served_links.specs.Links.{is_none_of}
 use Rattle.server_core.proofs.CoreLemmas.{kept_left}
-use Rattle.server_core.proofs.LinkLemmas.{rises_filter}
+use Rattle.served_links.proofs.LinkLemmas.{rises_filter}
 use Rattle.server_core.proofs.server.Walker.let_go.Goals as goal
 
 pub invariant_of-self : goal.invariant_of-self

@@ -1,9 +1,9 @@
 use Rattle.std.proofs.Common.{ap, arith, refl, subst, sym}
 use Rattle.aprs_history.specs.Counts.{totals_of}
 use Rattle.server_core.specs.Meaning.{listeners, setting_of}
-use Rattle.server_core.specs.LinkSteps.{Rises, numbers}
+use Rattle.served_links.specs.Links.{Rises, numbers}
 use Rattle.server_core.proofs.WindowLemmas.{current_empty}
-use Rattle.server_core.proofs.ServedSteps.{links_of}
+use Rattle.served_links.proofs.ServedSteps.{links_of}
 use Rattle.server_core.proofs.SendLemmas.{stands_listening, stands_new}
 use Rattle.server_core.proofs.server.Walker.new.Goals as goal
 

@@ -6,8 +6,9 @@ use Rattle.aprs_base.specs.declared.packets.Source.TheVariants as source
 use Rattle.aprs_history.specs.Stands.{place_kept}
 use Rattle.aprs_history.specs.Texts.{login_reply}
 use Rattle.std.proofs.lemmas.Result.{on_ok_weaker}
-use Rattle.server_core.specs.Halves.{ServedSeen}
-use Rattle.server_core.specs.LinkSteps.{after_login, at_link, with_session}
+use Rattle.served_links.specs.Halves.{ServedSeen}
+use Rattle.server_core.specs.LinkSteps.{after_login}
+use Rattle.served_links.specs.Changes.{at_link, with_session}
 use Rattle.server_core.specs.Meaning.{CoreMeaning}
 use Rattle.server_core.proofs.CoreLemmas.{kept_risen, relinked, risen_by, with_served}
 use Rattle.server_core.proofs.FollowLemmas.{text_number}

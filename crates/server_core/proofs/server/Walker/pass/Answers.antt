@@ -1,10 +1,11 @@
 use Rattle.std.proofs.Common.{◌≤◌, ◌∙◌, ap, refl, subst, sym}
-use Rattle.server_core.specs.Halves.{ServedSeen}
+use Rattle.served_links.specs.Halves.{ServedSeen}
 use Rattle.server_core.specs.Kept.{IsCurrent}
-use Rattle.server_core.specs.LinkSteps.{Rises, at_moment, numbers}
+use Rattle.served_links.specs.Links.{Rises, numbers}
+use Rattle.served_links.specs.Changes.{at_moment}
 use Rattle.server_core.specs.Meaning.{CoreMeaning}
 use Rattle.server_core.proofs.CoreLemmas.{kept_risen}
-use Rattle.server_core.proofs.LinkLemmas.{numbers_kept}
+use Rattle.served_links.proofs.LinkLemmas.{numbers_kept}
 use Rattle.server_core.proofs.WindowLemmas.{current_passed}
 use Rattle.server_core.proofs.server.Walker.pass.Goals as goal
 

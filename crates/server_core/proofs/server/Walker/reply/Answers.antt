@@ -1,5 +1,5 @@
 use Rattle.std.specs.Arc.{arc_value}
-use Rattle.server_core.specs.LinkSteps.{with_text}
+use Rattle.served_links.specs.Changes.{with_text}
 use Rattle.server_core.proofs.CoreLemmas.{kept_risen, risen_by}
 use Rattle.server_core.proofs.FollowLemmas.{text_number}
 use Rattle.server_core.proofs.server.Walker.reply.Goals as goal

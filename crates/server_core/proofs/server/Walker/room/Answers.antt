@@ -1,5 +1,5 @@
 use Rattle.std.proofs.Common.{map, subst, sym, refl}
-use Rattle.server_core.specs.LinkSteps.{at_link, with_room}
+use Rattle.served_links.specs.Changes.{at_link, with_room}
 use Rattle.server_core.specs.Steps.{Walks}
 use Rattle.server_core.proofs.CoreLemmas.{kept_at, walks_roomed, walks_no_room}
 use Rattle.server_core.proofs.server.Walker.room.Goals as goal

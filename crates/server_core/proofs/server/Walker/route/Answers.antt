@@ -3,7 +3,7 @@ use Rattle.aprs_base.specs.PartsSeen.{PartsSeen}
 use Rattle.tnc2_line.specs.Packet.{parts_of}
 use Rattle.aprs_history.specs.Verdicts.{read_and_routed}
 use Rattle.aprs_history.specs.declared.verdicts.Refusal.{Refusal}
-use Rattle.server_core.specs.LinkSteps.{others_from}
+use Rattle.served_links.specs.Links.{others_from}
 use Rattle.server_core.specs.Meaning.{CoreMeaning}
 use Rattle.server_core.specs.Objections.{Routes}
 use Rattle.server_core.proofs.server.Walker.route.Goals as goal

@@ -1,5 +1,5 @@
 use Rattle.std.proofs.Common.{◌∷◌, ◌++◌, [], ◌<◌, ap, arith, refl, subst, sym}
-use Rattle.server_core.specs.LinkSteps.{new_link_seen}
+use Rattle.served_links.specs.Changes.{new_link_seen}
 use Rattle.server_core.specs.Meaning.{CoreMeaning}
 use Rattle.server_core.proofs.CoreLemmas.{kept_pushed}
 use Rattle.server_core.proofs.server.Walker.serve.Goals as goal

@@ -5,8 +5,9 @@ use Rattle.aprs_history.specs.declared.verdicts.FilterAnswer.TheVariants.{Active
 use Rattle.aprs_history.specs.declared.verdicts.Verdict.TheVariants.{Filtered}
 use Rattle.aprs_history.specs.Stands.{friends_kept}
 use Rattle.std.proofs.lemmas.Result.{on_ok_weaker}
-use Rattle.server_core.specs.Halves.{ServedSeen}
-use Rattle.server_core.specs.LinkSteps.{at_link, found_in, with_filter}
+use Rattle.served_links.specs.Halves.{ServedSeen}
+use Rattle.served_links.specs.Changes.{at_link, with_filter}
+use Rattle.server_core.specs.LinkSteps.{found_in}
 use Rattle.server_core.specs.Meaning.{CoreMeaning}
 use Rattle.server_core.specs.Steps.{with_verdict}
 use Rattle.server_core.proofs.CoreLemmas.{kept_risen, relinked, risen_by, with_served}

@@ -5,7 +5,7 @@ use Rattle.aprs_history.specs.Verdicts.{verdict_of}
 use Rattle.line_verdict.specs.Voices.{voice_verdict}
 use Rattle.line_verdict.specs.declared.voices.Voice.{Voice}
 use Rattle.line_verdict.proofs.VerdictLemmas.{voice_says}
-use Rattle.server_core.specs.LinkSteps.{speaker_at}
+use Rattle.served_links.specs.Links.{speaker_at}
 use Rattle.server_core.specs.Steps.{scene_at}
 use Rattle.server_core.specs.Telling.{said_lines}
 use Rattle.server_core.proofs.server.Walker.take_line.Goals as goal

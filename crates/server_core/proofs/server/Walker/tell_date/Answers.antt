@@ -3,7 +3,7 @@ use Rattle.std.proofs.lemmas.Bool.{lt-ltb}
 use Rattle.std.specs.Arc.{arc_value}
 use Rattle.aprs_history.specs.Dates.{comment_text}
 use Rattle.aprs_history.specs.History.{comment_seconds}
-use Rattle.server_core.specs.LinkSteps.{with_date}
+use Rattle.served_links.specs.Changes.{with_date}
 use Rattle.server_core.specs.Steps.{Walks}
 use Rattle.server_core.proofs.CoreLemmas.{walks_dated}
 use Rattle.server_core.proofs.server.Walker.tell_date.Goals as goal

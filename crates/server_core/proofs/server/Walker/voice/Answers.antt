@@ -1,6 +1,6 @@
 use Rattle.std.proofs.Common.{◌∙◌, ap}
 use Rattle.line_verdict.specs.Voices.{voice_of}
-use Rattle.server_core.specs.LinkSteps.{speaker_at}
+use Rattle.served_links.specs.Links.{speaker_at}
 use Rattle.server_core.specs.Meaning.{CoreMeaning}
 use Rattle.server_core.proofs.server.Walker.voice.Goals as goal
 

@@ -1,0 +1,50 @@
+use Rattle.std.proofs.Common.{ap, arith, length, min, sym, take, ◌∙◌, ◌≡◌}
+use Rattle.std.proofs.Math.Seq.{take-nil}
+use Rattle.std.specs.List.{position}
+use Rattle.served_links.specs.Links.{has_that, pending_at}
+use Rattle.served_links.proofs.ServedLemmas.{state_at}
+use Rattle.served_links.proofs.ServedSteps.{half_at, links_of, pending_nowhere, pending_there, rests_of, within_feeds, within_halves}
+use Rattle.served_links.proofs.served.Served.offer.Goals as goal
+
+pub front_bytes-requires-clause-settled : goal.front_bytes-requires-clause-settled
+front_bytes-requires-clause-settled c = c.self.invariant.1 (ap rests_of c.self.view_is ∙ c.requires)
+
+pub front_bytes-requires-clause-within : goal.front_bytes-requires-clause-within
+front_bytes-requires-clause-within c =
+    let hs = c.self.inside.halves.items in
+    within_feeds c.in-Some.place hs c.self.inside.feeds c.self.invariant.0 (within_halves c.args.number c.in-Some.place hs c.as_slice.result.now c.as_slice.ensures.value c.in-Some.ensures)
+
+pub returns-in-Some-clause-count : goal.returns-in-Some-clause-count
+returns-in-Some-clause-count c =
+    let hs = c.self.inside.halves.items in
+    let feeds = c.self.inside.feeds in
+    let place = c.in-Some.place in
+    let within = within_halves c.args.number place hs c.as_slice.result.now c.as_slice.ensures.value c.in-Some.ensures in
+    let found = state_at feeds.links place (within_feeds place hs feeds c.self.invariant.0 within) in
+    let half = half_at hs place within in
+    c.front_bytes.ensures.count found.0 found.1
+    ∙ ap (λ bytes. min (length c.args.out.now) (length bytes))
+    (sym (pending_there c.args.number hs feeds c.self.invariant.0 place half.0 found.0 within half.1 found.1 (c.in-Some.ensures ∙ ap (position (has_that c.args.number)) c.as_slice.ensures.value) c.args.self.now.links (ap links_of c.self.view_is)))
+
+pub returns-in-Some-clause-bytes : goal.returns-in-Some-clause-bytes
+returns-in-Some-clause-bytes c =
+    let hs = c.self.inside.halves.items in
+    let feeds = c.self.inside.feeds in
+    let place = c.in-Some.place in
+    let within = within_halves c.args.number place hs c.as_slice.result.now c.as_slice.ensures.value c.in-Some.ensures in
+    let found = state_at feeds.links place (within_feeds place hs feeds c.self.invariant.0 within) in
+    let half = half_at hs place within in
+    c.front_bytes.ensures.bytes found.0 found.1
+    ∙ ap (take (length c.args.out.now))
+    (sym (pending_there c.args.number hs feeds c.self.invariant.0 place half.0 found.0 within half.1 found.1 (c.in-Some.ensures ∙ ap (position (has_that c.args.number)) c.as_slice.ensures.value) c.args.self.now.links (ap links_of c.self.view_is)))
+
+pub returns-in-None-clause-count : goal.returns-in-None-clause-count
+returns-in-None-clause-count c =
+    let none : length (pending_at c.args.number c.args.self.now.links) ≡ 0 =
+    ap length (pending_nowhere c.args.number c.self.inside.halves.items c.self.inside.feeds c.self.invariant.0 (c.in-None.ensures ∙ ap (position (has_that c.args.number)) c.as_slice.ensures.value) c.args.self.now.links (ap links_of c.self.view_is)) in
+    omega (arith, none)
+
+pub returns-in-None-clause-bytes : goal.returns-in-None-clause-bytes
+returns-in-None-clause-bytes c =
+    sym (ap (take (length c.args.out.now)) (pending_nowhere c.args.number c.self.inside.halves.items c.self.inside.feeds c.self.invariant.0 (c.in-None.ensures ∙ ap (position (has_that c.args.number)) c.as_slice.ensures.value) c.args.self.now.links (ap links_of c.self.view_is))
+    ∙ take-nil (length c.args.out.now))

@@ -1,0 +1,22 @@
+use Rattle.std.proofs.Common.{◌≡◌, ap, length, sym, ◌∙◌, false, refl}
+use Rattle.std.specs.List.{list_any}
+use Rattle.served_links.specs.Fed.{shows_kept}
+use Rattle.served_links.specs.Halves.{more}
+use Rattle.served_links.proofs.ServedLemmas.{any_same}
+use Rattle.served_links.proofs.ServedSteps.{links_of, none_more, none_shown, none_taken}
+use Rattle.served_links.proofs.served.Served.show.Goals as goal
+
+hidden : (c : goal.Else-shows_any) → list_any shows_kept c.args.self.now.links ≡ false
+hidden c =
+    ap (list_any shows_kept) (sym (ap links_of c.self.view_is))
+    ∙ any_same shows_kept (λ h s. refl) c.self.inside.halves.items c.self.inside.feeds.links c.self.invariant.0.match
+    ∙ ap (list_any shows_kept) (sym c.as_slice.ensures.value)
+    ∙ sym c.shows_any.ensures
+    ∙ c.if-shows_any.false
+
+pub returns-else-shows_any-clause-ok : goal.returns-else-shows_any-clause-ok
+returns-else-shows_any-clause-ok c = (
+  none_shown c.args.from.now c.args.line c.args.self.now.links (hidden c),
+  sym (ap (λ ls. more (length ls) c.args.self.now.queued) (none_taken c.args.from.now c.args.line c.args.self.now.links (hidden c)) ∙ none_more c.self.inside.halves.items c.self.inside.feeds c.self.inside.queued c.self.inside.rests c.args.self.now c.self.view_is),
+  refl,
+)

@@ -1,0 +1,32 @@
+-- The links that are served, whose halves are kept side by side.
+use Rattle.std.specs.Prelude.{ℕ, ◌+◌, ◌-◌, ◌^◌, Bool, List, min}
+use Rattle.aprs_history.specs.Stands.{LinkSeen}
+use Rattle.link_feeds.specs.Feeds.{FeedsSeen, put_in}
+use Rattle.served_links.specs.Fed.{AllMatch, joined_all}
+use Rattle.served_links.specs.Links.{Rises, numbers}
+
+-- the links as what came leaves them, matched or not; how many packet lines were ever put into queues; whether all that came is
+-- matched; and whether they rest, since no round is walked
+pub record ServedSeen : Type 0 where
+  pub links : List LinkSeen
+  pub queued : ℕ
+  pub settled : Bool
+  pub rests : Bool
+
+-- a count that is so much greater, which stays at a counter's last value
+abbrev pub more : ℕ → ℕ → ℕ
+more n count = min (count + n) (2 ^ 64 - 1)
+
+-- what was counted so far, and what wasn't yet
+abbrev pub served_seen : List LinkSeen → FeedsSeen → ℕ → Bool → ServedSeen
+served_seen halves feeds queued rests = record {
+  links = joined_all halves feeds.links;
+  queued = more (put_in feeds.links) queued;
+  settled = feeds.settled;
+  rests = rests;
+}
+
+-- the halves stand in the order of their numbers
+pub record AreHalves (halves : List LinkSeen) (feeds : FeedsSeen) : Type 0 where
+  pub match : AllMatch halves feeds.links
+  pub rising : Rises 0 (numbers halves) (2 ^ 32)

@@ -1,0 +1,6 @@
+pub mod Changes
+pub mod EndLines
+pub mod Fed
+pub mod Halves
+pub mod Links
+pub mod Pending

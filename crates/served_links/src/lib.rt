@@ -1,0 +1,14 @@
+//! The links that are served: what is kept of their sessions, and what they are fed.
+#![tactic(auto)]
+
+mod link;
+mod links;
+mod logins;
+mod messages;
+mod served;
+mod telling;
+
+pub use link::{SourcePlace, Timeouts, has_member, is_from};
+pub use logins::Logins;
+pub use messages::is_message;
+pub use served::Served;

@@ -1,0 +1,276 @@
+//! The links of the core, in the order of their numbers.
+ghost use Rattle.std.specs.Prelude.{◌≡◌, ◌++◌, ◌^◌, ℕ, [], IfOk, IsTrue, List, None, OnOk, Some, filter, map, nat_le, position};
+ghost use Rattle.std.specs.Arc.{arc_value};
+ghost use Rattle.std.specs.List.{list_any, prefix_len};
+ghost use Rattle.std.specs.List.Sorted.{IsStrictlyIncreasing};
+ghost use Rattle.aprs_base.specs.Cuts.{cuts_by};
+ghost use Rattle.aprs_base.specs.Held.{held_after};
+ghost use Rattle.aprs_history.specs.Stands.{LinkSeen};
+ghost use Rattle.aprs_history.specs.Trace.{placed, placed_all};
+ghost use Rattle.line_verdict.specs.Voices.{HasStation, voice_of};
+ghost use Rattle.served_links.specs.Fed.{AllMatch, offer_of, shows_kept};
+ghost use Rattle.served_links.specs.Links.{Rises, client_at, clients_in, filters_at, has_number, has_that, held_at, is_late_link, is_lost, is_none_of, numbers, speaker_at, submitted_from};
+ghost use Rattle.served_links.specs.Changes.{at_link, is_asked_at, when_gone, with_bytes, with_room};
+ghost use Rattle.worker_match.specs.Items.{item_seen};
+ghost use Rattle.worker_match.specs.Seen.{Came};
+ghost use Rattle.worker_match.specs.Seen as worker;
+ghost use Rattle.worker_match.specs.Walk.{IsOrdered};
+
+use crate::link::{Link, SourcePlace, Timeouts};
+use crate::messages::is_message;
+use aprs_base::{Cut, Cutter, Memory, Packet, Shared, Source};
+use line_verdict::Voice;
+use std::alloc::Global;
+use worker_match::Item;
+
+/// Where the link of that number stands.
+pub(crate) fn place_of(links: &[Link], number: u32) -> Option<usize>
+    requires { Rises 0 (numbers links.now) (2 ^ 32) }
+    ensures { result ≡ position (has_that number) links.now }
+{
+    links.binary_search_by_key(&number, |link| link.number).ok()
+}
+
+/// A copy of that link's cutter.
+pub(crate) fn cutter_at(links: &[Link], number: u32) -> Option<Cutter>
+    requires { Rises 0 (numbers links.now) (2 ^ 32) }
+    ensures { result ≡ held_at number links.now }
+{
+    match place_of(links, number) {
+        Some(place) => Some(links[place].cutter()),
+        None => None,
+    }
+}
+
+/// The link has room again.
+pub(crate) fn give_room(links: &mut Vec<Link>, number: u32)
+    requires { Rises 0 (numbers links.old.items) (2 ^ 32) }
+    ensures { links.new.items ≡ map (at_link number with_room) links.old.items }
+{
+    match place_of(links.as_slice(), number) {
+        Some(place) => links[place].give_room(),
+        None => {}
+    }
+}
+
+/// A send found the link gone.
+pub(crate) fn lose(links: &mut Vec<Link>, number: u32)
+    requires { Rises 0 (numbers links.old.items) (2 ^ 32) }
+    ensures { links.new.items ≡ map (at_link number when_gone) links.old.items }
+{
+    match place_of(links.as_slice(), number) {
+        Some(place) => links[place].lose(),
+        None => {}
+    }
+}
+
+/// Whether the message rule can ask for the packet nowhere: it is no message, and nobody heard its receiver or is owed it.
+fn asks_nobody(packet: &Packet, hearers: &[u32], owed: &[u32]) -> bool
+    ensures { IsTrue result → (links : List LinkSeen) → filter (is_asked_at packet.now hearers.now owed.now) links ≡ [] }
+{
+    if is_message(packet) || !hearers.is_empty() {
+        return false;
+    }
+    owed.is_empty()
+}
+
+/// The numbers of the links that the message rule asks for, where these links heard the packet's receiver and are owed it.
+fn asked(
+    alloc: Global,
+    links: &[Link],
+    packet: &Packet,
+    hearers: &[u32],
+    owed: &[u32],
+) -> Result<Vec<u32>, Memory>
+    requires hearers { IsStrictlyIncreasing hearers.now }
+    requires owed { IsStrictlyIncreasing owed.now }
+    ensures { IfOk result (λ v. v.items ≡ numbers (filter (is_asked_at packet.now hearers.now owed.now) links.now)) }
+{
+    let mut numbers = Vec::new(alloc);
+    if asks_nobody(packet, hearers, owed) {
+        return Ok(numbers);
+    }
+    for link in links {
+        if link.is_asked(packet, hearers, owed) {
+            numbers.push(link.number())?;
+        }
+    }
+    Ok(numbers)
+}
+
+/// An accepted packet as it is offered to all links.
+pub(crate) fn offered(
+    alloc: Global,
+    links: &[Link],
+    packet: &Packet,
+    shared: &Shared,
+    source: &SourcePlace,
+    hearers: &[u32],
+    owed: &[u32],
+) -> Result<Item, Memory>
+    requires hearers { IsStrictlyIncreasing hearers.now }
+    requires owed { IsStrictlyIncreasing owed.now }
+    requires rises { Rises 0 (numbers links.now) (2 ^ 32) }
+    requires same { arc_value shared.now ≡ packet.now }
+    ensures exact { IfOk result (λ item. item_seen item ≡ Came (offer_of packet.now source.now (numbers (filter (is_asked_at packet.now hearers.now owed.now) links.now)))) }
+    ensures ordered { IfOk result (λ item. IsOrdered (item_seen item)) }
+{
+    let extra = asked(alloc, links, packet, hearers, owed)?;
+    Ok(Item::Packet {
+        packet: shared.clone()?,
+        dupe: false,
+        submitted: source.submitted,
+        known: source.place,
+        gate: source.gate,
+        extra,
+    })
+}
+
+/// Whether one of them is shown the duplicates that others are refused.
+pub(crate) fn shows_any(links: &[Link]) -> bool
+    ensures { result ≡ list_any shows_kept links.now }
+{
+    links.iter().any(|link| link.shows_duplicates())
+}
+
+/// The numbers of the links that a send found gone.
+pub(crate) fn lost(alloc: Global, links: &[Link]) -> Result<Vec<u32>, Memory>
+    ensures { IfOk result (λ v. v.items ≡ numbers (filter is_lost links.now)) }
+{
+    let mut numbers = Vec::new(alloc);
+    for link in links {
+        if link.is_lost() {
+            numbers.push(link.number())?;
+        }
+    }
+    Ok(numbers)
+}
+
+/// The numbers of the links that end by time.
+pub(crate) fn late(
+    alloc: Global,
+    links: &[Link],
+    timeouts: Timeouts,
+    now: u64,
+) -> Result<Vec<u32>, Memory>
+    ensures { IfOk result (λ v. v.items ≡ numbers (filter (is_late_link timeouts now) links.now)) }
+{
+    let mut numbers = Vec::new(alloc);
+    for link in links {
+        if link.is_late(timeouts, now) {
+            numbers.push(link.number())?;
+        }
+    }
+    Ok(numbers)
+}
+
+/// The links of these numbers leave.
+pub(crate) fn drop_these(links: &mut Vec<Link>, numbers: &[u32])
+    ensures { links.new.items ≡ filter (is_none_of numbers.now) links.old.items }
+{
+    links.retain(|link| link.is_none_of(numbers));
+}
+
+/// The numbers of all links.
+pub(crate) fn all(alloc: Global, links: &[Link]) -> Result<Vec<u32>, Memory>
+    ensures { IfOk result (λ v. v.items ≡ numbers links.now) }
+{
+    let mut numbers = Vec::new(alloc);
+    for link in links {
+        numbers.push(link.number())?;
+    }
+    Ok(numbers)
+}
+
+/// Whether there is a link of that number.
+pub(crate) fn has_link(links: &[Link], number: u32) -> bool
+    requires { Rises 0 (numbers links.now) (2 ^ 32) }
+    ensures { result ≡ has_number number links.now }
+{
+    place_of(links, number).is_some()
+}
+
+/// Who speaks on that link.
+pub(crate) fn voice_at(links: &[Link], number: u32) -> Voice
+    requires { Rises 0 (numbers links.now) (2 ^ 32) }
+    ensures value { result ≡ voice_of (speaker_at number links.now) }
+    ensures station { HasStation result }
+{
+    match place_of(links, number) {
+        Some(place) => links[place].voice(),
+        None => Voice::Nameless { filters: false },
+    }
+}
+
+/// Whether that link is a client.
+pub(crate) fn is_client_at(links: &[Link], number: u32) -> bool
+    requires { Rises 0 (numbers links.now) (2 ^ 32) }
+    ensures { result ≡ client_at number links.now }
+{
+    match place_of(links, number) {
+        Some(place) => links[place].is_client(),
+        None => false,
+    }
+}
+
+/// Whether what comes from there was submitted here.
+pub(crate) fn is_submitted(links: &[Link], from: &Source) -> bool
+    requires { Rises 0 (numbers links.now) (2 ^ 32) }
+    ensures { result ≡ submitted_from from.now links.now }
+{
+    match from {
+        Source::Link(number) => is_client_at(links, *number),
+        Source::Submit(_) => true,
+        Source::Peer(_) => false,
+    }
+}
+
+/// How many clients there are.
+pub(crate) fn count_clients(links: &[Link]) -> usize
+    ensures { result ≡ clients_in links.now }
+{
+    let mut count = 0;
+    for link in links {
+        if link.is_client() {
+            count += 1;
+        }
+    }
+    count
+}
+
+/// Whether the port of that link has filters.
+pub(crate) fn has_filters_at(links: &[Link], number: u32) -> bool
+    requires { Rises 0 (numbers links.now) (2 ^ 32) }
+    ensures { result ≡ filters_at number links.now }
+{
+    match place_of(links, number) {
+        Some(place) => links[place].has_filters(),
+        None => false,
+    }
+}
+
+/// The link of that number brought bytes: what they cut.
+pub(crate) fn bring(
+    alloc: Global,
+    links: &mut Vec<Link>,
+    number: u32,
+    moment: u64,
+    bytes: &[u8],
+) -> Result<Vec<Cut>, Memory>
+    requires { Rises 0 (numbers links.old.items) (2 ^ 32) }
+    ensures numbers { numbers links.new.items ≡ numbers links.old.items }
+    ensures halves { (states : List worker.LinkSeen) → AllMatch links.old.items states → AllMatch links.new.items states }
+    ensures links { (before : List ℕ) → held_at number links.old.items ≡ Some (held_after before)
+        → OnOk result (links.new.items ≡ map (at_link number (with_bytes moment (held_after (before ++ bytes.now)))) links.old.items) }
+    ensures cuts { (before : List ℕ) → held_at number links.old.items ≡ Some (held_after before) → IfOk result (λ cuts. cuts.items ≡ cuts_by before bytes.now) }
+    ensures nowhere { held_at number links.old.items ≡ None → IfOk result (λ cuts. (cuts.items ≡ []) × (links.new.items ≡ links.old.items)) }
+{
+    let mut cuts = Vec::new(alloc);
+    match place_of(links.as_slice(), number) {
+        Some(place) => {
+            links[place].bring(alloc, moment, bytes, &mut cuts)?;
+            Ok(cuts)
+        }
+        None => Ok(cuts),
+    }
+}

@@ -1,6 +1,0 @@
-use Rattle.std.proofs.Common.{◌≡◌, take, filter}
-use Rattle.server_core.specs.LinkSteps.{is_asked_at, numbers}
-use Rattle.server_core.proofs.links.asked.Given as goal
-
-abbrev pub invariant-loop-link : goal.invariant-loop-link
-invariant-loop-link l = l.numbers.items ≡ numbers (filter (is_asked_at l.packet l.hearers l.owed) (take l.link-index l.links))

@@ -1,7 +1,0 @@
-use Rattle.std.proofs.Common.{◌∙◌}
-use Rattle.server_core.specs.LinkSteps.{other_login}
-use Rattle.server_core.proofs.LoginLemmas.{any_of}
-use Rattle.server_core.proofs.logins.have_other_login.Goals as goal
-
-pub returns : goal.returns
-returns c = c.any_other_has_login.ensures ∙ any_of c.args.call.now (other_login c.args.number) c.args.links.now
