@@ -1,10 +1,5 @@
 -- A link that is overfull stays as it is.
-use Rattle.std.proofs.Common.{◌≡◌, ℕ, ◌+◌, ◌-◌, ◌≤◌, ◌<◌, ◌==◌, Bool, true, false, not, ◌&&◌, ◌||◌, List, [], ◌∷◌, ◌++◌, length, map, refl, sym, ap, ◌∙◌, subst, arith, Option, Some, None, ⊎_elim, append-nil, length-append, length-drop, nat_lt, nat_le, is_some, drop, eq-eqb, min, if◌then◌else◌}
-use Rattle.std.proofs.lemmas.Bool.{true≢false, eqb-true, cases_Bool, leb-true, le-leb, lt-leb, ltb-true, ltb-false, false_from_ne_true, true_from_ne_false}
-use Rattle.std.proofs.Math.Nat.{le-max_right}
-use Rattle.std.proofs.Math.Seq.{drop-append-add}
-use Rattle.std.proofs.lemmas.List.Concat.{flat_map-append}
-use Rattle.std.proofs.lemmas.List.{map-append}
+use Rattle.std.proofs.Common.{◌≡◌, ℕ, Bool, true, false, List, refl, Option, Some, None, if◌then◌else◌}
 use Rattle.filter_eval.specs.declared.seen.Seen.{Seen}
 use Rattle.aprs_history.specs.Stands.{LinkSeen}
 use Rattle.served_links.specs.Changes.{has_room, with_text, with_seen}

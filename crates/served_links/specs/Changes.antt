@@ -1,7 +1,6 @@
 -- What each thing that comes changes of a link.
-use Rattle.std.specs.Prelude.{◌≡◌, ℕ, ◌+◌, ◌^◌, min, ◌<◌, ◌==◌, ◌≤◌, ◌-◌, Bool, true, false, is_none, nat_le, nat_lt, List, [], ◌∷◌, ◌++◌, length, map, filter, not, ◌&&◌, ◌||◌, is_some, Option, Some, None, if◌then◌else◌, ⊤}
-use Rattle.std.specs.List.{list_any, flat_map, zip}
-use Rattle.std.specs.Option.{option_and_then}
+use Rattle.std.specs.Prelude.{ℕ, ◌==◌, Bool, true, false, nat_lt, List, [], ◌∷◌, length, map, not, ◌&&◌, ◌||◌, is_some, Option, Some, None, if◌then◌else◌}
+use Rattle.std.specs.List.{zip}
 use Rattle.aprs_base.specs.PacketSeen.{PacketSeen}
 use Rattle.aprs_base.specs.Held.{Held, held_after}
 use Rattle.filter_lang.specs.Terms.{TermSeen}
@@ -17,7 +16,6 @@ use Rattle.aprs_history.specs.Messages.{is_to_login}
 use Rattle.aprs_history.specs.Sights.{named_call}
 use Rattle.aprs_history.specs.Texts.{most_waiting, opening_wants, shows_duplicates}
 use Rattle.aprs_base.specs.declared.packets.Source.{Source}
-use Rattle.aprs_base.specs.declared.packets.Source.TheVariants as source
 use Rattle.served_links.specs.declared.link.SourcePlace.{SourcePlace}
 use Rattle.served_links.specs.Pending.{with_line, without_bytes}
 use Rattle.served_links.specs.Links.{has_that}

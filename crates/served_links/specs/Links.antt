@@ -1,7 +1,6 @@
 -- Links by their numbers, and what is asked of them.
-use Rattle.std.specs.Prelude.{◌≡◌, ℕ, ◌+◌, ◌^◌, min, ◌<◌, ◌==◌, ◌≤◌, ◌-◌, Bool, true, false, is_none, nat_le, nat_lt, List, [], ◌∷◌, ◌++◌, length, map, filter, not, ◌&&◌, ◌||◌, is_some, Option, Some, None, if◌then◌else◌, ⊤}
-use Rattle.std.specs.List.{list_any, flat_map, zip}
-use Rattle.std.specs.Option.{option_and_then}
+use Rattle.std.specs.Prelude.{ℕ, ◌<◌, ◌==◌, ◌≤◌, ◌-◌, Bool, true, false, is_none, nat_le, nat_lt, List, [], ◌∷◌, length, map, filter, not, ◌&&◌, ◌||◌, Option, Some, None, if◌then◌else◌}
+use Rattle.std.specs.List.{list_any, flat_map}
 use Rattle.aprs_base.specs.Bytes.{is_station}
 use Rattle.aprs_base.specs.Held.{Held}
 use Rattle.aprs_history.specs.declared.verdicts.Session.{Session}
@@ -13,7 +12,6 @@ use Rattle.aprs_history.specs.Verdicts.{Speaker, Visitor}
 use Rattle.aprs_base.specs.declared.packets.PortKind.TheVariants as port
 use Rattle.aprs_base.specs.declared.packets.Source.{Source}
 use Rattle.aprs_base.specs.declared.packets.Source.TheVariants as source
-use Rattle.aprs_history.specs.Setting.{Peer}
 use Rattle.served_links.specs.declared.link.Timeouts.{Timeouts}
 use Rattle.served_links.specs.Pending.{pending_bytes}
 
