@@ -6,9 +6,9 @@ ghost use Rattle.aprs_history.specs.Setting.{is_client_kind, kind_at, peer_from}
 ghost use Rattle.aprs_history.specs.Journal.{group_of};
 ghost use Rattle.server_core.specs.Meaning.{numbered, peer_of, setting_of, timeouts_of};
 
-use served_links::Timeouts;
 use aprs_base::{Addr, Call, ListenSpec, PortKind};
 use aprs_conf::{Conf, Listen, PeerSpec};
+use served_links::Timeouts;
 
 /// The server's call.
 pub(crate) fn server_of(conf: &Conf) -> &Call

@@ -7,10 +7,10 @@ ghost use Rattle.aprs_history.specs.Messages.{is_message, is_position};
 ghost use Rattle.heard_routing.specs.Heard.{courtesies, is_among, without_promises};
 ghost use Rattle.server_core.specs.LinkSteps.{call_in, forgotten_all, hearers_of, may_promise, noted_from, promised_all, promised_one, receiver_of};
 
-use served_links::{Served, is_from, is_message};
 use aprs_base::{Call, Memory, Packet, Source, Word9};
 use aprs_body::class;
 use heard_routing::Heard;
+use served_links::{Served, is_from, is_message};
 use std::alloc::Global;
 
 pub(crate) fn is_position(packet: &Packet) -> bool

@@ -9,9 +9,9 @@ ghost use Rattle.uplinks_peers.specs.Uplinks.{acts_at, is_dialled, untried, upli
 ghost use Rattle.uplinks_peers.specs.declared.uplinks.UpEvent.TheVariants as up;
 
 use crate::acts::CastOut;
-use served_links::Served;
 use aprs_base::{Line, Memory};
 use aprs_conf::PeerSpec;
+use served_links::Served;
 use std::alloc::Global;
 use std::marker::Model;
 use std::sync::Arc;

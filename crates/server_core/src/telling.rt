@@ -4,10 +4,10 @@ ghost use Rattle.aprs_history.specs.Journal.{answer_lines, label, opening_lines,
 ghost use Rattle.aprs_history.specs.Trace.{AtListener};
 ghost use Rattle.server_core.specs.Telling.{has_joined, is_joining, refused_by, refused_line};
 
-use served_links::has_member;
 use aprs_base::{Event, JournalLine, Memory, Source};
 use aprs_history::{Admission, EndReason, FilterAnswer, Verdict};
 use journal_lines::{end_line, filter_line, login_line, open_line, refusal_line};
+use served_links::has_member;
 
 /// What was said from there, where its verdict has lines. `group` is the number of the peer group's listener.
 pub(crate) fn tell_verdict(

@@ -3,9 +3,9 @@ ghost use Rattle.std.specs.Prelude.{◌≡◌, OnOk};
 
 use super::Walker;
 use super::datagrams::cut_datagram;
-use served_links::Served;
 use aprs_base::{Cut, Cutter, Event, Line, Memory};
 use indexmap::IndexMap;
+use served_links::Served;
 use std::alloc::Global;
 use std::hash::RandomState;
 use std::marker::Sync;

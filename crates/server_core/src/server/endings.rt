@@ -13,8 +13,8 @@ ghost use Rattle.server_core.specs.Telling.{KnowUnasked, Tells};
 
 use super::Walker;
 use crate::conf::timeouts;
-use crate::numbers::place_all;
 use crate::messages::forget_all;
+use crate::numbers::place_all;
 use aprs_base::{Event, JournalLine, Memory};
 use std::alloc::Global;
 

@@ -17,13 +17,13 @@ ghost use Rattle.tnc2_line.specs.Packet.{IsParts, parts_of, text_of};
 
 use super::{Walker, raised};
 use crate::conf::peers_of;
-use served_links::SourcePlace;
 use crate::messages::{hearers_of, is_position, note_from, owed_to, promise_all, receiver_of};
 use aprs_base::{Body, JournalLine, Line, Memory, Packet, Parts, Shared, Source};
 use aprs_history::Verdict;
 use dupe_window::Key;
 use line_verdict::line_of;
 use q_construct::Origin;
+use served_links::SourcePlace;
 use std::alloc::Global;
 use std::sync::Arc;
 
