@@ -32,7 +32,6 @@ use Rattle.aprs_history.specs.Verdicts.{Carrier, Scene, Speaker, Visitor, answer
 use Rattle.login_pass.specs.Login.{login_of, login_with, words_of, later, first_text, is_keyword, code_of, filter_in, is_verified}
 use Rattle.login_pass.specs.declared.login_line.LoginFault.{LoginFault}
 use Rattle.login_pass.specs.declared.login_line.LoginFault.TheVariants as fault
-use Rattle.aprs_base.specs.PacketSeen.{PacketSeen}
 use Rattle.aprs_base.specs.declared.cutting.Cut.{Cut}
 use Rattle.aprs_base.specs.declared.cutting.Cut.TheVariants as cut
 use Rattle.dupe_window.specs.Keys.{is_text}
