@@ -3,11 +3,12 @@ ghost use Rattle.std.specs.Prelude.{◌≡◌, ◌≤◌, ◌&&◌, ◌∷◌, S
 ghost use Rattle.std.specs.List.{list_all, slice_split};
 ghost use Rattle.std.specs.Option.{option_map};
 ghost use Rattle.aprs_base.specs.Bytes.{is_digit, is_station};
-ghost use Rattle.login_pass.specs.Login.{is_code_number, number_from};
-ghost use Rattle.aprs_conf.specs.Arguments.{clients_of, code_of, host_of, ip_of, is_dot, is_plain, kind_of, last_in, octet_of, octets_in, port_of, same, seconds_of, station_of, time_of};
+ghost use Rattle.login_pass.specs.Login.{number_from};
+ghost use Rattle.aprs_conf.specs.Arguments.{clients_of, host_of, ip_of, is_dot, is_plain, kind_of, last_in, octet_of, octets_in, port_of, same, seconds_of, station_of, time_of};
 
 use aprs_base::{Call, PortKind, first_place};
 use arrayvec::ArrayVec;
+use login_pass::code_number;
 
 /// The most seconds of a time.
 const LONGEST: u32 = 10_000_000;
@@ -33,42 +34,13 @@ fn all_digits(text: &[u8]) -> bool
     text.iter().all(|byte| byte.is_ascii_digit())
 }
 
-/// Whether the text is one to five digits.
-fn is_number(text: &[u8]) -> bool
-    ensures { result ≡ is_code_number text.now }
-{
-    !text.is_empty() && text.len() <= 5 && all_digits(text)
-}
-
-/// The number that at most five digits spell.
-fn spelt(digits: &[u8]) -> u32
-    requires { is_code_number digits.now ≡ true }
-    ensures { result ≡ number_from 0 digits.now }
-{
-    let mut number: u32 = 0;
-    for digit in digits {
-        number = number * 10 + u32::from(*digit - b'0');
-    }
-    number
-}
-
-/// A passcode.
-pub fn code(text: &[u8]) -> Option<u32>
-    ensures { result ≡ code_of text.now }
-{
-    if is_number(text) {
-        Some(spelt(text))
-    } else {
-        None
-    }
-}
-
 /// A number of one to five digits without leading zeros.
 fn plain_number(text: &[u8]) -> Option<u32>
     ensures { result ≡ (if is_plain text.now then Some (number_from 0 text.now) else None) }
 {
-    if is_number(text) && (text.len() == 1 || text[0] != b'0') {
-        Some(spelt(text))
+    let number = code_number(text)?;
+    if text.len() == 1 || text[0] != b'0' {
+        Some(number)
     } else {
         None
     }

@@ -6,11 +6,12 @@ ghost use Rattle.aprs_conf.specs.Seen.{DraftSeen};
 ghost use Rattle.aprs_conf.specs.Reading.{Becomes, BecomesUnless, Fails};
 ghost use Rattle.aprs_conf.specs.Words.{arguments_of};
 
-use crate::arguments::{clients, code, host, ip, kind, port, station, time};
+use crate::arguments::{clients, host, ip, kind, port, station, time};
 use crate::errors::{ConfFault, LineError};
 use crate::types::{Listen, PeerSpec};
 use crate::words::{count_arguments, five, listen_words, next_argument, one};
 use aprs_base::{Addr, Call, ListenSpec, Text, UplinkSpec};
+use login_pass::code_number;
 use std::alloc::Global;
 use std::marker::Model;
 
@@ -78,7 +79,7 @@ pub fn add_code(draft: &mut Draft, args: &[u8]) -> Result<(), ConfFault>
     ensures { Becomes result draft.new (code_says draft.old (arguments_of args.now)) }
 {
     let text = one(args).ok_or(ConfFault::BadCount)?;
-    let code = code(text).ok_or(ConfFault::BadNumber)?;
+    let code = code_number(text).ok_or(ConfFault::BadNumber)?;
     draft.code = Some(code);
     Ok(())
 }

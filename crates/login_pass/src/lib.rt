@@ -5,5 +5,5 @@ mod login_line;
 mod pass;
 mod words;
 
-pub use login_line::{Login, LoginFault, read_login};
+pub use login_line::{Login, LoginFault, code_number, read_login};
 pub use pass::passcode;

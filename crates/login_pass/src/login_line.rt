@@ -1,5 +1,5 @@
 //! The login line.
-ghost use Rattle.std.specs.Prelude.{◌≡◌, ℕ, ◌+◌, ◌≤◌, List, length, drop, true, false, IfSome, IfNone};
+ghost use Rattle.std.specs.Prelude.{◌≡◌, ℕ, ◌+◌, ◌≤◌, List, Some, None, length, drop, true, false, if◌then◌else◌, IfSome, IfNone};
 ghost use Rattle.std.specs.List.{list_all};
 ghost use Rattle.aprs_base.specs.Bytes.{is_digit, is_station};
 ghost use Rattle.login_pass.specs.Login.{code_of, filter_in, is_code_number, is_verified, login_of, number_from, trimmed};
@@ -74,17 +74,25 @@ fn number(digits: &[u8]) -> u32
     number
 }
 
+/// The number that one to five digits spell.
+pub fn code_number(text: &[u8]) -> Option<u32>
+    ensures { result ≡ (if is_code_number text.now then Some (number_from 0 text.now) else None) }
+{
+    if is_number(text) {
+        Some(number(text))
+    } else {
+        None
+    }
+}
+
 /// The code that a word spells.
 fn read_code(text: &[u8]) -> Option<Option<u32>>
     ensures { result ≡ code_of text.now }
 {
     if text == b"-1".as_slice() {
-        Some(None)
-    } else if is_number(text) {
-        Some(Some(number(text)))
-    } else {
-        None
+        return Some(None);
     }
+    Some(Some(code_number(text)?))
 }
 
 /// Place and length of what stands from `start` on, without the blanks at both ends.
