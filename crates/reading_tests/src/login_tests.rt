@@ -1,6 +1,6 @@
 //! Logins from the description of the line, and passcodes that are in use.
 use aprs_base::{Call, Line};
-use login_pass::{LoginFault, passcode, read_login};
+use login_pass::{LoginFault, code_number, passcode, read_login};
 
 #[test]
 fn gives_known_passcodes(rt: HostRuntime) {
@@ -64,5 +64,21 @@ fn names_the_first_fault(rt: HostRuntime) {
     for (text, want) in cases {
         let line = Line::new(text).expect(&rt, "a line");
         assert!(rt; read_login(&line) == Err(want));
+    }
+}
+
+#[test]
+fn reads_the_digits_of_a_code(rt: HostRuntime) {
+    let cases: [(&[u8], Option<u32>); 7] = [
+        (b"0", Some(0)),
+        (b"00013", Some(13)),
+        (b"99999", Some(99_999)),
+        (b"", None),
+        (b"100000", None),
+        (b"-1", None),
+        (b"1a", None),
+    ];
+    for (text, want) in cases {
+        assert!(rt; code_number(text) == want);
     }
 }
