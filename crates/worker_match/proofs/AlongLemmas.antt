@@ -1,5 +1,5 @@
 -- A walk along the run of the items that are met.
-use Rattle.std.proofs.Common.{◌≡◌, ℕ, suc, ◌+◌, ◌-◌, ◌<◌, ◌≤◌, ◌^◌, Bool, true, false, ◌&&◌, List, [], ◌∷◌, ◌++◌, length, take, drop, get_or, inl, inr, OnOk, Result, Ok, Err, refl, ap, sym, ◌∙◌, subst, cond, arith}
+use Rattle.std.proofs.Common.{◌≡◌, ℕ, suc, ◌+◌, ◌-◌, ◌<◌, ◌≤◌, ◌^◌, true, false, List, [], ◌∷◌, ◌++◌, length, take, drop, get_or, inl, inr, OnOk, Result, Ok, Err, ap, sym, ◌∙◌, subst, cond, arith}
 use Rattle.std.specs.List.{flat_map, list_all}
 use Rattle.std.proofs.lemmas.Bool.{cases_Bool}
 use Rattle.std.proofs.lemmas.List.{drop_more, length-drop}
@@ -8,7 +8,9 @@ use Rattle.worker_match.specs.Items.{item_seen, items_seen}
 use Rattle.worker_match.specs.Seen.{LinkSeen, OfferSeen, Came}
 use Rattle.worker_match.specs.Walk.{wants, with_copy, with_packet}
 use Rattle.worker_match.specs.Runs.{IsRunOf, RunSeen, fresh, is_packet, line_of, with_run}
+use Rattle.worker_match.proofs.RunLemmas.{both}
 use Rattle.worker_match.proofs.TakenLemmas.{one_taken}
+use Rattle.worker_match.proofs.WalkLemmas.{left_is}
 
 -- the run's line of a wanted packet
 pub placed_taken : {T E : Type 0} (result : Result T E) (lines : List (List ℕ)) (offer : OfferSeen) (link new : LinkSeen)
@@ -31,10 +33,6 @@ pub record IsAlong (items : List Item) (lines : List (List ℕ)) (i place : ℕ)
 pub along : (items : List Item) (run : RunSeen) → IsRunOf (items_seen items) run → IsAlong items run.lines 0 0
 along items run is = record { packets = is.packets; left = is.lines; few = omega arith; within = omega arith }
 
-both : (a b : Bool) → (a && b) ≡ true → (a ≡ true) × (b ≡ true)
-both true b is = (refl, is)
-both false b is = absurd (cc)
-
 -- the first line that is left
 one_line : (lines : List (List ℕ)) (place : ℕ) (line : List ℕ) (rest : List (List ℕ)) → drop place lines ≡ line ∷ rest
     → (place + 1 ≤ length lines) × (drop (place + 1) lines ≡ rest)
@@ -45,14 +43,11 @@ one_line lines place line rest is =
     (omega arith, (let tail : drop (place + 1) lines ≡ rest = cc in tail))
 
 module _ (items : List Item) (lines : List (List ℕ)) (i place : ℕ) (x : Item) (so_far : IsAlong items lines i place) (lt : i < length items) (at : x ≡ get_or items i x) where
-  left_is : drop i items ≡ x ∷ drop (i + 1) items
-  left_is = drop_more items i x lt ∙ ap (λ y. y ∷ drop (i + 1) items) (sym at)
-
   packets_left : (is_packet (item_seen x) ≡ true) × (list_all is_packet (items_seen (drop (i + 1) items)) ≡ true)
-  packets_left = both _ _ (sym (ap (λ left. list_all is_packet (items_seen left)) left_is) ∙ so_far.packets)
+  packets_left = both _ _ (sym (ap (λ left. list_all is_packet (items_seen left)) (left_is items i x lt at)) ∙ so_far.packets)
 
   lines_left : drop place lines ≡ line_of (item_seen x) ++ flat_map line_of (items_seen (drop (i + 1) items))
-  lines_left = so_far.left ∙ ap (λ left. flat_map line_of (items_seen left)) left_is
+  lines_left = so_far.left ∙ ap (λ left. flat_map line_of (items_seen left)) (left_is items i x lt at)
 
   -- the item's lines are the next of the run
   pub along_more : (offer : OfferSeen) (step : ℕ) → item_seen x ≡ Came offer → step ≡ length (fresh offer.dupe offer.packet.line)

@@ -2,7 +2,7 @@
 use Rattle.std.proofs.Common.{◌≡◌, ℕ, zero, suc, ◌+◌, ◌-◌, ◌<◌, ◌≤◌, ◌^◌, true, false, List, [], ◌∷◌, ◌++◌, length, take, drop, get_or, ap, sym, ◌∙◌, cond, arith, append_assoc, append-nil}
 use Rattle.std.specs.List.{flat_map}
 use Rattle.std.proofs.Math.Seq.{drop-nil, take-add}
-use Rattle.std.proofs.lemmas.List.{drop_all, drop_more}
+use Rattle.std.proofs.lemmas.List.{drop_all}
 use Rattle.worker_match.specs.declared.items.Item.{Item}
 use Rattle.worker_match.specs.Items.{item_seen, items_seen}
 use Rattle.worker_match.specs.Seen.{LinkSeen, OfferSeen, Came}
@@ -11,6 +11,7 @@ use Rattle.worker_match.specs.Runs.{IsRunOf, RunSeen, fresh, suits_others, with_
 use Rattle.worker_match.proofs.AlongLemmas.{IsAlong, along, along_more}
 use Rattle.worker_match.proofs.RunLemmas.{line_of_others, others_suited}
 use Rattle.worker_match.proofs.TakenLemmas.{both_taken}
+use Rattle.worker_match.proofs.WalkLemmas.{left_is}
 
 drop_twice : {X : Type 0} (from to : ℕ) (xs : List X) → from ≤ to → drop (to - from) (drop from xs) ≡ drop to xs
 drop_twice zero to xs le = ap (λ n. drop n xs) (let same : to - 0 ≡ to = omega arith in same)
@@ -37,7 +38,7 @@ module _ (items : List Item) (lines : List (List ℕ)) (start link : LinkSeen) (
 
   others_left : flat_map (line_of_others start.link) (items_seen (drop i items)) ≡ cond (is_from start.link offer.packet.from) [] (fresh offer.dupe offer.packet.line) ++ later
   others_left =
-      ap (λ left. flat_map (line_of_others start.link) (items_seen left)) (drop_more items i x lt ∙ ap (λ y. y ∷ drop (i + 1) items) (sym at))
+      ap (λ left. flat_map (line_of_others start.link) (items_seen left)) (left_is items i x lt at)
       ∙ ap (λ y. line_of_others start.link y ++ later) seen
 
   next : IsAlong items lines (i + 1) (place + step) × (take (place + step - place) (drop place lines) ≡ fresh offer.dupe offer.packet.line)

@@ -4,7 +4,7 @@ use Rattle.std.specs.List.{flat_map, list_all, list_any}
 use Rattle.std.proofs.Math.Bool.{and-false, or-false, or-true}
 use Rattle.std.proofs.lemmas.Bool.{cases_Bool, cases_eq, cases_lt, false_from_ne_true, false≢true, le-ltb, lt-ltb}
 use Rattle.std.proofs.lemmas.Bool.Decides.{Decides-eqb}
-use Rattle.std.proofs.lemmas.List.{drop_all, drop_more}
+use Rattle.std.proofs.lemmas.List.{drop_all}
 use Rattle.std.proofs.lemmas.Slice.Eq.{slice_eq-Decides}
 use Rattle.aprs_base.specs.declared.packets.Source.{Source}
 use Rattle.aprs_base.specs.declared.packets.Source.TheVariants as source
@@ -21,12 +21,12 @@ use Rattle.worker_match.specs.Seen.{LinkSeen, OfferSeen, ItemSeen, Told, ToldAll
 use Rattle.worker_match.specs.Walk.{after, feed_wants, friends_seen, is_from, is_full, is_open, met, mine_seen, one_more, terms_of, told_by, walked, wants, with_copy, with_packet, with_seen}
 use Rattle.worker_match.specs.Runs.{IsRunOf, RunSeen, added, empty_run, fresh, is_packet, is_plain, line_of, mark, mark_of, sender_of, sent_by, suits, suits_others, takes_all, with_run}
 use Rattle.worker_match.proofs.PushLemmas.{full_is, not_full}
-use Rattle.worker_match.proofs.TakenLemmas.{run_is}
-use Rattle.worker_match.proofs.WalkLemmas.{closed_stays}
+use Rattle.worker_match.proofs.TakenLemmas.{both_taken, one_taken, run_is}
+use Rattle.worker_match.proofs.WalkLemmas.{closed_stays, left_is}
 
 -- ---- tests
 
-both : (a b : Bool) → (a && b) ≡ true → (a ≡ true) × (b ≡ true)
+pub both : (a b : Bool) → (a && b) ≡ true → (a ≡ true) × (b ≡ true)
 both true b is = (refl, is)
 both false b is = absurd (cc)
 
@@ -141,35 +141,23 @@ module _ (link : LinkSeen) (plain : IsPlain link) where
   with_none = none_taken [] link.over (omega arith) (ap (λ b. link.over || b) (le-ltb (link.queue.limit - length link.queue.lines) 0 (omega arith)) ∙ or-false link.over)
 
   module _ (line : List ℕ) (lines : List (List ℕ)) where
+    with_more : (length link.queue.lines ≡ link.queue.limit → ⊥)
+        → with_run lines (record link { queue = with_line line link.queue; put = one_more link.put }) ≡ with_run (line ∷ lines) link
+    unfolding with_copy
+    with_more room =
+        ap (λ b. with_run lines (cond b (record link { over = true }) (record link { queue = with_line line link.queue; put = one_more link.put }))) (sym (not_full link.queue room))
+        ∙ ap (with_run lines) (sym (one_taken link plain.few plain.counted line))
+        ∙ sym (both_taken link plain.few plain.counted (line ∷ []) lines)
+
     with_full : length link.queue.lines ≡ link.queue.limit → with_run (line ∷ lines) link ≡ record link { over = true }
     with_full full =
         none_taken (line ∷ lines) true (omega arith)
         (ap (λ b. link.over || b) (lt-ltb (link.queue.limit - length link.queue.lines) (suc (length lines)) (omega arith)) ∙ or-true link.over)
 
-    abbrev one_taken : LinkSeen
-    one_taken = record link { queue = with_line line link.queue; put = one_more link.put }
-
-    module _ (room : length link.queue.lines < link.queue.limit) where
-      still_plain : IsPlain one_taken
-      still_plain =
-          let size : length (link.queue.lines ++ line ∷ []) ≡ length link.queue.lines + 1 = length-append link.queue.lines (line ∷ []) in
-          record { open' = plain.open'; full = plain.full; none = plain.none; few = omega arith; counted = omega arith }
-
-      with_more : with_run lines one_taken ≡ with_run (line ∷ lines) link
-      unfolding with_run
-      with_more =
-          let size : length (link.queue.lines ++ line ∷ []) ≡ length link.queue.lines + 1 = length-append link.queue.lines (line ∷ []) in
-          let free = link.queue.limit - length link.queue.lines in
-          let left = link.queue.limit - length (link.queue.lines ++ line ∷ []) in
-          let more : suc (min left (length lines)) ≡ min free (suc (length lines)) = omega arith in
-          run_is link _ _ _ _ _ _
-          (ap (λ all. record link.queue { lines = all })
-          (append_assoc link.queue.lines (line ∷ []) (take (min left (length lines)) lines) ∙ ap (λ n. link.queue.lines ++ take n (line ∷ lines)) more))
-          (omega arith)
-          (ap (λ b. link.over || b) (elim (cases_lt left (length lines)) [
-            | inl less ↦ lt-ltb left (length lines) less ∙ sym (lt-ltb free (suc (length lines)) (omega arith))
-            | inr enough ↦ le-ltb left (length lines) enough ∙ sym (le-ltb free (suc (length lines)) (omega arith))
-          ]))
+  still_plain : (line : List ℕ) → length link.queue.lines < link.queue.limit → IsPlain (record link { queue = with_line line link.queue; put = one_more link.put })
+  still_plain line room =
+      let size : length (link.queue.lines ++ line ∷ []) ≡ length link.queue.lines + 1 = length-append link.queue.lines (line ∷ []) in
+      record { open' = plain.open'; full = plain.full; none = plain.none; few = omega arith; counted = omega arith }
 
 -- ---- the block
 
@@ -217,8 +205,8 @@ others_walked (Came offer ∷ items) link plain packets marks =
           | inr room ↦
               let lt = less_from_ne _ _ plain.few room in
               ap (walked items) (after_copy offer link plain from false new mine.0 (not_full link.queue room))
-              ∙ others_walked items (one_taken link plain line lines) (still_plain link plain line lines lt) packets mine.1
-              ∙ with_more link plain line lines lt
+              ∙ others_walked items (record link { queue = with_line line link.queue; put = one_more link.put }) (still_plain link plain line lt) packets mine.1
+              ∙ with_more link plain line lines room
               ∙ ap (λ b. with_run (fresh b line ++ lines) link) (sym new)
               ∙ ap (λ b. with_run (cond b [] (fresh offer.dupe line) ++ lines) link) (sym from)
         ]
@@ -292,19 +280,16 @@ line_at_most (Came offer) = elim (cases_Bool offer.dupe) [
 ]
 
 module _ (items : List Item) (i : ℕ) (x : Item) (lt : i < length items) (at : x ≡ get_or items i x) where
-  left_is : drop i items ≡ x ∷ drop (i + 1) items
-  left_is = drop_more items i x lt ∙ ap (λ y. y ∷ drop (i + 1) items) (sym at)
-
   gathered : {A : Type 0} (f : ItemSeen → List A) (so_far total : List A) → so_far ++ flat_map f (items_seen (drop i items)) ≡ total
       → (so_far ++ f (item_seen x)) ++ flat_map f (items_seen (drop (i + 1) items)) ≡ total
   gathered f so_far total is =
       append_assoc so_far (f (item_seen x)) (flat_map f (items_seen (drop (i + 1) items)))
-      ∙ ap (λ left. so_far ++ flat_map f (items_seen left)) (sym left_is) ∙ is
+      ∙ ap (λ left. so_far ++ flat_map f (items_seen left)) (sym (left_is items i x lt at)) ∙ is
 
   pub begun_more : (run new : RunSeen) → IsBegun items i run → is_packet (item_seen x) ≡ true → new ≡ added (item_seen x) run → IsBegun items (i + 1) new
   begun_more run new is packet made =
       subst (IsBegun items (i + 1)) (sym made) (record {
-        packets = ap (λ b. b && list_all is_packet (items_seen (drop (i + 1) items))) (sym packet) ∙ ap (λ left. list_all is_packet (items_seen left)) (sym left_is) ∙ is.packets;
+        packets = ap (λ b. b && list_all is_packet (items_seen (drop (i + 1) items))) (sym packet) ∙ ap (λ left. list_all is_packet (items_seen left)) (sym (left_is items i x lt at)) ∙ is.packets;
         lines = gathered line_of run.lines _ is.lines;
         senders = gathered sender_of run.senders _ is.senders;
         marks = gathered mark_of run.marks _ is.marks;

@@ -13,6 +13,10 @@ pub closed_stays : (items : List ItemSeen) (link : LinkSeen) → is_open link �
 closed_stays [] link is = refl
 closed_stays (item ∷ items) link is = ap (walked items) (ap (λ b. cond b (met item link) link) is) ∙ closed_stays items link is
 
+-- the first item that is left
+pub left_is : (items : List Item) (i : ℕ) (x : Item) → i < length items → x ≡ get_or items i x → drop i items ≡ x ∷ drop (i + 1) items
+left_is items i x lt at = drop_more items i x lt ∙ ap (λ y. y ∷ drop (i + 1) items) (sym at)
+
 -- one item more
 pub walk_more : (items : List Item) (i : ℕ) (x : Item) (link new total : LinkSeen) → i < length items → x ≡ get_or items i x → is_open link ≡ true
     → new ≡ met (item_seen x) link → walked (items_seen (drop i items)) link ≡ total → walked (items_seen (drop (i + 1) items)) new ≡ total
