@@ -5,7 +5,7 @@ ghost use Rattle.std.specs.Option.{option_map};
 ghost use Rattle.dupe_window.specs.Keys.{Key, is_same_key};
 ghost use Rattle.dupe_window.specs.Windows.{is_inside, is_inside_pair, moment_in};
 
-use crate::keys::{Key, KeptKey};
+use crate::keys::{KeptKey, Key};
 use aprs_base::Memory;
 use indexmap::IndexMap;
 use std::alloc::Global;
