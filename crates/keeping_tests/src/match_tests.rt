@@ -4,17 +4,17 @@ ghost use Rattle.std.specs.List.Sorted.{IsStrictlyIncreasing};
 ghost use Rattle.worker_match.specs.Items.{item_seen, items_seen};
 ghost use Rattle.worker_match.specs.Walk.{IsOrdered};
 
-use aprs_base::{Body, Call, Gate, Line, Memory, OpenGate, Packet, Parts, Place, Source};
+use aprs_base::{Body, Call, Line, Memory, OpenGate, Packet, Parts, Place, Source};
 use arrayvec::ArrayVec;
 use filter_eval::Friends;
 use link_queue::Queue;
+use meeting_gate::Meeting;
 use std::alloc::Global;
 use std::marker::Sync;
 use std::process::Abort;
 use std::sync::Arc;
-use std::sync::atomic::{AtomicU64, Ordering};
 use std::test::Fail;
-use std::thread::{Threads, yield_now};
+use std::thread::Threads;
 use worker_match::{Feed, Item, LinkState, spread};
 
 /// The call that the one term may name was seen nowhere.
@@ -546,31 +546,6 @@ fn each_takes_its_lines_of_a_block(rt: HostRuntime) -> Result<(), Fail> {
     Ok(())
 }
 
-/// A gate at which two parts wait for each other.
-#[derive(Drop)]
-struct Meeting {
-    entered: AtomicU64,
-    met: AtomicU64,
-    left: AtomicU64,
-}
-
-impl Gate for Meeting {
-    fn enter(&self, _part: u32) {
-        self.entered.fetch_add(1, Ordering::SeqCst);
-        for _ in 0..10_000_000 {
-            if self.entered.load(Ordering::SeqCst) == 2 {
-                self.met.fetch_add(1, Ordering::SeqCst);
-                return;
-            }
-            yield_now();
-        }
-    }
-
-    fn leave(&self, _part: u32) {
-        self.left.fetch_add(1, Ordering::SeqCst);
-    }
-}
-
 #[test]
 fn two_parts_are_walked_at_the_same_time(rt: HostRuntime) -> Result<(), Fail> {
     let alloc = rt.alloc();
@@ -578,16 +553,10 @@ fn two_parts_are_walked_at_the_same_time(rt: HostRuntime) -> Result<(), Fail> {
     for number in 0..64 {
         links.push(link(alloc, number, Feed::Full, "")?)?;
     }
-    let meeting = Meeting {
-        entered: AtomicU64::new(0),
-        met: AtomicU64::new(0),
-        left: AtomicU64::new(0),
-    };
+    let meeting = Meeting::new();
     let items = [Item::End { link: 63 }];
     spread(&rt, links.as_mut_slice(), &items, 2, &meeting)?;
-    assert_eq!(rt; meeting.entered.load(Ordering::SeqCst), 2);
-    assert_eq!(rt; meeting.met.load(Ordering::SeqCst), 2);
-    assert_eq!(rt; meeting.left.load(Ordering::SeqCst), 2);
+    assert_eq!(rt; meeting.counts(), [2, 2, 2]);
     let mut alive = 0u32;
     for link in &links {
         alive = alive.saturating_add(u32::from(link.alive));
