@@ -7,7 +7,6 @@ use Rattle.std.proofs.lemmas.List.{length-map}
 use Rattle.aprs_base.specs.Held.{held_after}
 use Rattle.aprs_base.specs.declared.texts.Addr.{Addr}
 use Rattle.aprs_base.specs.declared.cutting.Cut.{Cut}
-use Rattle.aprs_base.specs.declared.cutting.Cut.TheVariants as cut
 use Rattle.aprs_base.specs.declared.packets.Parts.{Parts}
 use Rattle.aprs_base.specs.declared.packets.PortKind.TheVariants as port
 use Rattle.aprs_base.specs.declared.packets.Source.{Source}

@@ -1,14 +1,11 @@
 -- Numbers of links that are served, and their places.
-use Rattle.std.proofs.Common.{◌≡◌, ℕ, zero, suc, ◌+◌, ◌≤◌, ◌<◌, Bool, true, false, List, [], ◌∷◌, length, get_or, map, refl, sym, ap, ◌∙◌, subst, arith, eq-eqb, Some, None, slice_set, ⊎_elim, cond, nat_le, nat_lt, ◌||◌, ◌++◌, filter, le_refl, ◌==◌}
-use Rattle.std.specs.List.{insert, position, position_or_len, prefix_len, list_any}
-use Rattle.std.proofs.lemmas.Bool.{ltb-true, ltb-false, cases_Bool, false_from_ne_true, eqb-true, true≢false}
-use Rattle.std.proofs.lemmas.List.Sums.{passes_at_first, fails_before_first}
-use Rattle.std.proofs.lemmas.List.Folds.{list_any_none}
+use Rattle.std.proofs.Common.{◌≡◌, ℕ, suc, ◌+◌, Bool, true, false, List, [], ◌∷◌, refl, sym, ap, ◌∙◌, arith, ⊎_elim, cond, nat_le, ◌||◌, filter, ◌==◌}
+use Rattle.std.specs.List.{insert, prefix_len}
+use Rattle.std.proofs.lemmas.Bool.{cases_Bool}
 use Rattle.aprs_history.specs.Trace.{is_member, placed}
 use Rattle.aprs_history.specs.Stands.{LinkSeen}
 use Rattle.server_core.specs.LinkSteps.{AreServed}
 use Rattle.served_links.specs.Links.{has_number, numbers}
-use Rattle.served_links.proofs.LinkLemmas.{above}
 
 -- the numbers of links are served, also where only some of them are taken
 pub served_filter : (p : LinkSeen → Bool) (links : List LinkSeen) → AreServed (numbers (filter p links)) links

@@ -1,7 +1,6 @@
 -- What each happening changes of the links, and of all else that the core keeps.
 pub use Rattle.served_links.specs.Links.{Rises, has_number, numbers, pending_at}
-use Rattle.std.specs.Prelude.{◌≡◌, ℕ, ◌+◌, ◌^◌, min, ◌<◌, ◌==◌, ◌≤◌, ◌-◌, Bool, true, false, is_none, nat_le, nat_lt, List, [], ◌∷◌, ◌++◌, length, map, filter, not, ◌&&◌, ◌||◌, is_some, Option, Some, None, if◌then◌else◌, ⊤}
-use Rattle.std.specs.List.{list_any, flat_map, zip}
+use Rattle.std.specs.Prelude.{◌≡◌, ℕ, Bool, true, List, [], ◌∷◌, ◌++◌, length, map, filter, not, ◌&&◌, Option, Some, None, if◌then◌else◌, ⊤}
 use Rattle.std.specs.Option.{option_and_then}
 use Rattle.aprs_base.specs.PacketSeen.{PacketSeen}
 use Rattle.aprs_base.specs.declared.totals.Totals.{Totals}

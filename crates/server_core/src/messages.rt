@@ -1,10 +1,9 @@
 //! Messages: whom they are for, which links heard their receivers, and which are owed their senders' positions.
-ghost use Rattle.std.specs.Prelude.{◌≡◌, ◌&&◌, OnOk, IfOk};
+ghost use Rattle.std.specs.Prelude.{◌≡◌, OnOk, IfOk};
 ghost use Rattle.std.specs.List.Sorted.{IsStrictlyIncreasing};
 ghost use Rattle.aprs_base.specs.declared.texts.Word9.{Word9};
-ghost use Rattle.filter_eval.specs.Passes.{is_some_and, is_text};
 ghost use Rattle.aprs_history.specs.Messages.{is_message, is_position};
-ghost use Rattle.heard_routing.specs.Heard.{courtesies, is_among, without_promises};
+ghost use Rattle.heard_routing.specs.Heard.{courtesies, without_promises};
 ghost use Rattle.server_core.specs.LinkSteps.{call_in, forgotten_all, hearers_of, may_promise, noted_from, promised_all, promised_one, receiver_of};
 
 use aprs_base::{Call, Memory, Packet, Source, Word9};

@@ -1,14 +1,7 @@
 //! Where the calls that a filter names were last seen.
 ghost use Rattle.std.specs.Prelude.{◌≡◌, ◌≤◌, length, map};
-ghost use Rattle.std.specs.List.{zip};
-ghost use Rattle.std.specs.Option.{option_and_then};
-ghost use Rattle.filter_eval.specs.Passes.{fresh};
-ghost use Rattle.station_table.specs.Stations.{place_at};
-ghost use Rattle.aprs_history.specs.Sights.{named_call};
 ghost use Rattle.server_core.specs.LinkSteps.{found_in};
-ghost use Rattle.served_links.specs.Changes.{friend_seen, is_named};
 
-use aprs_base::Call;
 use arrayvec::ArrayVec;
 use filter_eval::{Friends, Seen};
 use filter_lang::{FilterSet, Term, What};
