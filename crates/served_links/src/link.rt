@@ -1,4 +1,4 @@
-//! What the core keeps of a link.
+//! What is kept of a link and its session.
 ghost use Rattle.std.specs.Prelude.{◌≡◌, ◌||◌, ◌++◌, IsTrue, List, ℕ, OnOk, Some, nat_lt};
 ghost use Rattle.std.specs.List.Sorted.{IsStrictlyIncreasing};
 ghost use Rattle.aprs_base.specs.Bytes.{is_station};

@@ -1,4 +1,4 @@
-//! The links of the core, in the order of their numbers.
+//! Links that are served, in the order of their numbers.
 ghost use Rattle.std.specs.Prelude.{◌≡◌, ◌++◌, ◌^◌, ℕ, [], IfOk, IsTrue, List, None, OnOk, Some, filter, map, position};
 ghost use Rattle.std.specs.Arc.{arc_value};
 ghost use Rattle.std.specs.List.{list_any};
