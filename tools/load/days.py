@@ -59,6 +59,9 @@ def start(program, folder, surroundings):
 def log_in(call, code):
     client = socket.create_connection(("127.0.0.1", PORT))
     client.sendall(f"user {call} pass {code} vers days 1\r\n".encode())
+    text = b""
+    while b"# logresp" not in text:
+        text += client.recv(1 << 20)
     return client
 
 
