@@ -13,6 +13,7 @@ use std::alloc::Global;
 use std::marker::Sync;
 use std::process::Abort;
 use std::sync::Arc;
+use std::sync::atomic::Ordering;
 use std::test::Fail;
 use std::thread::Threads;
 use worker_match::{Feed, Item, LinkState, spread};
@@ -553,10 +554,12 @@ fn two_parts_are_walked_at_the_same_time(rt: HostRuntime) -> Result<(), Fail> {
     for number in 0..64 {
         links.push(link(alloc, number, Feed::Full, "")?)?;
     }
-    let meeting = Meeting::new();
+    let meeting = Meeting::default();
     let items = [Item::End { link: 63 }];
     spread(&rt, links.as_mut_slice(), &items, 2, &meeting)?;
-    assert_eq!(rt; meeting.counts(), [2, 2, 2]);
+    assert_eq!(rt; meeting.entered.load(Ordering::SeqCst), 2);
+    assert_eq!(rt; meeting.met.load(Ordering::SeqCst), 2);
+    assert_eq!(rt; meeting.left.load(Ordering::SeqCst), 2);
     let mut alive = 0u32;
     for link in &links {
         alive = alive.saturating_add(u32::from(link.alive));

@@ -5,31 +5,25 @@ use aprs_base::Gate;
 use std::sync::atomic::{AtomicU64, Ordering};
 use std::thread::yield_now;
 
-/// A gate at which each of two parts waits for the other.
+/// A gate at which each of two parts waits for the other. It counts how many entered it, met another there, and left it.
 #[derive(Drop)]
 pub struct Meeting {
-    entered: AtomicU64,
-    met: AtomicU64,
-    left: AtomicU64,
+    pub entered: AtomicU64,
+    pub met: AtomicU64,
+    pub left: AtomicU64,
 }
 
-impl Meeting {
-    /// A gate that no part has entered.
-    pub fn new() -> Meeting {
+impl Default for Meeting {
+    ghost use Rattle.std.specs.Prelude.{⊤};
+
+    ghost is_default = { λ m. ⊤ };
+
+    fn default() -> Meeting {
         Meeting {
             entered: AtomicU64::new(0),
             met: AtomicU64::new(0),
             left: AtomicU64::new(0),
         }
-    }
-
-    /// How many parts have entered it, met another there, and left it.
-    pub fn counts(&self) -> [u64; 3] {
-        [
-            self.entered.load(Ordering::SeqCst),
-            self.met.load(Ordering::SeqCst),
-            self.left.load(Ordering::SeqCst),
-        ]
     }
 }
 
