@@ -5,7 +5,8 @@
 
 They are sent as fast as they go, and all in a few seconds; or with `days` they are spread over three days of the server's clock, which
 stands still (by libfaketime) while a packet of each station is sent and has come back to another client, and then is moved on.
-Each line of what is printed: packets sent, processor seconds, kilobytes of memory now and at most so far, packets that the other client has got. That client
+Each line of what is printed: packets sent, processor seconds, kilobytes of the process's own memory that it has asked for and that it has used,
+most kilobytes of all that it has used so far, packets that the other client has got. That client
 says a comment for each such line, or it would end as a silent one after two of the days. Without `days`, where it got them all, the last line has the
 processor seconds of a tenth of the packets after the first 10,000, of a tenth before the last 10,000, and how many times the first the last are.
 """
@@ -66,11 +67,12 @@ def log_in(call, code):
 
 
 def cost(server):
-    """Processor seconds of a process, kilobytes of its own memory, without those of its files, and the most that it ever had, with them. Its clock has the number that clock_getcpuclockid gives."""
+    """Processor seconds of a process, whose clock has the number that clock_getcpuclockid gives. Kilobytes of its own memory, without those of its
+    files: what it has asked the system for, and the pages of it that it has touched. The most that it ever had, with those of its files."""
     seconds = time.clock_gettime(~server.pid << 3 | 2)
     with open(f"/proc/{server.pid}/status", encoding="ascii") as file:
-        sizes = dict(line.split()[:2] for line in file if line.startswith(("RssAnon", "VmHWM")))
-    return round(seconds, 3), sizes["RssAnon:"], sizes["VmHWM:"]
+        sizes = dict(line.split()[:2] for line in file if line.startswith(("VmData", "RssAnon", "VmHWM")))
+    return round(seconds, 3), sizes["VmData:"], sizes["RssAnon:"], sizes["VmHWM:"]
 
 
 def packets(first):
