@@ -4,7 +4,8 @@
     days.py PROGRAM PACKETS [days]     PROGRAM -c FILE is the server
 
 They are sent as fast as they go, and all in a few seconds; or with `days` they are spread over three days of the server's clock, which
-stands still (by libfaketime) while a packet of each station is sent and has come back to another client, and then is moved on.
+stands still (by libfaketime) while a packet of each station is sent and has come back to another client, and then is moved on. The first 500
+come at once, so that rounds larger than all later ones are among them.
 Each line of what is printed: packets sent, processor seconds, kilobytes of the process's own memory that it has asked for and that it has used,
 most kilobytes of all that it has used so far, packets that the other client has got. That client
 says a comment for each such line, or it would end as a silent one after two of the days. Without `days`, where it got them all, the last line has the
@@ -19,7 +20,7 @@ import tempfile
 import time
 
 LIBRARY = "/usr/lib/x86_64-linux-gnu/faketime/libfaketime.so.1"
-PORT, STATIONS, DAYS, MARGIN = 15010, 50, 3, 10_000
+PORT, STATIONS, DAYS, MARGIN, AT_ONCE = 15010, 50, 3, 10_000, 500
 
 CONFIGURATION = f"""ServerId T2TEST
 PassCode 8385
@@ -145,7 +146,9 @@ def send_fast(server, count, sender, reader):
 
 def send_for_days(server, count, sender, reader, clock):
     """Sends a packet of each station after another over the days."""
-    for sent in range(0, count, STATIONS):
+    sender.sendall(b"".join(packets(sent) for sent in range(0, AT_ONCE, STATIONS)))
+    await_packets(reader, AT_ONCE)
+    for sent in range(AT_ONCE, count, STATIONS):
         clock.put(DAYS * 86_400 * sent // count)
         sender.sendall(packets(sent))
         await_packets(reader, STATIONS)
