@@ -1,8 +1,8 @@
 //! Calls, lines and other short texts, each kept within its grammar by its type.
 ghost use Rattle.std.specs.Prelude.{◌≡◌, ℕ, ◌≤◌, ◌<◌, ◌∷◌, [], List, length, IsSome, IfOk, IfSome, IsTrue, ◌↔◌};
-ghost use Rattle.std.specs.List.{list_all, position_or_len};
+ghost use Rattle.std.specs.List.{list_all, position_or_len, prefix_len, suffix_len};
 ghost use Rattle.memchr.specs.Find.{is_byte};
-ghost use Rattle.aprs_base.specs.Bytes.{IsCall, IsLine, as_words, base_of, is_alphanumeric, is_call, is_construct, is_inner, is_ssid_text, is_station};
+ghost use Rattle.aprs_base.specs.Bytes.{IsCall, IsLine, as_words, base_of, is_alphanumeric, is_blank, is_call, is_construct, is_inner, is_ssid_text, is_station};
 
 use arrayvec::ArrayVec;
 use memchr::memchr;
@@ -32,22 +32,44 @@ pub struct Failed;
 
 /// The name of a station: 1 to 9 letters and digits, perhaps `-` and one or two more, at most 9 bytes in all
 /// (aprs-is.net, Connecting).
-#[derive(Clone, PartialEq, Eq, Debug, Drop)]
+#[derive(Clone, Debug, Drop)]
 pub struct Call {
-    pub text: ArrayVec<u8, 9>,
+    text: [u8; 9],
+    /// How many of these bytes are its own.
+    size: u8,
 }
 
 impl Model for Call {
-    ghost use Rattle.std.specs.Prelude.{ℕ, List};
+    ghost use Rattle.std.specs.Prelude.{ℕ, List, take, ◌≤◌};
     ghost use Rattle.aprs_base.specs.Bytes.{IsCall};
 
     ghost Value = { List ℕ };
 
-    ghost view = { λ c. c.text.items };
+    ghost view = { λ c. take c.size c.text };
 
-    ghost invariant = { λ c. IsCall c.text.items };
+    ghost invariant = { λ c. IsCall (take c.size c.text) × (c.size ≤ 9) };
+}
 
-    ghost inverse = { λ xs. record { text = record { items = xs } } };
+impl PartialEq for Call {
+    ghost use Rattle.std.specs.Prelude.{◌==◌};
+    ghost use Rattle.std.specs.Cmp.Lexicographic.{pointwise};
+    ghost use Rattle.std.specs.Cmp.Rules.{comparing};
+    ghost use Rattle.std.proofs.Common.{rules};
+
+    ghost eq = { pointwise ◌==◌ };
+
+    ghost laws = { Prim.search (comparing, rules) };
+
+    fn eq(&self, other: &Call) -> bool {
+        self.bytes() == other.bytes()
+    }
+}
+
+impl Eq for Call {
+    ghost use Rattle.std.specs.Cmp.Rules.{comparing};
+    ghost use Rattle.std.proofs.Common.{rules};
+
+    ghost laws = { Prim.search (comparing, rules) };
 }
 
 /// A call is hashed as two words at once. Byte by byte it took the hasher of the tables longer than all else that they do.
@@ -61,7 +83,7 @@ impl Hash for Call {
     ghost respects_eq = { Prim.search (hashing, rules) };
 
     fn hash<H: Hasher>(&self, state: &mut H) {
-        state.write(&as_words(self.text.as_slice()));
+        state.write(&as_words(self.bytes()));
     }
 }
 
@@ -79,9 +101,20 @@ impl Default for Call {
     ghost is_default = { λ c. c ≡ 65 ∷ [] };
 
     fn default() -> Call {
-        let mut text = ArrayVec::new();
-        text.push(b'A');
-        Call { text }
+        call_of(b"A")
+    }
+}
+
+/// A text of the grammar as a call.
+fn call_of(text: &[u8]) -> Call
+    requires { IsCall text.now }
+    ensures { result ≡ text.now }
+{
+    let mut room = [0; 9];
+    room[..text.len()].copy_from_slice(text);
+    Call {
+        text: room,
+        size: text.len() as u8,
     }
 }
 
@@ -106,6 +139,22 @@ pub fn first_place(byte: u8, text: &[u8]) -> usize
         Some(place) => place,
         None => text.len(),
     }
+}
+
+/// How many blanks `text` begins with.
+pub fn leading_blanks(text: &[u8]) -> usize
+    ensures count { result ≡ prefix_len is_blank text.now }
+    ensures within { result ≤ length text.now }
+{
+    text.iter().take_while(|byte| **byte == b' ').count()
+}
+
+/// How many blanks `text` ends with.
+pub fn trailing_blanks(text: &[u8]) -> usize
+    ensures count { result ≡ suffix_len is_blank text.now }
+    ensures within { result ≤ length text.now }
+{
+    text.iter().rev().take_while(|byte| **byte == b' ').count()
 }
 
 /// The part of `text` before its first dash, or all of it.
@@ -139,11 +188,11 @@ impl Call {
         ensures some { IsSome result ↔ IsCall text.now }
         ensures value { IfSome result (λ c. c ≡ text.now) }
     {
-        if !is_call_text(text) {
-            return None;
+        if is_call_text(text) {
+            Some(call_of(text))
+        } else {
+            None
         }
-        let text = ArrayVec::try_from(text).ok()?;
-        Some(Call { text })
     }
 
     /// The bytes of the call.
@@ -152,21 +201,21 @@ impl Call {
         ensures grammar { IsCall self.now }
         ensures short { length self.now ≤ 9 }
     {
-        self.text.as_slice()
+        &self.text[..usize::from(self.size)]
     }
 
     /// The bytes before the first `-`, or all of them.
     pub fn base(&self) -> &[u8]
         ensures { result.now ≡ base_of self.now }
     {
-        before_dash(self.text.as_slice())
+        before_dash(self.bytes())
     }
 
     /// Whether the call may name a station: it is no `qA` and one letter.
     pub fn is_station(&self) -> bool
         ensures { result ≡ is_station self.now }
     {
-        !is_construct_text(self.text.as_slice())
+        !is_construct_text(self.bytes())
     }
 }
 
@@ -184,9 +233,9 @@ pub fn is_construct_text(text: &[u8]) -> bool
 pub fn copy_call(call: &Call) -> Call
     ensures { result ≡ call.now }
 {
-    match ArrayVec::try_from(call.text.as_slice()) {
-        Ok(text) => Call { text },
-        Err(_) => unreachable!(),
+    Call {
+        text: call.text,
+        size: call.size,
     }
 }
 
