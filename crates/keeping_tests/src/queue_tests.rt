@@ -95,9 +95,9 @@ fn holds_a_thousand_lines(rt: HostRuntime) -> Result<(), Fail> {
 }
 
 /// Adds a line to a batch, unless it has a thousand.
-fn add(alloc: Global, batch: &mut Batch, text: &[u8]) -> Result<(), Memory> {
+fn add(batch: &mut Batch, text: &[u8]) -> Result<(), Memory> {
     match Line::new(text) {
-        Some(line) if batch.len() < 1000 => batch.push(Arc::new(alloc, line)?),
+        Some(line) if batch.len() < 1000 => batch.push(&line),
         _ => Ok(()),
     }
 }
@@ -106,7 +106,7 @@ fn add(alloc: Global, batch: &mut Batch, text: &[u8]) -> Result<(), Memory> {
 fn four_lines(alloc: Global) -> Result<Arc<Batch>, Memory> {
     let mut batch = Batch::new(alloc);
     for text in [b"ab".as_slice(), b"c", b"def", b"gh"] {
-        add(alloc, &mut batch, text)?;
+        add(&mut batch, text)?;
     }
     Ok(Arc::new(alloc, batch)?)
 }
@@ -192,6 +192,33 @@ const RUNS: [(usize, usize, usize, usize, &[u8]); 7] = [
     (1, 3, 4, 1, b"x\r\ngh\r\n"),
 ];
 
+/// How many lines stand before a run of `c` and `def`, how many bytes are taken, and what is left in the run's own text, where
+/// all that is left stands there.
+const SHARED: [(usize, usize, &[u8]); 7] = [
+    (0, 0, b"c\r\ndef\r\n"),
+    (0, 2, b"\ndef\r\n"),
+    (0, 5, b"f\r\n"),
+    (0, 8, b""),
+    (1, 0, b""),
+    (1, 2, b""),
+    (1, 4, b"\r\ndef\r\n"),
+];
+
+#[test]
+fn shows_the_text_that_is_shared(rt: HostRuntime) -> Result<(), Fail> {
+    let alloc = rt.alloc();
+    for (lines, taken, bytes) in &SHARED {
+        let mut queue = Queue::with_limit(alloc, 5)?;
+        for _ in 0..*lines {
+            push(alloc, &mut queue, b"x")?;
+        }
+        push_run(&mut queue, &four_lines(alloc)?, 1, 3)?;
+        take(&mut queue, *taken);
+        assert_eq!(rt; queue.shared_front().unwrap_or(b""), *bytes);
+    }
+    Ok(())
+}
+
 #[test]
 fn takes_as_much_of_a_run_as_there_is_room_for(rt: HostRuntime) -> Result<(), Fail> {
     let alloc = rt.alloc();
@@ -241,7 +268,7 @@ fn holds_a_run_of_a_thousand_lines(rt: HostRuntime) -> Result<(), Fail> {
     let alloc = rt.alloc();
     let mut batch = Batch::new(alloc);
     for _ in 0..1001 {
-        add(alloc, &mut batch, b"x")?;
+        add(&mut batch, b"x")?;
     }
     assert_eq!(rt; batch.len(), 1000);
     let batch = Arc::new(alloc, batch)?;

@@ -1,12 +1,13 @@
 -- The text of a batch, and where its lines are in it.
-use Rattle.std.proofs.Common.{◌≡◌, ℕ, ◌+◌, ◌-◌, ◌≤◌, ◌<◌, List, [], ◌∷◌, ◌++◌, length, get_or, take, drop, sym, ap, subst, ◌∙◌, arith, append_assoc, length-append, below_more}
+use Rattle.std.proofs.Common.{◌≡◌, ℕ, suc, refl, ◌+◌, ◌-◌, ◌≤◌, ◌<◌, List, [], ◌∷◌, ◌++◌, length, get_or, take, drop, sym, ap, subst, ◌∙◌, arith, append_assoc, length-append, below_more}
 use Rattle.std.proofs.Math.ListN.{get_or-append}
 use Rattle.std.proofs.Math.Seq.{drop-append_seam, get_or-append_seam, take-add, take-append_seam}
 use Rattle.std.proofs.lemmas.Grind.{flat_map-append}
-use Rattle.std.proofs.lemmas.List.{drop-drop, drop-take, length-drop, length-take, take-append-drop, take-append-le, take-take, take_all}
-use Rattle.link_queue.specs.Batches.{IsBatch}
+use Rattle.std.proofs.lemmas.List.{drop-append-le, drop-drop, drop-take, length-drop, length-take, take-append-drop, take-append-le, take-take, take_all}
+use Rattle.link_queue.specs.Batches.{IsBatch, lines_at}
+use Rattle.std.specs.List.{slice_range}
 use Rattle.link_queue.specs.Lines.{ended_line, queued, text_bytes}
-use Rattle.link_queue.proofs.LineLemmas.{all_append, one_text, queued_at, text_more}
+use Rattle.link_queue.proofs.LineLemmas.{all_append, ended_length, one_text, queued_at, text_more}
 
 -- lines up to a place, as those up to an earlier one and those between
 parts : (lines : List (List ℕ)) (from to : ℕ) → from ≤ to → take to lines ≡ take from lines ++ take (to - from) (drop from lines)
@@ -63,7 +64,7 @@ left_between lines from low high to taken size le lt within next is whole part =
     rw (rest, same) at left
 
 -- a line more
-pub line_added : (lines : List (List ℕ)) (bytes ends : List ℕ) → IsBatch lines bytes ends → (line text places : List ℕ) → length line ≤ 510 → length lines < 1000 →
+line_added : (lines : List (List ℕ)) (bytes ends : List ℕ) → IsBatch lines bytes ends → (line text places : List ℕ) → length line ≤ 510 → length lines < 1000 →
     text ≡ bytes ++ ended_line line → places ≡ ends ++ length text ∷ [] → IsBatch (lines ++ line ∷ []) text places
 line_added lines bytes ends is line text places small room added ended =
     let all = lines ++ line ∷ [] in
@@ -84,3 +85,49 @@ line_added lines bytes ends is line text places small room added ended =
       short = all_append lines (line ∷ []) is.short (small, tt);
       few = omega arith;
     }
+
+-- where the last line ends
+abbrev last : ℕ → List ℕ → ℕ
+last start [] = start
+last start (end ∷ ends) = last end ends
+
+last_is : (start end : ℕ) (ends : List ℕ) → last start (end ∷ ends) ≡ get_or (end ∷ ends) (length ends) 0
+last_is start end [] = refl
+last_is start end (next ∷ ends) = last_is end next ends
+
+ends_last : (lines : List (List ℕ)) (bytes ends : List ℕ) → IsBatch lines bytes ends → last 0 ends ≡ length bytes
+ends_last [] bytes [] is = ap length (sym is.text)
+ends_last (x ∷ lines) bytes [] is = let counted = is.counted in absurd (omega arith)
+ends_last lines bytes (end ∷ ends) is =
+    let counted = is.counted in
+    last_is 0 end ends ∙ is.ended (length ends) (omega arith) ∙ ap (λ xs. length (text_bytes xs)) (take_all (length ends + 1) lines (omega arith)) ∙ ap length (sym is.text)
+
+end_within : (lines : List (List ℕ)) (bytes ends : List ℕ) → IsBatch lines bytes ends → (k : ℕ) → k < length ends → get_or ends k 0 ≤ length bytes
+end_within lines bytes ends is k lt =
+    let counted = is.counted in
+    let end = is.ended k (omega arith) in
+    let within = size_within lines (k + 1) in
+    omega (arith, ap length is.text)
+
+-- the lines of a text with one more behind it
+lines_more : (start : ℕ) (ends bytes line : List ℕ) → start ≤ length bytes → ((k : ℕ) → k < length ends → get_or ends k 0 ≤ length bytes) → last start ends ≡ length bytes →
+    lines_at start (ends ++ length (bytes ++ ended_line line) ∷ []) (bytes ++ ended_line line) ≡ lines_at start ends bytes ++ line ∷ []
+lines_more start [] bytes line le within is =
+    let sum = length-append bytes (ended_line line) in
+    let end = ended_length line in
+    let size : length (bytes ++ ended_line line) - 2 - start ≡ length line = omega arith in
+    ap (λ xs. xs ∷ []) (rw (size, is, drop-append_seam bytes (ended_line line)) (take-append_seam line (13 ∷ 10 ∷ [])))
+lines_more start (end ∷ ends) bytes line le within is =
+    let before = within 0 (omega arith) in
+    let rest = length-drop start bytes in
+    let first : slice_range (bytes ++ ended_line line) start (end - 2) ≡ slice_range bytes start (end - 2) =
+    ap (take (end - 2 - start)) (drop-append-le start bytes (ended_line line) le) ∙ take-append-le (end - 2 - start) (drop start bytes) (ended_line line) (omega arith) in
+    rw (first, lines_more end ends bytes line before (λ k lt. within (suc k) (omega arith)) is) refl
+
+pub batch_more : (bytes ends line text places : List ℕ) → IsBatch (lines_at 0 ends bytes) bytes ends → length line ≤ 510 → length ends < 1000 → text ≡ bytes ++ ended_line line →
+    places ≡ ends ++ length text ∷ [] → (lines_at 0 places text ≡ lines_at 0 ends bytes ++ line ∷ []) × IsBatch (lines_at 0 places text) text places
+batch_more bytes ends line text places is small room added ended =
+    let counted = is.counted in
+    let lines : lines_at 0 places text ≡ lines_at 0 ends bytes ++ line ∷ [] =
+    rw (ended, added) (lines_more 0 ends bytes line (omega arith) (end_within _ bytes ends is) (ends_last _ bytes ends is)) in
+    (lines, rw lines (line_added (lines_at 0 ends bytes) bytes ends is line text places small (omega arith) added ended))

@@ -1,32 +1,28 @@
 //! Lines one after another in one text, which queues share.
 ghost use Rattle.std.specs.Prelude.{◌≡◌, ◌+◌, ◌-◌, ◌<◌, ◌≤◌, ◌++◌, [], ◌∷◌, OnOk, OnErr, length, take, drop};
-ghost use Rattle.std.specs.Arc.{arc_value};
 ghost use Rattle.link_queue.specs.Lines.{AreShort, ended_line, queued, text_bytes};
 
-use crate::writing::put_line;
 use aprs_base::{Line, Memory};
 use std::alloc::Global;
 use std::marker::Model;
-use std::sync::Arc;
 
 /// Lines one after another in one text, each with its CR and LF, which queues share. At most 1,000.
 #[derive(Drop)]
 pub struct Batch {
-    lines: Vec<Arc<Line>>,
     bytes: Vec<u8>,
+    /// Where each line ends, behind its CR and LF.
     ends: Vec<usize>,
 }
 
 impl Model for Batch {
-    ghost use Rattle.std.specs.Prelude.{List, ℕ, map};
-    ghost use Rattle.std.specs.Arc.{arc_value};
-    ghost use Rattle.link_queue.specs.Batches.{IsBatch};
+    ghost use Rattle.std.specs.Prelude.{List, ℕ};
+    ghost use Rattle.link_queue.specs.Batches.{IsBatch, lines_at};
 
     ghost Value = { List (List ℕ) };
 
-    ghost view = { λ b. map arc_value b.lines.items };
+    ghost view = { λ b. lines_at 0 b.ends.items b.bytes.items };
 
-    ghost invariant = { λ b. IsBatch (map arc_value b.lines.items) b.bytes.items b.ends.items };
+    ghost invariant = { λ b. IsBatch (lines_at 0 b.ends.items b.bytes.items) b.bytes.items b.ends.items };
 }
 
 /// A place in a batch, and how many bytes of the line there.
@@ -42,7 +38,6 @@ impl Batch {
         ensures { result ≡ [] }
     {
         Batch {
-            lines: Vec::new(alloc),
             bytes: Vec::new(alloc),
             ends: Vec::new(alloc),
         }
@@ -52,20 +47,18 @@ impl Batch {
     pub fn len(&self) -> usize
         ensures { result ≡ length self.now }
     {
-        self.lines.len()
+        self.ends.len()
     }
 
     /// Adds a line at the end. `Memory` changes nothing.
-    pub fn push(&mut self, line: Arc<Line>) -> Result<(), Memory>
+    pub fn push(&mut self, line: &Line) -> Result<(), Memory>
         requires { length self.old < 1000 }
-        ensures ok { OnOk result (self.new ≡ self.old ++ arc_value line ∷ []) }
+        ensures ok { OnOk result (self.new ≡ self.old ++ line.now ∷ []) }
         ensures err { OnErr result (self.new ≡ self.old) }
     {
-        self.lines.reserve(1)?;
         self.ends.reserve(1)?;
         add_line(&mut self.bytes, line.bytes())?;
         self.ends.push(self.bytes.as_slice().len()).unwrap();
-        self.lines.push(line).unwrap();
         Ok(())
     }
 
@@ -95,7 +88,7 @@ impl Batch {
         ensures short { AreShort (take (to - from) (drop from self.now)) }
     {
         // The invariant says that the lines are short.
-        let _ = &self.lines;
+        let _ = &self.ends;
         self.start(to) - self.start(from)
     }
 
@@ -105,7 +98,7 @@ impl Batch {
         ensures { result ≡ place }
     {
         // The invariant says that the lines are few.
-        let _ = &self.lines;
+        let _ = &self.ends;
         place as u16
     }
 
@@ -139,8 +132,8 @@ fn add_line(bytes: &mut Vec<u8>, line: &[u8]) -> Result<(), Memory>
     ensures ok { OnOk result (bytes.new.items ≡ bytes.old.items ++ ended_line line.now) }
     ensures err { OnErr result (bytes.new.items ≡ bytes.old.items) }
 {
-    let mut text = [0; 512];
-    let size = put_line(&mut text, 0, line);
-    bytes.extend_from_slice(&text[..size])?;
+    bytes.reserve(line.len() + 2)?;
+    bytes.extend_from_slice(line).unwrap();
+    bytes.extend_from_slice(b"\r\n").unwrap();
     Ok(())
 }

@@ -1,11 +1,12 @@
 //! A queue of lines: what is pushed is taken in order, byte by byte.
-ghost use Rattle.std.specs.Prelude.{◌≡◌, ◌+◌, ◌-◌, ◌≤◌, IfOk, IsErr, OnOk, OnErr, ◌↔◌, length, take, drop, min};
+ghost use Rattle.std.specs.Prelude.{◌≡◌, ◌+◌, ◌-◌, ◌≤◌, IfOk, IfSome, IsErr, OnOk, OnErr, ◌↔◌, length, take, drop, min};
 ghost use Rattle.std.specs.Arc.{arc_value};
 ghost use Rattle.link_queue.specs.Pieces.{IsPiece, lines_of};
 ghost use Rattle.link_queue.specs.Queues.{empty_queue, pending_bytes, with_line, with_lines, without_bytes};
 
 use crate::batch::Batch;
 use crate::pieces::{Piece, count, put_pieces, run, size, take_off};
+use crate::writing::from_place;
 use aprs_base::{Line, Memory};
 use circular_buffer::HeapCircularBuffer;
 use std::alloc::Global;
@@ -114,6 +115,19 @@ impl Queue {
         let at = put_pieces(out, 0, front, self.offset);
         let skip = if front.is_empty() { self.offset } else { 0 };
         put_pieces(out, at, back, skip)
+    }
+
+    /// The pending bytes where they stand in a text that queues share. `None` unless all of them stand in one.
+    pub fn shared_front(&self) -> Option<&[u8]>
+        ensures { IfSome result (λ bytes. bytes.now ≡ pending_bytes self.now) }
+    {
+        match self.ring.as_slices() {
+            ([Piece::Run { from, to, batch }], []) => {
+                let text = batch.text(usize::from(*from), usize::from(*to));
+                Some(from_place(text, self.offset))
+            }
+            _ => None,
+        }
     }
 
     /// How many bytes are pending, each line with its CR and LF.

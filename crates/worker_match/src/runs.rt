@@ -137,15 +137,12 @@ impl Draft {
 }
 
 /// A refused duplicate isn't added.
-fn add_line(batch: &mut Batch, dupe: bool, line: &Arc<Line>) -> Result<(), Memory>
+fn add_line(batch: &mut Batch, dupe: bool, line: &Line) -> Result<(), Memory>
     requires { length batch.old < 1000 }
-    ensures ok { OnOk result (batch.new ≡ batch.old ++ fresh dupe (arc_value line.now)) }
+    ensures ok { OnOk result (batch.new ≡ batch.old ++ fresh dupe line.now) }
     ensures err { OnErr result (batch.new ≡ batch.old) }
 {
-    if !dupe {
-        batch.push(line.clone()?)?;
-    }
-    Ok(())
+    if dupe { Ok(()) } else { batch.push(line) }
 }
 
 fn add_sender(senders: &mut Vec<u32>, from: &Source) -> Result<(), Memory>

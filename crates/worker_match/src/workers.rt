@@ -15,23 +15,15 @@ use std::thread::{Threads, join_mut};
 /// All links of a part meet so many items before they meet the next ones: what a walk touches of these stays near the processor.
 const BLOCK: usize = 64;
 
-/// A run of a block is made where the block has so many items, and so many links of a part may want their lines.
+/// The most items of a block.
+const MOST: usize = 1000;
+
+/// Blocks are as large as may be where the items are packets alone, and for each link that meets them one by one so many take
+/// them as a run.
+const FEW: usize = 8;
+
+/// A run of a block is made where the block has so many items, and so many links may want their lines.
 const LEAST: usize = 4;
-
-/// How parts are walked.
-#[derive(Clone, Copy)]
-struct Course {
-    /// Other parts are walked at the same time. Then each link takes what it wants from a run of its own part, so that no two
-    /// processors count who shares a line. A run stays as long as one of its lines is wanted, so else only links that take most of it do.
-    apart: bool,
-}
-
-impl Course {
-    /// Whether a run pays for the link.
-    fn needs_run(self, link: &LinkState) -> bool {
-        link.is_plain() || (self.apart && link.is_eager())
-    }
-}
 
 /// Each link meets the items in their order. The links are split into at most `workers` parts, which are walked at the same
 /// time, each between its entering and its leaving the gate. After `Memory` nothing is said of the links.
@@ -47,8 +39,7 @@ pub fn spread<R: Threads + Sync, G: Gate + Sync>(
     ensures { OnOk result (links.new ≡ map (walked (items_seen items.now)) links.old) }
 {
     let parts = most_parts(links.len(), workers);
-    let course = Course { apart: parts > 1 };
-    split(rt, links, items, parts, 0, course, gate)
+    split(rt, links, items, parts, 0, gate)
 }
 
 /// No more parts than workers, and none without a link where there are links.
@@ -79,7 +70,6 @@ fn split<R: Threads + Sync, G: Gate + Sync>(
     items: &[Item],
     workers: u32,
     part: u32,
-    course: Course,
     gate: &G,
 ) -> Result<(), Memory>
     requires workers { (1 ≤ workers) × (part + workers ≤ 64) }
@@ -87,7 +77,7 @@ fn split<R: Threads + Sync, G: Gate + Sync>(
     ensures { OnOk result (links.new ≡ map (walked (items_seen items.now)) links.old) }
 {
     if workers == 1 {
-        return pass(links, items, part, course, gate);
+        return pass(links, items, part, gate);
     }
     let less = workers / 2;
     let more = workers - less;
@@ -98,92 +88,91 @@ fn split<R: Threads + Sync, G: Gate + Sync>(
         &mut || -> Result<(), Memory>
             requires { IsSync R.row × IsSync G.row × (1 ≤ less) × (part + less ≤ 64) × All IsOrdered (items_seen items.now) }
             ensures { OnOk result (front.exit.now ≡ map (walked (items_seen items.entry.now)) front.entry.now) }
-        { split(rt, front, items, less, part, course, gate) },
+        { split(rt, front, items, less, part, gate) },
         &mut || -> Result<(), Memory>
             requires { IsSync R.row × IsSync G.row × (1 ≤ more) × (part + less + more ≤ 64) × All IsOrdered (items_seen items.now) }
             ensures { OnOk result (back.exit.now ≡ map (walked (items_seen items.entry.now)) back.entry.now) }
-        { split(rt, back, items, more, part + less, course, gate) },
+        { split(rt, back, items, more, part + less, gate) },
     );
     first?;
     second
 }
 
 /// One part, through the gate.
-fn pass<G: Gate>(
-    links: &mut [LinkState],
-    items: &[Item],
-    part: u32,
-    course: Course,
-    gate: &G,
-) -> Result<(), Memory>
+fn pass<G: Gate>(links: &mut [LinkState], items: &[Item], part: u32, gate: &G) -> Result<(), Memory>
     requires { All IsOrdered (items_seen items.now) }
     ensures { OnOk result (links.new ≡ map (walked (items_seen items.now)) links.old) }
 {
     gate.enter(part);
-    let done = walk(links, items, course);
+    let done = walk(links, items);
     gate.leave(part);
     done
 }
 
 /// Each link meets the items in their order, a block of them after another.
-fn walk(links: &mut [LinkState], items: &[Item], course: Course) -> Result<(), Memory>
+fn walk(links: &mut [LinkState], items: &[Item]) -> Result<(), Memory>
     requires { All IsOrdered (items_seen items.now) }
     ensures { OnOk result (links.new ≡ map (walked (items_seen items.now)) links.old) }
 {
+    let size = block_size(links, items);
     let mut rest = items;
     while !rest.is_empty() {
-        let (block, later) = rest.split_at(rest.len().min(BLOCK));
-        walk_block(links, block, course)?;
+        let (block, later) = rest.split_at(rest.len().min(size));
+        walk_block(links, block)?;
         rest = later;
     }
     Ok(())
 }
 
+/// How many items a block has. A run is one text to all who take it, and is the better the longer it is.
+fn block_size(links: &[LinkState], items: &[Item]) -> usize
+    ensures { (1 ≤ result) × (result ≤ 1000) }
+{
+    let plain = links.iter().filter(|link| link.is_plain()).count();
+    let eager = links.iter().filter(|link| link.is_eager()).count();
+    let packets = items.iter().all(|item| matches!(item, Item::Packet { .. }));
+    if packets && eager.saturating_sub(plain) <= plain / FEW {
+        MOST
+    } else {
+        BLOCK
+    }
+}
+
 /// Each link meets the items in their order.
-fn walk_block(links: &mut [LinkState], items: &[Item], course: Course) -> Result<(), Memory>
+fn walk_block(links: &mut [LinkState], items: &[Item]) -> Result<(), Memory>
     requires few { length items.now ≤ 1000 }
     requires ordered { All IsOrdered (items_seen items.now) }
     ensures { OnOk result (links.new ≡ map (walked (items_seen items.now)) links.old) }
 {
-    let run = run_for(links, items, course)?;
-    walk_links(links, items, &run, course)
+    let run = run_for(links, items)?;
+    walk_links(links, items, &run)
 }
 
 /// The same, one link after another.
-fn walk_links(
-    links: &mut [LinkState],
-    items: &[Item],
-    run: &Option<Run>,
-    course: Course,
-) -> Result<(), Memory>
+fn walk_links(links: &mut [LinkState], items: &[Item], run: &Option<Run>) -> Result<(), Memory>
     requires ordered { All IsOrdered (items_seen items.now) }
     requires run { IfSome run.now (λ run. IsRunOf (items_seen items.now) run) }
     ensures { OnOk result (links.new ≡ map (walked (items_seen items.now)) links.old) }
 {
     for link in links.iter_mut() {
-        meet_block(link, items, run, course)?;
+        meet_block(link, items, run)?;
     }
     Ok(())
 }
 
 /// The items as one run, where they are packets alone and a run pays.
-fn run_for(links: &[LinkState], items: &[Item], course: Course) -> Result<Option<Run>, Memory>
+fn run_for(links: &[LinkState], items: &[Item]) -> Result<Option<Run>, Memory>
     requires { length items.now ≤ 1000 }
     ensures { IfOk result (λ run. IfSome run (λ run. IsRunOf (items_seen items.now) run)) }
 {
-    if items.len() < LEAST || links.iter().filter(|link| course.needs_run(link)).count() < LEAST {
+    if items.len() < LEAST || links.iter().filter(|link| link.is_eager()).count() < LEAST {
         return Ok(None);
     }
     run_of(items)
 }
 
 /// One link meets the items, or takes their run's lines where that comes to the same.
-fn meet_block(
-    link: &mut LinkState,
-    items: &[Item],
-    run: &Option<Run>,
-    course: Course,
-) -> Result<(), Memory>
+fn meet_block(link: &mut LinkState, items: &[Item], run: &Option<Run>) -> Result<(), Memory>
     requires ordered { All IsOrdered (items_seen items.now) }
     requires run { IfSome run.now (λ run. IsRunOf (items_seen items.now) run) }
     ensures { OnOk result (link.new ≡ walked (items_seen items.now) link.old) }
@@ -191,8 +180,8 @@ fn meet_block(
     match run {
         Some(run) if run.suits(link) => link.take_run(&run.batch),
         Some(run) if run.suits_others(link) => take_others(link, items, run),
-        Some(run) if course.apart => walk_along(link, items, run),
-        _ => walk_link(link, items),
+        Some(run) => walk_along(link, items, run),
+        None => walk_link(link, items),
     }
 }
 

@@ -1,23 +1,27 @@
-use Rattle.std.proofs.Common.{◌≡◌, ◌++◌, ◌∷◌, [], List, ℕ, map, length, sym, ap, subst, ◌∙◌, arith}
-use Rattle.std.specs.Arc.{arc_value}
-use Rattle.std.proofs.lemmas.List.{length-map, map-append}
+use Rattle.std.proofs.Common.{◌≡◌, ◌++◌, ◌∷◌, [], ℕ, List, length, sym, ap, subst, ◌∙◌, arith}
 use Rattle.aprs_base.specs.Bytes.{IsLine}
-use Rattle.link_queue.proofs.BatchLemmas.{line_added}
+use Rattle.link_queue.specs.Batches.{IsBatch, lines_at}
+use Rattle.link_queue.proofs.BatchLemmas.{batch_more}
 use Rattle.link_queue.proofs.LineLemmas.{line_short}
 use Rattle.link_queue.proofs.batch.Batch.push.Goals as goal
 
-pub invariant_of-self-2 : goal.invariant_of-self-2
-invariant_of-self-2 c =
+-- the batch with the line
+more : (c : goal.After-unwrap) → let ends = c.push.new.self.items in let text = c.add_line.new.bytes.items in
+    (lines_at 0 ends text ≡ lines_at 0 c.self.inside.ends.items c.self.inside.bytes.items ++ c.bytes.result.now ∷ []) × IsBatch (lines_at 0 ends text) text ends
+more c =
     let line = c.bytes.result.now in
+    let before = c.self.inside.ends.items in
     let is : IsLine line = subst IsLine (sym c.bytes.ensures.bytes) c.bytes.ensures.grammar in
-    let lines = rw c.unwrap-2.ensures at c.push-2.ensures.items in
     let ends = rw c.unwrap.ensures at c.push.ensures.items in
-    let before = map arc_value c.self.inside.lines.items in
-    let all : map arc_value c.push-2.new.self.items ≡ before ++ line ∷ [] =
-    ap (map arc_value) (lines ∙ ap (λ items. items ++ c.args.line ∷ []) c.reserve.ensures.items) ∙ map-append arc_value c.self.inside.lines.items (c.args.line ∷ [])
-    ∙ ap (λ (x : List ℕ). before ++ x ∷ []) (sym (c.bytes.ensures.bytes ∙ c.deref.ensures)) in
-    let size = length-map c.self.inside.lines.items arc_value in
-    let room = ap length c.self.view_is in
     let end : length c.as_slice.result.now ≡ length c.add_line.new.bytes.items = ap length c.as_slice.ensures.value in
-    rw all (line_added before c.self.inside.bytes.items c.self.inside.ends.items c.self.invariant line c.add_line.new.bytes.items c.push.new.self.items
-    (line_short line is) (omega arith) c.in_ok-add_line.ensures.ok (ends ∙ ap (λ items. items ++ length c.as_slice.result.now ∷ []) c.reserve-2.ensures.items ∙ ap (λ (n : ℕ). c.self.inside.ends.items ++ n ∷ []) end))
+    let room = ap length c.self.view_is in
+    let counted = c.self.invariant.counted in
+    batch_more c.self.inside.bytes.items before line c.add_line.new.bytes.items c.push.new.self.items c.self.invariant (line_short line is) (omega arith) c.in_ok-add_line.ensures.ok
+    (ends ∙ ap (λ items. items ++ length c.as_slice.result.now ∷ []) c.reserve.ensures.items ∙ ap (λ (n : ℕ). before ++ n ∷ []) end)
+
+pub invariant_of-self-2 : goal.invariant_of-self-2
+invariant_of-self-2 c = (more c).1
+
+pub returns-clause-ok : goal.returns-clause-ok
+returns-clause-ok c =
+    (more c).0 ∙ ap (λ (lines : List (List ℕ)). lines ++ c.bytes.result.now ∷ []) c.self.view_is ∙ ap (λ (line : List ℕ). c.args.self.now ++ line ∷ []) c.bytes.ensures.bytes
