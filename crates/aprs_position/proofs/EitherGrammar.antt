@@ -1,4 +1,4 @@
--- A position in or_cases form: the first byte tells which.
+-- A position in either form: the first byte tells which.
 use Rattle.std.proofs.Common.{◌≡◌, ℕ, inl, inr, List, get_or, Some, ◌∙◌}
 use Rattle.std.proofs.lemmas.Bool.{cond-false, cond-true}
 use Rattle.aprs_base.specs.Bytes.{is_digit}

@@ -51,7 +51,8 @@ whole_read _ d h = cc
 -- the tests on `MM.hh`, apart
 abbrev IsHundredths : (text : List ℕ) (value : ℕ) → Type 0
 IsHundredths text value =
-    (m n h i : ℕ) × (text ≡ m ∷ n ∷ 46 ∷ h ∷ i ∷ []) × (ends_in_blanks (m ∷ n ∷ h ∷ i ∷ []) ≡ true) × (number (m ∷ n ∷ []) < 60) × (value ≡ number (m ∷ n ∷ h ∷ i ∷ []))
+    (m n h i : ℕ) × (text ≡ m ∷ n ∷ 46 ∷ h ∷ i ∷ []) × (ends_in_blanks (m ∷ n ∷ h ∷ i ∷ []) ≡ true)
+    × (number (m ∷ n ∷ []) < 60) × (value ≡ number (m ∷ n ∷ h ∷ i ∷ []))
 
 hundredths_read : (text : List ℕ) (value : ℕ) → hundredths_of text ≡ Some value → IsHundredths text value
 hundredths_read (m ∷ n ∷ p ∷ h ∷ i ∷ []) value given =
@@ -202,7 +203,8 @@ plain_spelled text front latitude longitude rest dy dx place y x north east a b 
     let lon_is : longitude ≡ c ∷ d ∷ e ∷ xa.0 ∷ xa.1 ∷ 46 ∷ xa.2 ∷ xa.3 ∷ [] = xa.4 ∙ rw dxa refl in
     let nineteen : place.used ≡ 19 = used ∙ ap length is_front ∙ rw (lat_is, lon_is) refl in
     rw (is_text, is_front, lat_is, lon_is)
-    (plain_columns a b ya.0 ya.1 ya.2 ya.3 north place.table c d e xa.0 xa.1 xa.2 xa.3 east place.code rest place y x y_reads x_reads la lo table code (place_at_used place 19 nineteen))
+    (plain_columns a b ya.0 ya.1 ya.2 ya.3 north place.table c d e xa.0 xa.1 xa.2 xa.3 east place.code rest place y x y_reads x_reads la lo table code
+    (place_at_used place 19 nineteen))
 
 pub plain_again : (text : List ℕ) (place : Place) → BeginsPlain text place → plain_place text ≡ Some place
 plain_again text place begins =
@@ -211,8 +213,10 @@ plain_again text place begins =
     let lon = p.longitude_angle in
     let dy = two lat.degrees lat.lengths.0 in
     let dx = three lon.degrees lon.lengths.0 in
-    plain_spelled text begins.front p.latitude p.longitude begins.rest lat.degrees lon.degrees place p.from_equator p.from_greenwich p.north p.east dy.0 dy.1 dx.0 dx.1 dx.2
-    begins.split p.spelled begins.used dy.2 (angle_again 2 _ _ lat (whole_two _ _ _ dy.2 lat.whole)) dx.3 (angle_again 3 _ _ lon (whole_three _ _ _ _ dx.3 lon.whole))
+    plain_spelled text begins.front p.latitude p.longitude begins.rest lat.degrees lon.degrees place
+    p.from_equator p.from_greenwich p.north p.east dy.0 dy.1 dx.0 dx.1 dx.2
+    begins.split p.spelled begins.used dy.2 (angle_again 2 _ _ lat (whole_two _ _ _ dy.2 lat.whole))
+    dx.3 (angle_again 3 _ _ lon (whole_three _ _ _ _ dx.3 lon.whole))
     (toward_again 78 83 _ _ _ refl p.lat) (toward_again 69 87 _ _ _ refl p.lon) p.table p.code
 
 -- the plain form begins with a digit

@@ -154,7 +154,8 @@ sent_again x y z more degrees minutes lx ly lz d m =
     let ml : minutes_of (y + 28 - 28) ≡ minutes = ap minutes_of (add-sub_cancel y 28) ∙ m in
     cond-true _ _ _ digits ∙ same_value _ _ _ _ _ _ dl ml (add-sub_cancel z 28)
 
-angle_same : (value degrees minutes hundredths p r t : ℕ) → angle degrees (minutes * 100 + hundredths) ≡ value → degrees ≡ p → minutes ≡ r → hundredths ≡ t → angle p (r * 100 + t) ≡ value
+angle_same : (value degrees minutes hundredths p r t : ℕ) → angle degrees (minutes * 100 + hundredths) ≡ value →
+    degrees ≡ p → minutes ≡ r → hundredths ≡ t → angle p (r * 100 + t) ≡ value
 angle_same value degrees minutes hundredths p r t is d m h = cc
 
 latitude_again : (a b c d e f p q r s t u : ℕ) → digit_of a ≡ Some p → digit_of b ≡ Some q → digit_of c ≡ Some r →
