@@ -2,13 +2,12 @@
 use Rattle.std.proofs.Common.{◌≡◌, ℕ, ◌+◌, ◌<◌, ◌≤◌, suc, Bool, true, false, cond, eqb, leb, ltb, not, ◌&&◌, inl, inr, List, [], ◌∷◌, ◌++◌, length, take, drop, get_or, bit_or, Option, Some, None, refl, sym, ap, ◌∙◌, arith}
 use Rattle.std.specs.List.{list_all}
 use Rattle.std.proofs.Math.Seq.{drop-append-add, get_or-append_seam, take-append_seam}
-use Rattle.std.proofs.lemmas.Bool.{eqb-true, leb-true, le-leb, lt-ltb, ltb-true}
+use Rattle.std.proofs.lemmas.Bool.{eqb-true, leb-true, le-leb, lt-ltb, ltb-true, and_parts, not-true, or_cases}
 use Rattle.std.proofs.lemmas.List.{drop_more, length-append, length-take-le, take-append-drop}
 use Rattle.aprs_base.specs.declared.packets.Body.{Body}
 use Rattle.aprs_base.specs.declared.packets.Place.{Place}
 use Rattle.aprs_position.specs.Either.{either_place}
 use Rattle.aprs_position.proofs.EitherGrammar.{either_again, either_read}
-use Rattle.aprs_position.proofs.Steps.{both, either, not_true}
 use Rattle.aprs_body.specs.Bodies.{bare, is_item_mark, item_in, named, name_len, weather_of}
 use Rattle.aprs_body.specs.Classes.{item_bit, weather_bit}
 use Rattle.aprs_body.specs.Grammar.{AddsWeather, IsItem, SaysLife}
@@ -38,8 +37,8 @@ first_mark (x ∷ xs) lt =
 marked_len : (name rest : List ℕ) (mark : ℕ) → list_all is_unmarked name ≡ true → is_item_mark mark ≡ true → name_len (name ++ (mark ∷ rest)) ≡ length name
 marked_len [] rest mark all is = rw is refl
 marked_len (x ∷ xs) rest mark all is =
-    let tests = both (is_unmarked x) (list_all is_unmarked xs) all in
-    rw (not_true (is_item_mark x) tests.0, marked_len xs rest mark tests.1 is) (omega arith)
+    let tests = and_parts (is_unmarked x) (list_all is_unmarked xs) all in
+    rw (not-true (is_item_mark x) tests.0, marked_len xs rest mark tests.1 is) (omega arith)
 
 item_class : (place : Place) (weather : ℕ) → AddsWeather (Some place) weather → bit_or item_bit (weather_of place) ≡ item_bit + weather
 item_class place weather w = rw (weather_is place weather w) (added weather_bit item_bit weather (place.code ≡ 95) refl refl w)
@@ -49,7 +48,7 @@ abbrev item_by : (n : ℕ) → List ℕ → Option Place → Body
 item_by n rest place = named item_bit (take n rest) (eqb (get_or rest n 0) 33) place
 
 mark_says : (mark : ℕ) → is_item_mark mark ≡ true → SaysLife 33 mark (eqb mark 33)
-mark_says mark is = elim (either (eqb mark 33) (eqb mark 95) is) [
+mark_says mark is = elim (or_cases (eqb mark 33) (eqb mark 95) is) [
   | inl live ↦ inl (eqb-true _ _ live, live)
   | inr killed ↦ let e : mark ≡ 95 = eqb-true _ _ killed in inr (e, rw e refl)
 ]
@@ -81,8 +80,8 @@ item_cases : (rest : List ℕ) (sized : Bool) (place : Option Place) → (leb 3 
 item_cases rest false place s p = inr refl
 item_cases rest true None s p = inr refl
 item_cases rest true (Some place) s p =
-    let front = both (leb 3 (name_len rest) && leb (name_len rest) 9) (ltb (name_len rest) (length rest)) s in
-    let tests = both (leb 3 (name_len rest)) (leb (name_len rest) 9) front.0 in
+    let front = and_parts (leb 3 (name_len rest) && leb (name_len rest) 9) (ltb (name_len rest) (length rest)) s in
+    let tests = and_parts (leb 3 (name_len rest)) (leb (name_len rest) 9) front.0 in
     inl (item_with rest place (leb-true _ _ tests.0) (leb-true _ _ tests.1) (ltb-true _ _ front.1) p)
 
 pub item_read : (rest : List ℕ) → OrBare (IsItem (41 ∷ rest)) (item_in rest)

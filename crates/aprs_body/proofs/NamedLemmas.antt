@@ -15,35 +15,19 @@ abbrev pub OrBare : (Body → Type 0) → Body → Type 0
 OrBare P body = P body ⊎ (body ≡ bare 0)
 
 -- nine bytes
-record Nine (xs : List ℕ) : Type 0 where
-  a : ℕ
-  b : ℕ
-  c : ℕ
-  d : ℕ
-  e : ℕ
-  f : ℕ
-  g : ℕ
-  h : ℕ
-  i : ℕ
-  is : xs ≡ a ∷ b ∷ c ∷ d ∷ e ∷ f ∷ g ∷ h ∷ i ∷ []
+abbrev Nine : List ℕ → Type 0
+Nine xs = (a b c d e f g h i : ℕ) × (xs ≡ a ∷ b ∷ c ∷ d ∷ e ∷ f ∷ g ∷ h ∷ i ∷ [])
 
 nine : (xs : List ℕ) → length xs ≡ 9 → Nine xs
-nine (a ∷ b ∷ c ∷ d ∷ e ∷ f ∷ g ∷ h ∷ i ∷ []) len = record { a = a; b = b; c = c; d = d; e = e; f = f; g = g; h = h; i = i; is = refl }
+nine (a ∷ b ∷ c ∷ d ∷ e ∷ f ∷ g ∷ h ∷ i ∷ []) len = (a, b, c, d, e, f, g, h, i, refl)
 nine _ len = absurd (omega arith)
 
 -- seven bytes
-record Seven (xs : List ℕ) : Type 0 where
-  a : ℕ
-  b : ℕ
-  c : ℕ
-  d : ℕ
-  e : ℕ
-  f : ℕ
-  g : ℕ
-  is : xs ≡ a ∷ b ∷ c ∷ d ∷ e ∷ f ∷ g ∷ []
+abbrev Seven : List ℕ → Type 0
+Seven xs = (a b c d e f g : ℕ) × (xs ≡ a ∷ b ∷ c ∷ d ∷ e ∷ f ∷ g ∷ [])
 
 seven : (xs : List ℕ) → length xs ≡ 7 → Seven xs
-seven (a ∷ b ∷ c ∷ d ∷ e ∷ f ∷ g ∷ []) len = record { a = a; b = b; c = c; d = d; e = e; f = f; g = g; is = refl }
+seven (a ∷ b ∷ c ∷ d ∷ e ∷ f ∷ g ∷ []) len = (a, b, c, d, e, f, g, refl)
 seven _ len = absurd (omega arith)
 
 -- the columns of an object
@@ -111,7 +95,7 @@ object_at a b c d e f g h i mark k l m n o p q rest live place life placed =
 object_spelled : (field time rest : List ℕ) (mark : ℕ) (live : Bool) (place : Place) → Nine field → Seven time → life_of 42 mark ≡ Some live → either_place rest ≡ Some place →
     object_of (59 ∷ (field ++ (mark ∷ (time ++ rest)))) ≡ object_by field (Some live) (Some place)
 object_spelled field time rest mark live place n s life placed =
-    rw (n.is, s.is) (object_at n.a n.b n.c n.d n.e n.f n.g n.h n.i mark s.a s.b s.c s.d s.e s.f s.g rest live place life placed)
+    rw (n.9, s.7) (object_at n.0 n.1 n.2 n.3 n.4 n.5 n.6 n.7 n.8 mark s.0 s.1 s.2 s.3 s.4 s.5 s.6 rest live place life placed)
 
 pub object_again : (text : List ℕ) (says : Body) → IsObject text says → object_of text ≡ says
 object_again text says w =
@@ -169,7 +153,7 @@ pub message_read : (rest : List ℕ) → OrBare (IsMessage (58 ∷ rest)) (messa
 message_read rest = message_cases rest (eqb (get_or rest 9 0) 58) refl
 
 message_spelled : (field words : List ℕ) → Nine field → message_of (58 ∷ (field ++ (58 ∷ words))) ≡ message_by field words
-message_spelled field words n = rw n.is refl
+message_spelled field words n = rw n.9 refl
 
 pub message_again : (text : List ℕ) (says : Body) → IsMessage text says → message_of text ≡ says
 message_again text says w =

@@ -1,14 +1,15 @@
 -- The parts of bodies: what the definition reads is what the grammar writes.
-use Rattle.std.proofs.Common.{◌≡◌, ℕ, ◌+◌, Bool, true, false, cond, eqb, ◌||◌, ◌⊎◌, inl, inr, List, [], ◌∷◌, ◌++◌, length, drop, Some, None, refl, sym, ap, ◌∙◌}
+use Rattle.std.proofs.Common.{◌≡◌, ℕ, ◌+◌, Bool, true, false, cond, eqb, ◌⊎◌, inl, inr, List, [], ◌∷◌, ◌++◌, length, drop, Some, None, refl, sym, ap, ◌∙◌}
 use Rattle.std.specs.Prelude.{bit_or, codes}
 use Rattle.std.specs.Bool.{Decides}
 use Rattle.std.specs.List.{list_all, list_any, starts_with}
-use Rattle.std.proofs.lemmas.Bool.Decides.{Decides-eqb, eqb_tells}
-use Rattle.std.proofs.lemmas.Bool.{eq-eqb, eqb-true, false≢true}
+use Rattle.std.proofs.lemmas.Bool.Decides.{Decides-at, Decides-eqb, Decides-or, eqb_tells}
+use Rattle.std.proofs.lemmas.Bool.{eq-eqb, eqb-true, false≢true, and_parts}
+use Rattle.std.proofs.Math.Bool.{or-false}
 use Rattle.std.proofs.lemmas.Slice.Eq.{starts_is}
 use Rattle.aprs_base.specs.Bytes.{is_blank}
 use Rattle.aprs_base.specs.declared.packets.Place.{Place}
-use Rattle.aprs_position.proofs.Steps.{both, chosen}
+use Rattle.aprs_position.proofs.Steps.{chosen}
 use Rattle.aprs_body.specs.Bodies.{life_of, message_class, nws_of, put, telemetry_words, weather_of, without_trailing_blanks}
 use Rattle.aprs_body.specs.Classes.{message_bit, nws_bit, telemetry_bit, weather_bit}
 use Rattle.aprs_body.specs.Grammar.{Adds, AddsService, AddsWeather, BeginsWith, EndsTight, IsDefinitions, IsMessageClass, Padded, SaysLife}
@@ -50,19 +51,10 @@ service_adds name = picked nws_bit 0 (BeginsWith (codes "NWS") name) (starts_wit
 pub service_is : (name : List ℕ) (add : ℕ) → AddsService name add → nws_of name ≡ add
 service_is name add adds = same_picked nws_bit 0 (BeginsWith (codes "NWS") name) _ _ (service_adds name) adds
 
--- tests and facts, side by side
-either_decides : (a b : Bool) (P Q : Type 0) → Decides a P → Decides b Q → Decides (a || b) (P ⊎ Q)
-either_decides true b P Q p q = ((λ e. inl (p.0 refl)), (λ e. refl))
-either_decides false b P Q p q = ((λ e. inr (q.0 e)), (λ e. elim e [ inl x ↦ absurd (false≢true (p.1 x)) | inr y ↦ q.1 y ]))
-
-last_decides : (a : Bool) (P : Type 0) → Decides a P → Decides (a || false) P
-last_decides true P p = p
-last_decides false P p = p
-
 definitions : (words : List ℕ) → Decides (list_any (starts_with eqb words) telemetry_words) (IsDefinitions words)
 definitions words =
-    either_decides _ _ _ _ (begins (codes "PARM.") words) (either_decides _ _ _ _ (begins (codes "UNIT.") words)
-    (either_decides _ _ _ _ (begins (codes "EQNS.") words) (last_decides _ _ (begins (codes "BITS.") words))))
+    Decides-or _ _ (begins (codes "PARM.") words) (Decides-or _ _ (begins (codes "UNIT.") words)
+    (Decides-or _ _ (begins (codes "EQNS.") words) (Decides-at _ _ (or-false _) (begins (codes "BITS.") words))))
 
 pub class_adds : (words : List ℕ) → IsMessageClass words (message_class words)
 class_adds words = picked telemetry_bit message_bit (IsDefinitions words) _ (definitions words)
@@ -88,7 +80,7 @@ life_again sign mark live other (inr off) = rw (off.0, off.1, other) refl
 all_blank : (blanks : List ℕ) → list_all is_blank blanks ≡ true → without_trailing_blanks blanks ≡ []
 all_blank [] h = refl
 all_blank (b ∷ bs) h =
-    let tests = both (is_blank b) (list_all is_blank bs) h in
+    let tests = and_parts (is_blank b) (list_all is_blank bs) h in
     rw (all_blank bs tests.1, tests.0) refl
 
 unpadded : (text blanks : List ℕ) → EndsTight text → list_all is_blank blanks ≡ true → without_trailing_blanks (text ++ blanks) ≡ text

@@ -17,38 +17,25 @@ parts body = (body.class, option_map (λ p. (p.lat, p.lon)) body.place, body.nam
 abbrev home : Option (ℤ × ℤ)
 home = Some (pos 49058333, negsuc 72029165)
 
-object_row : parts (body_of (codes "APRS") (codes ";LEADER   *092345z4903.50N/07201.75W>")) ≡ (2, home, Some (codes "LEADER"), true, None)
-unfolding body_of either_place plain_place
-object_row = refl
-
-item_row : parts (body_of (codes "APRS") (codes ")AID #2!4903.50N/07201.75WA")) ≡ (4, home, Some (codes "AID #2"), true, None)
-unfolding body_of either_place plain_place
-item_row = refl
-
-warning_row : parts (body_of (codes "APRS") (codes ":NWS-WARN :x")) ≡ (264, None, None, false, Some (codes "NWS-WARN"))
-unfolding body_of
-warning_row = refl
-
-definitions_row : parts (body_of (codes "APRS") (codes ":N0CALL-1 :PARM.A")) ≡ (64, None, None, false, Some (codes "N0CALL-1"))
-unfolding body_of
-definitions_row = refl
-
-weather_row : parts (body_of (codes "APRS") (codes "@092345z4903.50N/07201.75W_")) ≡ (513, home, None, false, None)
-unfolding body_of either_place plain_place
-weather_row = refl
-
-bad_position_row : parts (body_of (codes "APRS") (codes "!bad")) ≡ (1, None, None, false, None)
-unfolding body_of either_place compressed_place
-bad_position_row = refl
-
-short_object_row : parts (body_of (codes "APRS") (codes ";short")) ≡ (0, None, None, false, None)
-unfolding body_of
-short_object_row = refl
-
-telemetry_row : parts (body_of (codes "APRS") (codes "T#001")) ≡ (64, None, None, false, None)
-unfolding body_of
-telemetry_row = refl
-
-lone_mark_row : parts (body_of (codes "APRS") (codes "`")) ≡ (1, None, None, false, None)
-unfolding body_of place_of
-lone_mark_row = refl
+-- each body by what it says
+rows :
+    -- object
+    (parts (body_of (codes "APRS") (codes ";LEADER   *092345z4903.50N/07201.75W>")) ≡ (2, home, Some (codes "LEADER"), true, None))
+    -- item
+    × (parts (body_of (codes "APRS") (codes ")AID #2!4903.50N/07201.75WA")) ≡ (4, home, Some (codes "AID #2"), true, None))
+    -- warning
+    × (parts (body_of (codes "APRS") (codes ":NWS-WARN :x")) ≡ (264, None, None, false, Some (codes "NWS-WARN")))
+    -- definitions
+    × (parts (body_of (codes "APRS") (codes ":N0CALL-1 :PARM.A")) ≡ (64, None, None, false, Some (codes "N0CALL-1")))
+    -- weather
+    × (parts (body_of (codes "APRS") (codes "@092345z4903.50N/07201.75W_")) ≡ (513, home, None, false, None))
+    -- bad position
+    × (parts (body_of (codes "APRS") (codes "!bad")) ≡ (1, None, None, false, None))
+    -- short object
+    × (parts (body_of (codes "APRS") (codes ";short")) ≡ (0, None, None, false, None))
+    -- telemetry
+    × (parts (body_of (codes "APRS") (codes "T#001")) ≡ (64, None, None, false, None))
+    -- lone mark
+    × (parts (body_of (codes "APRS") (codes "`")) ≡ (1, None, None, false, None))
+unfolding body_of either_place plain_place compressed_place place_of
+rows = (refl, refl, refl, refl, refl, refl, refl, refl, refl)

@@ -3,36 +3,26 @@ use Rattle.std.proofs.Common.{◌≡◌, ℕ, ◌+◌, ◌-◌, ◌*◌, ◌/◌
 use Rattle.std.specs.List.{list_all}
 use Rattle.std.proofs.lemmas.Bool.Decides.{nat_tests}
 use Rattle.std.proofs.lemmas.Option.{same_Some}
-use Rattle.std.proofs.Math.Bool.{and-false}
-use Rattle.std.proofs.lemmas.Bool.{false≢true, le-ltb, leb-true, le-leb, lt-leb}
+use Rattle.std.proofs.Math.Nat.{sub-add_cancel}
+use Rattle.std.proofs.lemmas.Bool.{false≢true, le-ltb, leb-true, le-leb, and_from, and_parts, cond-true, not-true}
 use Rattle.aprs_base.specs.Bytes.{is_digit}
 use Rattle.aprs_base.specs.declared.packets.Place.{Place}
 use Rattle.aprs_position.specs.Places.{is_code, is_table, place_at}
 use Rattle.aprs_position.specs.Compressed.{base91, compressed_place, is_base91, scaled_of, table_of}
 use Rattle.aprs_position.specs.Grammar.{BeginsCompressed, NamesTable, WritesScaled}
 use Rattle.aprs_position.proofs.PlaceLemmas.{place_at_numbers, place_at_used}
-use Rattle.aprs_position.proofs.Steps.{both, bound, chosen, fails_guard, four_same, guarded, holds_both, holds_guard, not_true, three, unless}
-
-base91_range : (b : ℕ) → is_base91 b ≡ true → (33 ≤ b) × (b ≤ 123)
-base91_range b h = let tests = both (leb 33 b) (leb b 123) h in (leb-true _ _ tests.0, leb-true _ _ tests.1)
-
-base91_test : (b : ℕ) → 33 ≤ b → b ≤ 123 → is_base91 b ≡ true
-base91_test b low high = holds_both _ _ (le-leb _ _ low) (le-leb _ _ high)
+use Rattle.aprs_position.proofs.Steps.{bound, chosen, guarded, three, unless}
 
 scaled_read : (text : List ℕ) (units : ℕ) → scaled_of text ≡ Some units → WritesScaled text units
 scaled_read (a ∷ b ∷ c ∷ d ∷ []) units h =
     let all = list_all is_base91 (a ∷ b ∷ c ∷ d ∷ []) in
     let small = leb (base91 (a ∷ b ∷ c ∷ d ∷ [])) 68566680 in
     let test = guarded (all && small) (Some (base91 (a ∷ b ∷ c ∷ d ∷ []))) units h in
-    let tests = both all small test.0 in
-    let a_all = both (is_base91 a) (list_all is_base91 (b ∷ c ∷ d ∷ [])) tests.0 in
-    let b_all = both (is_base91 b) (list_all is_base91 (c ∷ d ∷ [])) a_all.1 in
-    let c_all = both (is_base91 c) (list_all is_base91 (d ∷ [])) b_all.1 in
-    let d_all = both (is_base91 d) true c_all.1 in
-    let ar = base91_range a a_all.0 in
-    let br = base91_range b b_all.0 in
-    let cr = base91_range c c_all.0 in
-    let dr = base91_range d d_all.0 in
+    let tests = and_parts all small test.0 in
+    let ar : (33 ≤ a) × (a ≤ 123) = grind (arith, nat_tests) in
+    let br : (33 ≤ b) × (b ≤ 123) = grind (arith, nat_tests) in
+    let cr : (33 ≤ c) × (c ≤ 123) = grind (arith, nat_tests) in
+    let dr : (33 ≤ d) × (d ≤ 123) = grind (arith, nat_tests) in
     let within : base91 (a ∷ b ∷ c ∷ d ∷ []) ≤ 68566680 = leb-true _ _ tests.1 in
     let units_are : base91 (a ∷ b ∷ c ∷ d ∷ []) ≡ units = cc in
     record {
@@ -41,67 +31,41 @@ scaled_read (a ∷ b ∷ c ∷ d ∷ []) units h =
       c = c - 33;
       d = d - 33;
       below = (omega arith, omega arith, omega arith, omega arith);
-      spelled = four_same a b c d (a - 33 + 33) (b - 33 + 33) (c - 33 + 33) (d - 33 + 33) (omega arith) (omega arith) (omega arith) (omega arith);
+      spelled = rw (sub-add_cancel ar.0, sub-add_cancel br.0, sub-add_cancel cr.0, sub-add_cancel dr.0) refl;
       value = omega arith;
       within = omega arith;
     }
-scaled_read [] units h = cc
-scaled_read (a ∷ []) units h = cc
-scaled_read (a ∷ b ∷ []) units h = cc
-scaled_read (a ∷ b ∷ c ∷ []) units h = cc
-scaled_read (a ∷ b ∷ c ∷ d ∷ e ∷ more) units h = cc
+scaled_read _ units h = cc
 
 scaled_again : (a b c d units : ℕ) → a < 91 → b < 91 → c < 91 → d < 91 → units ≡ a * 753571 + b * 8281 + c * 91 + d → units ≤ 68566680 →
     scaled_of ((a + 33) ∷ (b + 33) ∷ (c + 33) ∷ (d + 33) ∷ []) ≡ Some units
 scaled_again a b c d units la lb lc ld value within =
-    let ta = base91_test (a + 33) (omega arith) (omega arith) in
-    let tb = base91_test (b + 33) (omega arith) (omega arith) in
-    let tc = base91_test (c + 33) (omega arith) (omega arith) in
-    let td = base91_test (d + 33) (omega arith) (omega arith) in
     let sum : base91 ((a + 33) ∷ (b + 33) ∷ (c + 33) ∷ (d + 33) ∷ []) ≡ units = omega arith in
-    let digits : list_all is_base91 ((a + 33) ∷ (b + 33) ∷ (c + 33) ∷ (d + 33) ∷ []) ≡ true =
-    holds_both _ _ ta (holds_both _ _ tb (holds_both _ _ tc (holds_both _ _ td refl))) in
-    holds_guard _ _ _ (holds_both _ _ digits (le-leb _ _ (omega arith))) ∙ ap Some sum
+    let digits : list_all is_base91 ((a + 33) ∷ (b + 33) ∷ (c + 33) ∷ (d + 33) ∷ []) ≡ true = grind (arith, nat_tests) in
+    cond-true _ _ _ (and_from _ _ digits (le-leb _ _ (omega arith))) ∙ ap Some sum
 
 table_read : (byte table : ℕ) → table_of byte ≡ Some table → NamesTable byte table
 table_read byte table h =
     elim (chosen (leb 97 byte && leb byte 106) (Some (byte - 97 + 48)) _ (Some table) h) [
       | inl letter ↦
-          let tests = both (leb 97 byte) (leb byte 106) letter.0 in
+          let tests = and_parts (leb 97 byte) (leb byte 106) letter.0 in
           let low : 97 ≤ byte = leb-true _ _ tests.0 in
           let high : byte ≤ 106 = leb-true _ _ tests.1 in
           let same : byte - 97 + 48 ≡ table = same_Some _ _ letter.1 in
-          inl (holds_both _ _ (le-leb 48 table (omega arith)) (le-leb table 57 (omega arith)), omega arith)
+          inl (and_from _ _ (le-leb 48 table (omega arith)) (le-leb table 57 (omega arith)), omega arith)
       | inr other ↦
           let plain = guarded (is_table byte && not (is_digit byte)) (Some byte) table other.1 in
-          let tests = both (is_table byte) (not (is_digit byte)) plain.0 in
+          let tests = and_parts (is_table byte) (not (is_digit byte)) plain.0 in
           let same : byte ≡ table = same_Some _ _ plain.1 in
-          inr (ap is_digit (sym same) ∙ not_true _ tests.1, ap is_table (sym same) ∙ tests.0, same)
+          inr (ap is_digit (sym same) ∙ not-true _ tests.1, ap is_table (sym same) ∙ tests.0, same)
     ]
 
--- no letter from `a` on is a table
-table_below : (b : ℕ) → is_table b ≡ true → b < 97
-table_below b h = grind (arith, nat_tests)
-
 table_again : (byte table : ℕ) → NamesTable byte table → table_of byte ≡ Some table
-table_again byte table (inl digit) =
-    let tests = both (leb 48 table) (leb table 57) digit.0 in
-    let low : 48 ≤ table = leb-true _ _ tests.0 in
-    let high : table ≤ 57 = leb-true _ _ tests.1 in
-    let is : byte ≡ table + 49 = digit.1 in
-    let same : byte - 97 + 48 ≡ table = omega arith in
-    holds_guard _ _ _ (holds_both _ _ (le-leb 97 byte (omega arith)) (le-leb byte 106 (omega arith))) ∙ ap Some same
-table_again byte table (inr other) =
-    let below : table < 97 = table_below table other.1 in
-    let off : (leb 97 table && leb table 106) ≡ false = ap (λ t. t && leb table 106) (lt-leb _ _ below) in
-    rw other.2 (fails_guard _ _ _ off ∙ holds_guard _ _ _ (holds_both _ _ other.1 (ap not other.0)))
+table_again byte table (inl digit) = grind (arith, nat_tests)
+table_again byte table (inr other) = grind (arith, nat_tests)
 
 no_digit_first : (byte table : ℕ) → NamesTable byte table → is_digit byte ≡ false
-no_digit_first byte table (inl digit) =
-    let low : 48 ≤ table = leb-true _ _ (both (leb 48 table) (leb table 57) digit.0).0 in
-    let is : byte ≡ table + 49 = digit.1 in
-    let high : leb byte 57 ≡ false = lt-leb _ _ (omega arith) in
-    ap (λ t. leb 48 byte && t) high ∙ and-false (leb 48 byte)
+no_digit_first byte table (inl digit) = grind (arith, nat_tests)
 no_digit_first byte table (inr other) = ap is_digit other.2 ∙ other.0
 
 -- thirteen columns
@@ -121,11 +85,16 @@ lat_of south = pos 90000000 -ℤ pos (south * 1000000 / 380926)
 abbrev lon_of : ℕ → ℤ
 lon_of east = pos (east * 1000000 / 190463) -ℤ pos 180000000
 
-compressed_written : (text : List ℕ) (place : Place) (table south east : ℕ) → IsColumns text →
-    table_of (get_or text 0 0) ≡ Some table → scaled_of (take 4 (drop 1 text)) ≡ Some south → scaled_of (take 4 (drop 5 text)) ≡ Some east →
-    is_code (get_or text 9 0) ≡ true → place_at (lat_of south) (lon_of east) table (get_or text 9 0) 13 ≡ Some place → BeginsCompressed text place
-compressed_written text place table south east at t s e code placed =
-    let p = place_at_numbers (lat_of south) (lon_of east) table (get_or text 9 0) 13 place placed in
+pub compressed_read : (text : List ℕ) (place : Place) → compressed_place text ≡ Some place → BeginsCompressed text place
+unfolding compressed_place
+compressed_read text place given =
+    let sized = unless (ltb (length text) 13) _ place given in
+    let table = bound (table_of (get_or text 0 0)) _ place sized.1 in
+    let south = bound (scaled_of (take 4 (drop 1 text))) _ place table.2 in
+    let east = bound (scaled_of (take 4 (drop 5 text))) _ place south.2 in
+    let test = guarded (is_code (get_or text 9 0)) _ place east.2 in
+    let at = columns_of text sized.0 in
+    let p = place_at_numbers (lat_of south.0) (lon_of east.0) table.0 (get_or text 9 0) 13 place test.1 in
     record {
       front = get_or text 0 0 ∷ (take 4 (drop 1 text) ++ (take 4 (drop 5 text) ++ (get_or text 9 0 ∷ take 3 (drop 10 text))));
       rest = drop 13 text;
@@ -135,29 +104,19 @@ compressed_written text place table south east at t s e code placed =
         y = take 4 (drop 1 text);
         x = take 4 (drop 5 text);
         course = take 3 (drop 10 text);
-        south = south;
-        east = east;
+        south = south.0;
+        east = east.0;
         spelled = rw p.code refl;
         three = at.three_more;
-        table = rw p.table (table_read _ _ t);
-        from_pole = scaled_read _ _ s;
-        from_date_line = scaled_read _ _ e;
+        table = rw p.table (table_read _ _ table.1);
+        from_pole = scaled_read _ _ south.1;
+        from_date_line = scaled_read _ _ east.1;
         lat = p.lat;
         lon = p.lon;
-        code = rw p.code code;
+        code = rw p.code test.0;
       };
       used = p.used ∙ sym at.thirteen;
     }
-
-pub compressed_read : (text : List ℕ) (place : Place) → compressed_place text ≡ Some place → BeginsCompressed text place
-unfolding compressed_place
-compressed_read text place given =
-    let sized = unless (ltb (length text) 13) _ place given in
-    let table = bound (table_of (get_or text 0 0)) _ place sized.1 in
-    let south = bound (scaled_of (take 4 (drop 1 text))) _ place table.2 in
-    let east = bound (scaled_of (take 4 (drop 5 text))) _ place south.2 in
-    let test = guarded (is_code (get_or text 9 0)) _ place east.2 in
-    compressed_written text place table.0 south.0 east.0 (columns_of text sized.0) table.1 south.1 east.1 test.0 test.1
 
 -- the definition on thirteen columns and more
 compressed_columns : (overlay a b c d e f g h code k l m : ℕ) (rest : List ℕ) (place : Place) (south east : ℕ) →

@@ -1,5 +1,6 @@
 -- A position in either form: the first byte tells which.
 use Rattle.std.proofs.Common.{◌≡◌, ℕ, inl, inr, List, get_or, Some, ◌∙◌}
+use Rattle.std.proofs.lemmas.Bool.{cond-false, cond-true}
 use Rattle.aprs_base.specs.Bytes.{is_digit}
 use Rattle.aprs_base.specs.declared.packets.Place.{Place}
 use Rattle.aprs_position.specs.Compressed.{compressed_place}
@@ -8,7 +9,7 @@ use Rattle.aprs_position.specs.Grammar.{BeginsPosition}
 use Rattle.aprs_position.specs.Plain.{plain_place}
 use Rattle.aprs_position.proofs.CompressedGrammar.{compressed_again, compressed_first, compressed_read}
 use Rattle.aprs_position.proofs.PlainGrammar.{plain_again, plain_first, plain_read}
-use Rattle.aprs_position.proofs.Steps.{chosen, fails_guard, holds_guard}
+use Rattle.aprs_position.proofs.Steps.{chosen}
 
 pub either_read : (text : List ℕ) (place : Place) → either_place text ≡ Some place → BeginsPosition text place
 unfolding either_place
@@ -22,7 +23,7 @@ pub either_again : (text : List ℕ) (place : Place) → BeginsPosition text pla
 unfolding either_place
 either_again text place (inl plain) =
     let is = plain_again text place plain in
-    holds_guard _ _ _ (plain_first text place is) ∙ is
+    cond-true _ _ _ (plain_first text place is) ∙ is
 either_again text place (inr compressed) =
     let is = compressed_again text place compressed in
-    fails_guard _ _ _ (compressed_first text place is) ∙ is
+    cond-false _ _ _ (compressed_first text place is) ∙ is

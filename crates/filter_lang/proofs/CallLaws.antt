@@ -1,23 +1,15 @@
 -- A call has bytes, and no blanks, line ends or slashes.
-use Rattle.std.proofs.Common.{◌≡◌, ℕ, suc, ◌+◌, ◌<◌, ◌≤◌, Bool, true, false, cond, ◌==◌, ◌&&◌, ◌||◌, nat_le, List, [], ◌∷◌, ◌++◌, length, get_or, refl, sym, ap, ◌∙◌, arith, subst, append-nil}
-use Rattle.std.specs.Prelude.{not}
+use Rattle.std.proofs.Common.{◌≡◌, ℕ, ◌<◌, ◌≤◌, Bool, true, false, ◌==◌, ◌&&◌, ◌||◌, nat_le, List, ◌∷◌, ◌++◌, length, get_or, refl, sym, ap, ◌∙◌, arith, subst, append-nil}
 use Rattle.std.specs.List.{list_all, position_or_len}
 use Rattle.std.proofs.Math.ListN.{drop_of_length-le}
 use Rattle.std.proofs.lemmas.List.{length-take, take-append-drop}
-use Rattle.std.proofs.lemmas.List.Sums.{split_at_first}
+use Rattle.std.proofs.lemmas.List.Sums.{split_at_first, passes_at_first}
 use Rattle.std.proofs.lemmas.List.Folds.{list_all-append}
-use Rattle.std.proofs.lemmas.Bool.{eqb-true, eqb-false, leb-true}
+use Rattle.std.proofs.lemmas.Bool.{eqb-true, eqb-false, leb-true, and_parts}
 use Rattle.std.proofs.lemmas.Bool.Decides.{nat_tests}
+use Rattle.aprs_base.proofs.CallLemmas.{each_weaker}
 use Rattle.aprs_base.specs.Bytes.{is_call, is_alphanumeric, is_dash, base_of, ssid_of, is_ssid_text, has_no_bad_ssid}
-use Rattle.filter_lang.proofs.Tools.{both, is_clean, clean_from}
-
-pub found_at : (test : ℕ → Bool) (xs : List ℕ) → position_or_len test xs < length xs → test (get_or xs (position_or_len test xs) 0) ≡ true
-found_at test [] h = absurd (omega arith)
-found_at test (x ∷ xs) h = by (test x) refl (found_at test xs) h
-  where
-    by : (c : Bool) → test x ≡ c → (position_or_len test xs < length xs → test (get_or xs (position_or_len test xs) 0) ≡ true) → cond (not c) (1 + position_or_len test xs) 0 < suc (length xs) → test (get_or (x ∷ xs) (cond (not c) (1 + position_or_len test xs) 0) 0) ≡ true
-    by true e rest lt = e
-    by false e rest lt = let next : 1 + position_or_len test xs ≡ suc (position_or_len test xs) = omega arith in rw next (rest (omega arith))
+use Rattle.filter_lang.proofs.Tools.{is_clean}
 
 pub alphanumeric_clean : (b : ℕ) → is_alphanumeric b ≡ true → is_clean b ≡ true
 alphanumeric_clean b h = grind (arith, nat_tests)
@@ -33,9 +25,9 @@ pub record CallParts (call : List ℕ) : Type 0 where
 
 pub call_parts : (call : List ℕ) → is_call call ≡ true → CallParts call
 call_parts call h =
-    let first = both (nat_le (length call) 9 && nat_le 1 (length (base_of call)) && list_all is_alphanumeric (base_of call)) (has_no_bad_ssid call) h in
-    let second = both (nat_le (length call) 9 && nat_le 1 (length (base_of call))) (list_all is_alphanumeric (base_of call)) first.0 in
-    let third = both (nat_le (length call) 9) (nat_le 1 (length (base_of call))) second.0 in
+    let first = and_parts (nat_le (length call) 9 && nat_le 1 (length (base_of call)) && list_all is_alphanumeric (base_of call)) (has_no_bad_ssid call) h in
+    let second = and_parts (nat_le (length call) 9 && nat_le 1 (length (base_of call))) (list_all is_alphanumeric (base_of call)) first.0 in
+    let third = and_parts (nat_le (length call) 9) (nat_le 1 (length (base_of call))) second.0 in
     record { some = leb-true 1 (length (base_of call)) third.1; base = second.1; ssid = first.1 }
 
 pub call_some : (call : List ℕ) → is_call call ≡ true → 0 < length call
@@ -48,7 +40,7 @@ call_neat call h = by (length (base_of call) == length call) refl (parts.ssid)
     parts = call_parts call h
 
     clean : list_all is_clean (base_of call) ≡ true
-    clean = clean_from is_alphanumeric alphanumeric_clean (base_of call) parts.base
+    clean = each_weaker is_alphanumeric is_clean alphanumeric_clean (base_of call) parts.base
 
     by : (c : Bool) → (length (base_of call) == length call) ≡ c → (c || is_ssid_text (ssid_of call)) ≡ true → list_all is_clean call ≡ true
     by true whole good =
@@ -63,8 +55,8 @@ call_neat call h = by (length (base_of call) == length call) refl (parts.ssid)
         let other = eqb-false (length (base_of call)) (length call) apart in
         let within : position_or_len is_dash call < length call = omega (arith, length-take (position_or_len is_dash call) call) in
         let split = split_at_first is_dash call 0 within in
-        let dash = dash_clean (get_or call (position_or_len is_dash call) 0) (found_at is_dash call within) in
-        let ssid = both (nat_le 1 (length (ssid_of call)) && nat_le (length (ssid_of call)) 2) (list_all is_alphanumeric (ssid_of call)) good in
-        let rest = clean_from is_alphanumeric alphanumeric_clean (ssid_of call) ssid.1 in
+        let dash = dash_clean (get_or call (position_or_len is_dash call) 0) (passes_at_first is_dash call 0 within) in
+        let ssid = and_parts (nat_le 1 (length (ssid_of call)) && nat_le (length (ssid_of call)) 2) (list_all is_alphanumeric (ssid_of call)) good in
+        let rest = each_weaker is_alphanumeric is_clean alphanumeric_clean (ssid_of call) ssid.1 in
         let pieces : list_all is_clean (base_of call ++ get_or call (position_or_len is_dash call) 0 ∷ ssid_of call) ≡ true = rw (list_all-append is_clean (base_of call) (get_or call (position_or_len is_dash call) 0 ∷ ssid_of call), clean, dash, rest) refl in
         subst (λ (x : List ℕ). list_all is_clean x ≡ true) (sym split) pieces

@@ -1,21 +1,21 @@
 -- The canonical fields of each kind of term read as the same and are no longer.
-use Rattle.std.proofs.Common.{◌≡◌, ℕ, ℤ, suc, ◌+◌, ◌<◌, ◌≤◌, Bool, true, false, cond, ◌&&◌, ◌||◌, List, [], ◌∷◌, ◌++◌, Some, map, length, refl, sym, ap, ◌∙◌, arith, subst, append-nil, append_assoc}
+use Rattle.std.proofs.Common.{◌≡◌, ℕ, ℤ, suc, ◌+◌, ◌<◌, ◌≤◌, Bool, true, false, cond, ◌&&◌, ◌||◌, List, [], ◌∷◌, ◌++◌, Some, map, length, refl, ap, ◌∙◌, arith, subst, append-nil, append_assoc}
 use Rattle.std.specs.Prelude.{not, option_map}
 use Rattle.std.specs.Fmt.{decimal}
 use Rattle.std.specs.List.{list_all}
-use Rattle.std.proofs.lemmas.Bool.{ne_eqb, eqb-true}
+use Rattle.std.proofs.lemmas.Bool.{ne_eqb, eqb-true, and_parts}
 use Rattle.aprs_base.specs.Bytes.{is_call, is_letter}
 use Rattle.filter_lang.specs.declared.terms.What.{What}
 use Rattle.filter_lang.specs.declared.terms.What.TheVariants as what
-use Rattle.filter_lang.specs.Parts.{one_of, two_of, three_of, four_of, is_empty}
+use Rattle.filter_lang.specs.Parts.{is_empty}
 use Rattle.filter_lang.specs.Numbers.{degrees_of, degrees_text, kilometres_of}
 use Rattle.filter_lang.specs.Names.{spelled}
 use Rattle.filter_lang.specs.Sets.{mask_of, letters_of, set_of}
-use Rattle.filter_lang.specs.Grammar.{other_of, range_of, area_of, near_of, friend_of, mine_of, class_of, symbol_of, symbol_if, symbols_of, construct_of, construct_if, is_gates, call_of}
+use Rattle.filter_lang.specs.Grammar.{other_of, range_of, area_of, near_of, friend_of, mine_of, class_near, class_of, symbol_of, symbol_if, symbols_of, construct_of, construct_if, is_gates, call_of}
 use Rattle.filter_lang.specs.Canonical.{what_fields, kind_letter, set_text}
-use Rattle.filter_lang.proofs.Tools.{bind_some, map_some, cond_some, cond_not_some, both}
+use Rattle.filter_lang.proofs.Tools.{bind_some, map_some, cond_some, cond_not_some, Neat}
 use Rattle.filter_lang.proofs.SlashLaws.{slashed, spread, is_neat, ends_some}
-use Rattle.filter_lang.proofs.NumberLaws.{degrees_again, kilometres_again}
+use Rattle.filter_lang.proofs.NumberLaws.{degrees_again, kilometres_again, KeepsKilometres}
 use Rattle.filter_lang.proofs.SetLaws.{symbols_again, KeepsSymbols, letters_again}
 use Rattle.filter_lang.proofs.CallLaws.{call_neat}
 use Rattle.filter_lang.proofs.MaskLaws.{mask_again}
@@ -33,34 +33,33 @@ pub record Keeps (letter : ℕ) (fields : List (List ℕ)) (w : What) : Type 0 w
 pub some_not_empty : (f : List ℕ) → 0 < length f → not (is_empty f) ≡ true
 some_not_empty f h = rw (ne_eqb (length f) 0 (λ e. omega arith)) refl
 
-pub one_is : (fields : List (List ℕ)) (x : List ℕ) → one_of fields ≡ Some x → fields ≡ x ∷ []
-one_is [] x h = cc
-one_is (a ∷ []) x h = cc
-one_is (a ∷ b ∷ more) x h = cc
+-- canonical fields, each for one that was read
+abbrev pub AllNeat : (fields canon : List (List ℕ)) → Type 0
+AllNeat [] [] = Unit {0}
+AllNeat (f ∷ fields) (c ∷ canon) = Neat f c × AllNeat fields canon
+AllNeat _ _ = ⊥
 
-pub two_is : (fields : List (List ℕ)) (x : List ℕ × List ℕ) → two_of fields ≡ Some x → fields ≡ x.0 ∷ x.1 ∷ []
-two_is [] x h = cc
-two_is (a ∷ []) x h = cc
-two_is (a ∷ b ∷ []) x h = let e : (let y : List ℕ × List ℕ = (a, b) in y ≡ x) = cc in ap (λ (y : List ℕ × List ℕ). y.0 ∷ y.1 ∷ []) e
-two_is (a ∷ b ∷ c ∷ more) x h = cc
+pub neat_shorter : (fields canon : List (List ℕ)) → AllNeat fields canon → spread canon ≤ spread fields
+neat_shorter [] [] h = omega arith
+neat_shorter (f ∷ fields) (c ∷ canon) h = let first = h.0.shorter in let rest = neat_shorter fields canon h.1 in omega arith
+neat_shorter _ _ h = absurd h
 
-pub three_is : (fields : List (List ℕ)) (x : List ℕ × List ℕ × List ℕ) → three_of fields ≡ Some x → fields ≡ x.0 ∷ x.1 ∷ x.2 ∷ []
-three_is [] x h = cc
-three_is (a ∷ []) x h = cc
-three_is (a ∷ b ∷ []) x h = cc
-three_is (a ∷ b ∷ c ∷ []) x h = let e : (let y : List ℕ × List ℕ × List ℕ = (a, b, c) in y ≡ x) = cc in ap (λ (y : List ℕ × List ℕ × List ℕ). y.0 ∷ y.1 ∷ y.2 ∷ []) e
-three_is (a ∷ b ∷ c ∷ d ∷ more) x h = cc
+pub neat_clean : (fields canon : List (List ℕ)) → AllNeat fields canon → list_all is_neat canon ≡ true
+neat_clean [] [] h = refl
+neat_clean (f ∷ fields) (c ∷ canon) h = rw (h.0.clean, neat_clean fields canon h.1) refl
+neat_clean _ _ h = absurd h
 
-pub four_is : (fields : List (List ℕ)) (x : List ℕ × List ℕ × List ℕ × List ℕ) → four_of fields ≡ Some x → fields ≡ x.0 ∷ x.1 ∷ x.2 ∷ x.3 ∷ []
-four_is [] x h = cc
-four_is (a ∷ []) x h = cc
-four_is (a ∷ b ∷ []) x h = cc
-four_is (a ∷ b ∷ c ∷ []) x h = cc
-four_is (a ∷ b ∷ c ∷ d ∷ []) x h = let e : (let y : List ℕ × List ℕ × List ℕ × List ℕ = (a, b, c, d) in y ≡ x) = cc in ap (λ (y : List ℕ × List ℕ × List ℕ × List ℕ). y.0 ∷ y.1 ∷ y.2 ∷ y.3 ∷ []) e
-four_is (a ∷ b ∷ c ∷ d ∷ f ∷ more) x h = cc
-
-pub kept : {letter : ℕ} {fs fields : List (List ℕ)} {v w : What} → fields ≡ fs → v ≡ w → Keeps letter fs v → Keeps letter fields w
-kept {letter} {fs} {fields} {v} {w} p q k = subst (λ (u : What). Keeps letter fields u) q (subst (λ (x : List (List ℕ)). Keeps letter x v) (sym p) k)
+pub kept : (letter : ℕ) (fields canon : List (List ℕ)) (w : What) → what_fields w ≡ slashed canon → kind_letter w ≡ letter → other_of letter canon ≡ Some w →
+    AllNeat fields canon → ends_some canon ≡ true → Keeps letter fields w
+kept letter fields canon w text kind again neat ends = record {
+  canon = canon;
+  text = text;
+  kind = kind;
+  again = again;
+  shorter = neat_shorter fields canon neat;
+  clean = neat_clean fields canon neat;
+  ends = ends;
+}
 
 pub range_by : (a b c : List ℕ) (lat lon : ℤ) (km : ℕ) → degrees_of 90000000 a ≡ Some lat → degrees_of 180000000 b ≡ Some lon → kilometres_of c ≡ Some km → Keeps 114 (a ∷ b ∷ c ∷ []) (what.Range lat lon km)
 unfolding other_of range_of
@@ -68,25 +67,18 @@ range_by a b c lat lon km p q r =
     let first = degrees_again 90000000 a lat p in
     let second = degrees_again 180000000 b lon q in
     let third = kilometres_again c km r in
-    record {
-      canon = degrees_text lat ∷ degrees_text lon ∷ decimal km ∷ [];
-      text = simp (append_assoc, append-nil);
-      kind = refl;
-      again = rw (first.again, second.again, third.again) refl;
-      shorter = (let x = first.neat.shorter in let y = second.neat.shorter in let z = third.neat.shorter in omega arith);
-      clean = rw (first.neat.clean, second.neat.clean, third.neat.clean) refl;
-      ends = some_not_empty (decimal km) third.some;
-    }
+    kept 114 _ (degrees_text lat ∷ degrees_text lon ∷ decimal km ∷ []) _ (simp (append_assoc, append-nil)) refl (rw (first.again, second.again, third.again) refl)
+    (first.neat, (second.neat, (third.neat, tt))) (some_not_empty (decimal km) third.some)
 
 pub range_keeps : (fields : List (List ℕ)) (w : What) → range_of fields ≡ Some w → Keeps 114 fields w
 unfolding range_of
-range_keeps fields w h =
-    let three = bind_some (three_of fields) _ w h in
-    let lat = bind_some (degrees_of 90000000 three.0.0) _ w three.1.1 in
-    let lon = bind_some (degrees_of 180000000 three.0.1) _ w lat.1.1 in
-    let km = bind_some (kilometres_of three.0.2) _ w lon.1.1 in
+range_keeps (a ∷ b ∷ c ∷ []) w h =
+    let lat = bind_some (degrees_of 90000000 a) _ w h in
+    let lon = bind_some (degrees_of 180000000 b) _ w lat.1.1 in
+    let km = bind_some (kilometres_of c) _ w lon.1.1 in
     let e : what.Range lat.0 lon.0 km.0 ≡ w = cc in
-    kept (three_is fields three.0 three.1.0) e (range_by three.0.0 three.0.1 three.0.2 lat.0 lon.0 km.0 lat.1.0 lon.1.0 km.1.0)
+    subst (Keeps 114 (a ∷ b ∷ c ∷ [])) e (range_by a b c lat.0 lon.0 km.0 lat.1.0 lon.1.0 km.1.0)
+range_keeps _ w h = cc
 
 pub area_by : (a b c d : List ℕ) (north west south east : ℤ) → degrees_of 90000000 a ≡ Some north → degrees_of 180000000 b ≡ Some west → degrees_of 90000000 c ≡ Some south → degrees_of 180000000 d ≡ Some east → Keeps 97 (a ∷ b ∷ c ∷ d ∷ []) (what.Area north west south east)
 unfolding other_of area_of
@@ -95,26 +87,20 @@ area_by a b c d north west south east p q r s =
     let second = degrees_again 180000000 b west q in
     let third = degrees_again 90000000 c south r in
     let fourth = degrees_again 180000000 d east s in
-    record {
-      canon = degrees_text north ∷ degrees_text west ∷ degrees_text south ∷ degrees_text east ∷ [];
-      text = simp (append_assoc, append-nil);
-      kind = refl;
-      again = rw (first.again, second.again, third.again, fourth.again) refl;
-      shorter = (let x = first.neat.shorter in let y = second.neat.shorter in let z = third.neat.shorter in let v = fourth.neat.shorter in omega arith);
-      clean = rw (first.neat.clean, second.neat.clean, third.neat.clean, fourth.neat.clean) refl;
-      ends = some_not_empty (degrees_text east) fourth.some;
-    }
+    kept 97 _ (degrees_text north ∷ degrees_text west ∷ degrees_text south ∷ degrees_text east ∷ []) _ (simp (append_assoc, append-nil)) refl
+    (rw (first.again, second.again, third.again, fourth.again) refl)
+    (first.neat, (second.neat, (third.neat, (fourth.neat, tt)))) (some_not_empty (degrees_text east) fourth.some)
 
 pub area_keeps : (fields : List (List ℕ)) (w : What) → area_of fields ≡ Some w → Keeps 97 fields w
 unfolding area_of
-area_keeps fields w h =
-    let four = bind_some (four_of fields) _ w h in
-    let north = bind_some (degrees_of 90000000 four.0.0) _ w four.1.1 in
-    let west = bind_some (degrees_of 180000000 four.0.1) _ w north.1.1 in
-    let south = bind_some (degrees_of 90000000 four.0.2) _ w west.1.1 in
-    let east = bind_some (degrees_of 180000000 four.0.3) _ w south.1.1 in
+area_keeps (a ∷ b ∷ c ∷ d ∷ []) w h =
+    let north = bind_some (degrees_of 90000000 a) _ w h in
+    let west = bind_some (degrees_of 180000000 b) _ w north.1.1 in
+    let south = bind_some (degrees_of 90000000 c) _ w west.1.1 in
+    let east = bind_some (degrees_of 180000000 d) _ w south.1.1 in
     let e : what.Area north.0 west.0 south.0 east.0 ≡ w = cc in
-    kept (four_is fields four.0 four.1.0) e (area_by four.0.0 four.0.1 four.0.2 four.0.3 north.0 west.0 south.0 east.0 north.1.0 west.1.0 south.1.0 east.1.0)
+    subst (Keeps 97 (a ∷ b ∷ c ∷ d ∷ [])) e (area_by a b c d north.0 west.0 south.0 east.0 north.1.0 west.1.0 south.1.0 east.1.0)
+area_keeps _ w h = cc
 
 -- a call and kilometres
 pub record Near (fields : List (List ℕ)) (call : List ℕ) (km : ℕ) : Type 0 where
@@ -125,19 +111,23 @@ pub record Near (fields : List (List ℕ)) (call : List ℕ) (km : ℕ) : Type 0
 
 pub near_is : (fields : List (List ℕ)) (near : List ℕ × ℕ) → near_of fields ≡ Some near → Near fields near.0 near.1
 unfolding near_of
-near_is fields near h =
-    let two = bind_some (two_of fields) _ near h in
-    let call = bind_some (call_of two.0.0) _ near two.1.1 in
-    let km = bind_some (kilometres_of two.0.1) _ near call.1.1 in
-    let test = cond_some (is_call two.0.0) (Some two.0.0) call.0 call.1.0 in
-    let same : two.0.0 ≡ call.0 = cc in
+near_is (name ∷ text ∷ []) near h =
+    let call = bind_some (call_of name) _ near h in
+    let km = bind_some (kilometres_of text) _ near call.1.1 in
+    let test = cond_some (is_call name) (Some name) call.0 call.1.0 in
+    let same : name ≡ call.0 = cc in
     let e : (let pair : List ℕ × ℕ = (call.0, km.0) in pair ≡ near) = cc in
-    subst (λ (x : List ℕ × ℕ). Near fields x.0 x.1) e (record {
+    subst (λ (x : List ℕ × ℕ). Near (name ∷ text ∷ []) x.0 x.1) e (record {
       call_good = rw (← same) test.0;
-      text = two.0.1;
-      fields_are = two_is fields two.0 two.1.0 ∙ ap (λ (c : List ℕ). c ∷ two.0.1 ∷ []) same;
+      text = text;
+      fields_are = ap (λ (c : List ℕ). c ∷ text ∷ []) same;
       km_read = km.1.0;
     })
+near_is _ near h = cc
+
+-- a call that is kept, and its kilometres
+pub near_neat : (call text : List ℕ) (km : ℕ) → is_call call ≡ true → KeepsKilometres text km → AllNeat (call ∷ text ∷ []) (call ∷ decimal km ∷ [])
+near_neat call text km p third = (record { shorter = omega arith; clean = call_neat call p }, (third.neat, tt))
 
 pub near_again : (call : List ℕ) (km : ℕ) → is_call call ≡ true → kilometres_of (decimal km) ≡ Some km → near_of (call ∷ decimal km ∷ []) ≡ Some (call, km)
 unfolding near_of
@@ -147,44 +137,29 @@ pub friend_by : (call text : List ℕ) (km : ℕ) → is_call call ≡ true → 
 unfolding other_of friend_of
 friend_by call text km p q =
     let third = kilometres_again text km q in
-    record {
-      canon = call ∷ decimal km ∷ [];
-      text = simp append-nil;
-      kind = refl;
-      again = rw (near_again call km p third.again) refl;
-      shorter = (let z = third.neat.shorter in omega arith);
-      clean = rw (call_neat call p, third.neat.clean) refl;
-      ends = some_not_empty (decimal km) third.some;
-    }
+    kept 102 _ (call ∷ decimal km ∷ []) _ (simp append-nil) refl (rw (near_again call km p third.again) refl)
+    (near_neat call text km p third) (some_not_empty (decimal km) third.some)
 
 pub friend_keeps : (fields : List (List ℕ)) (w : What) → friend_of fields ≡ Some w → Keeps 102 fields w
 unfolding friend_of
 friend_keeps fields w h =
     let found = map_some (λ (near : List ℕ × ℕ). what.Friend near.0 near.1) (near_of fields) w h in
     let near = near_is fields found.0 found.1.0 in
-    kept near.fields_are found.1.1 (friend_by found.0.0 near.text found.0.1 near.call_good near.km_read)
+    rw near.fields_are (subst (Keeps 102 _) found.1.1 (friend_by found.0.0 near.text found.0.1 near.call_good near.km_read))
 
 pub mine_by : (text : List ℕ) (km : ℕ) → kilometres_of text ≡ Some km → Keeps 109 (text ∷ []) (what.Mine km)
 unfolding other_of mine_of
 mine_by text km q =
     let third = kilometres_again text km q in
-    record {
-      canon = decimal km ∷ [];
-      text = simp append-nil;
-      kind = refl;
-      again = rw third.again refl;
-      shorter = (let z = third.neat.shorter in omega arith);
-      clean = rw third.neat.clean refl;
-      ends = some_not_empty (decimal km) third.some;
-    }
+    kept 109 _ (decimal km ∷ []) _ (simp append-nil) refl (rw third.again refl) (third.neat, tt) (some_not_empty (decimal km) third.some)
 
 pub mine_keeps : (fields : List (List ℕ)) (w : What) → mine_of fields ≡ Some w → Keeps 109 fields w
 unfolding mine_of
-mine_keeps fields w h =
-    let one = bind_some (one_of fields) _ w h in
-    let km = bind_some (kilometres_of one.0) _ w one.1.1 in
+mine_keeps (text ∷ []) w h =
+    let km = bind_some (kilometres_of text) _ w h in
     let e : what.Mine km.0 ≡ w = cc in
-    kept (one_is fields one.0 one.1.0) e (mine_by one.0 km.0 km.1.0)
+    subst (Keeps 109 (text ∷ [])) e (mine_by text km.0 km.1.0)
+mine_keeps _ w h = cc
 
 pub no_fields : {A : Type 0} (fs : List A) → is_empty fs ≡ true → fs ≡ []
 no_fields [] e = refl
@@ -195,47 +170,33 @@ pub class_by : (letters : List ℕ) (mask : ℕ) → mask_of letters ≡ Some ma
 unfolding other_of class_of
 class_by letters mask p =
     let first = mask_again letters mask p in
-    record {
-      canon = letters_of mask ∷ [];
-      text = simp append-nil;
-      kind = refl;
-      again = rw first.again refl;
-      shorter = (let x = first.neat.shorter in omega arith);
-      clean = rw first.neat.clean refl;
-      ends = some_not_empty (letters_of mask) first.some;
-    }
+    kept 116 _ (letters_of mask ∷ []) _ (simp append-nil) refl (rw first.again refl) (first.neat, tt) (some_not_empty (letters_of mask) first.some)
 
 pub class_near_by : (letters call text : List ℕ) (mask km : ℕ) → mask_of letters ≡ Some mask → is_call call ≡ true → kilometres_of text ≡ Some km → Keeps 116 (letters ∷ call ∷ text ∷ []) (what.ClassNear mask call km)
 unfolding other_of class_of
 class_near_by letters call text mask km p q r =
     let first = mask_again letters mask p in
     let third = kilometres_again text km r in
-    record {
-      canon = letters_of mask ∷ call ∷ decimal km ∷ [];
-      text = simp append-nil;
-      kind = refl;
-      again = rw (first.again, near_again call km q third.again) refl;
-      shorter = (let x = first.neat.shorter in let z = third.neat.shorter in omega arith);
-      clean = rw (first.neat.clean, call_neat call q, third.neat.clean) refl;
-      ends = some_not_empty (decimal km) third.some;
-    }
+    kept 116 _ (letters_of mask ∷ call ∷ decimal km ∷ []) _ (simp append-nil) refl (rw (first.again, near_again call km q third.again) refl)
+    (first.neat, near_neat call text km q third) (some_not_empty (decimal km) third.some)
+
+-- more fields than the letters
+class_more : (mask : ℕ) (f : List ℕ) (fields : List (List ℕ)) (w : What) → class_near mask (f ∷ fields) ≡ Some w →
+    option_map (λ near. what.ClassNear mask near.0 near.1) (near_of (f ∷ fields)) ≡ Some w
+class_more mask f fields w h = let more : is_empty (f ∷ fields) ≡ false = ne_eqb (suc (length fields)) 0 (λ e. omega arith) in rw more at h
 
 pub class_keeps : (fields : List (List ℕ)) (w : What) → class_of fields ≡ Some w → Keeps 116 fields w
 unfolding class_of
 class_keeps [] w h = cc
-class_keeps (letters ∷ fields) w h =
+class_keeps (letters ∷ []) w h =
     let mask = bind_some (mask_of letters) _ w h in
-    by (is_empty fields) refl mask.0 mask.1.0 mask.1.1
-  where
-    by : (c : Bool) → is_empty fields ≡ c → (mask : ℕ) → mask_of letters ≡ Some mask → cond c (Some (what.Class mask)) (option_map (λ near. what.ClassNear mask near.0 near.1) (near_of fields)) ≡ Some w → Keeps 116 (letters ∷ fields) w
-    by true e mask p h' =
-        let none : letters ∷ fields ≡ letters ∷ [] = ap (λ (fs : List (List ℕ)). letters ∷ fs) (no_fields fields e) in
-        let same : what.Class mask ≡ w = cc in
-        kept none same (class_by letters mask p)
-    by false e mask p h' =
-        let found = map_some (λ (near : List ℕ × ℕ). what.ClassNear mask near.0 near.1) (near_of fields) w h' in
-        let near = near_is fields found.0 found.1.0 in
-        kept (ap (λ (fs : List (List ℕ)). letters ∷ fs) near.fields_are) found.1.1 (class_near_by letters found.0.0 near.text mask found.0.1 p near.call_good near.km_read)
+    let same : what.Class mask.0 ≡ w = cc in
+    subst (Keeps 116 (letters ∷ [])) same (class_by letters mask.0 mask.1.0)
+class_keeps (letters ∷ f ∷ fields) w h =
+    let mask = bind_some (mask_of letters) _ w h in
+    let found = map_some (λ (near : List ℕ × ℕ). what.ClassNear mask.0 near.0 near.1) (near_of (f ∷ fields)) w (class_more mask.0 f fields w mask.1.1) in
+    let near = near_is (f ∷ fields) found.0 found.1.0 in
+    rw near.fields_are (subst (Keeps 116 _) found.1.1 (class_near_by letters found.0.0 near.text mask.0 found.0.1 mask.1.0 near.call_good near.km_read))
 
 -- constructs
 pub construct_by : (letters : List ℕ) (gates : Bool) → list_all is_letter letters ≡ true → (gates || not (is_empty letters)) ≡ true → construct_if (map spelled (set_of letters)) gates ≡ Some (what.Construct (set_of letters) gates)
@@ -248,7 +209,7 @@ pub construct_is : (letters : List ℕ) (gates : Bool) (w : What) → construct_
 unfolding construct_if
 construct_is letters gates w h =
     let test = cond_some (list_all is_letter letters && (gates || not (is_empty letters))) (Some (what.Construct (set_of letters) gates)) w h in
-    let parts = both (list_all is_letter letters) (gates || not (is_empty letters)) test.0 in
+    let parts = and_parts (list_all is_letter letters) (gates || not (is_empty letters)) test.0 in
     (parts.0, (parts.1, cc))
 
 pub construct_keeps : (fields : List (List ℕ)) (w : What) → construct_of fields ≡ Some w → Keeps 113 fields w
@@ -257,28 +218,15 @@ construct_keeps [] w h = cc
 construct_keeps (letters ∷ []) w h =
     let is = construct_is letters false w h in
     let keeps = letters_again letters is.0 in
-    kept refl is.1.1 (record {
-      canon = map spelled (set_of letters) ∷ [];
-      text = simp append-nil;
-      kind = refl;
-      again = construct_by letters false is.0 is.1.0;
-      shorter = (let x = keeps.neat.shorter in omega arith);
-      clean = rw keeps.neat.clean refl;
-      ends = rw keeps.same is.1.0;
-    })
+    subst (Keeps 113 (letters ∷ [])) is.1.1
+    (kept 113 _ (map spelled (set_of letters) ∷ []) _ (simp append-nil) refl (construct_by letters false is.0 is.1.0) (keeps.neat, tt) (rw keeps.same is.1.0))
 construct_keeps (letters ∷ gates ∷ []) w h =
     let test = cond_some (is_gates gates) (construct_if letters true) w h in
     let is = construct_is letters true w test.1 in
     let keeps = letters_again letters is.0 in
-    kept (ap (λ (g : List ℕ). letters ∷ g ∷ []) (gates_is gates test.0)) is.1.1 (record {
-      canon = map spelled (set_of letters) ∷ (73 ∷ []) ∷ [];
-      text = simp append-nil;
-      kind = refl;
-      again = construct_by letters true is.0 is.1.0;
-      shorter = (let x = keeps.neat.shorter in omega arith);
-      clean = rw keeps.neat.clean refl;
-      ends = refl;
-    })
+    rw (gates_is gates test.0) (subst (Keeps 113 (letters ∷ (73 ∷ []) ∷ [])) is.1.1
+    (kept 113 _ (map spelled (set_of letters) ∷ (73 ∷ []) ∷ []) _ (simp append-nil) refl (construct_by letters true is.0 is.1.0)
+    (keeps.neat, (record { shorter = omega arith; clean = refl }, tt)) refl))
   where
     gates_is : (g : List ℕ) → is_gates g ≡ true → g ≡ 73 ∷ []
     gates_is [] e = cc

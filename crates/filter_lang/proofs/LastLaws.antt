@@ -1,16 +1,11 @@
 -- The last byte of a text.
-use Rattle.std.proofs.Common.{◌≡◌, ℕ, zero, suc, ◌+◌, ◌-◌, ◌<◌, ◌≤◌, Bool, true, false, cond, List, [], ◌∷◌, ◌++◌, take, length, get_or, refl, sym, ap, arith}
+use Rattle.std.proofs.Common.{◌≡◌, ℕ, ◌+◌, ◌-◌, ◌<◌, ◌≤◌, Bool, true, false, cond, List, [], ◌∷◌, ◌++◌, take, length, get_or, refl, sym, ap, arith}
 use Rattle.std.specs.List.{list_all}
 use Rattle.std.proofs.Math.Seq.{take-append_seam, get_or-append_seam, get_or-append_right}
 use Rattle.std.proofs.lemmas.List.{length-append, length-take}
 use Rattle.std.proofs.lemmas.Bool.{ne_eqb, eq-eqb, eqb-true}
+use Rattle.std.proofs.lemmas.List.Sums.{AllPass-from_list_all}
 use Rattle.filter_lang.specs.Parts.{ends_in, without_last}
-use Rattle.filter_lang.proofs.Tools.{both}
-
-pub all_at : (test : ℕ → Bool) (xs : List ℕ) (i : ℕ) → list_all test xs ≡ true → i < length xs → test (get_or xs i 0) ≡ true
-all_at test [] i h lt = absurd (omega arith)
-all_at test (x ∷ xs) zero h lt = (both (test x) (list_all test xs) h).0
-all_at test (x ∷ xs) (suc i) h lt = all_at test xs i (both (test x) (list_all test xs) h).1 (omega arith)
 
 -- a byte that is put at the end
 pub ends_in-put : (c : ℕ) (xs : List ℕ) → ends_in c (xs ++ c ∷ []) ≡ true
@@ -30,7 +25,7 @@ without_last-same c xs h = rw h refl
 pub ends_in-other : (c : ℕ) (test : ℕ → Bool) (xs : List ℕ) → (c ≡ 0 → ⊥) → test c ≡ false → list_all test xs ≡ true → ends_in c xs ≡ false
 ends_in-other c test [] nonzero other h = ne_eqb 0 c (λ e. nonzero (sym e))
 ends_in-other c test (x ∷ xs) nonzero other h = ne_eqb (get_or (x ∷ xs) (length (x ∷ xs) - 1) 0) c (λ e.
-    let last = all_at test (x ∷ xs) (length (x ∷ xs) - 1) h (omega arith) in
+    let last = AllPass-from_list_all test (x ∷ xs) h (length (x ∷ xs) - 1) 0 (omega arith) in
     let same = ap test e in
     cc)
 

@@ -1,17 +1,17 @@
 -- The canonical letters of a mask read as the same mask and are no longer.
-use Rattle.std.proofs.Common.{◌≡◌, ℕ, zero, suc, ◌+◌, ◌*◌, ◌/◌, ◌^◌, ◌<◌, ◌≤◌, inl, inr, Bool, true, false, cond, ◌==◌, ◌||◌, ◌&&◌, List, [], ◌∷◌, ◌++◌, Some, filter, length, refl, sym, ap, ◌∙◌, arith}
+use Rattle.std.proofs.Common.{◌≡◌, ℕ, zero, suc, ◌+◌, ◌*◌, ◌/◌, ◌^◌, ◌<◌, ◌≤◌, Bool, true, false, cond, ◌==◌, ◌&&◌, List, [], ◌∷◌, ◌++◌, Some, filter, length, refl, sym, ap, ◌∙◌, arith}
 use Rattle.std.specs.Prelude.{not, bit_and, if◌then◌else◌}
 use Rattle.std.specs.Int.{bit_at}
 use Rattle.std.specs.List.{list_all}
 use Rattle.std.proofs.lemmas.Nat.Bits.{and_pow, bit_at-suc, bit_at_lowest, bit_at-zero}
-use Rattle.std.proofs.lemmas.Bool.{cases_eq, ne_eqb, eq-eqb, eqb-true, eqb-false}
-use Rattle.std.proofs.lemmas.Map.Views.{any-filter_same}
+use Rattle.std.proofs.lemmas.Bool.{ne_eqb, eq-eqb, eqb-false, and_parts, not-true}
 use Rattle.std.proofs.Math.Bool.{and-true}
 use Rattle.std.proofs.Math.Nat.{one-le-pow}
+use Rattle.aprs_base.proofs.CallLemmas.{each_weaker}
 use Rattle.filter_lang.specs.Sets.{has, classes, is_class, mask_over, mask_of, mask_text, letters_of}
-use Rattle.filter_lang.proofs.SetLaws.{longer, longer_both, all_if, has_all}
-use Rattle.filter_lang.proofs.MemberLemmas.{has_none}
-use Rattle.filter_lang.proofs.Tools.{both, neither, unnot, cond_some, is_clean, clean_from, Neat}
+use Rattle.filter_lang.proofs.SetLaws.{all_if, has_all, one_more}
+use Rattle.filter_lang.proofs.MemberLemmas.{has_filter, has_none}
+use Rattle.filter_lang.proofs.Tools.{cond_some, is_clean, Neat}
 
 abbrev pub one : Bool → ℕ
 one b = cond b 1 0
@@ -91,7 +91,7 @@ letters_of-mask letters = mask_text-picked letters (mask_over classes letters) (
 -- a letter of the table is picked where it is there
 pub has-picked : (letters : List ℕ) (k : ℕ) → has table k ≡ true → has (picked letters) k ≡ has letters k
 has-picked letters k h =
-    any-filter_same (λ c. c == k) (has letters) (has letters k) (λ c e. ap (has letters) (eqb-true c k e)) table ∙ rw (h, and-true (has letters k)) refl
+    has_filter (has letters) table k ∙ rw (h, and-true (has letters k)) refl
 
 pub mask_over-picked : (letters : List ℕ) → mask_over classes (picked letters) ≡ mask_over classes letters
 mask_over-picked letters = rw (has-picked letters 112 refl, has-picked letters 111 refl, has-picked letters 105 refl, has-picked letters 109 refl, has-picked letters 113 refl, has-picked letters 115 refl, has-picked letters 116 refl, has-picked letters 117 refl, has-picked letters 110 refl, has-picked letters 119 refl) refl
@@ -99,34 +99,12 @@ mask_over-picked letters = rw (has-picked letters 112 refl, has-picked letters 1
 pub filter_kept : (test keep : ℕ → Bool) (xs : List ℕ) → list_all test xs ≡ true → list_all test (filter keep xs) ≡ true
 filter_kept test keep [] h = refl
 filter_kept test keep (x ∷ xs) h =
-    let parts = both (test x) (list_all test xs) h in
+    let parts = and_parts (test x) (list_all test xs) h in
     all_if test x (filter keep xs) (keep x) (λ _. parts.0) (filter_kept test keep xs parts.1)
-
--- no letter stands twice in the table
-abbrev pub is_distinct : List ℕ → Bool
-is_distinct [] = true
-is_distinct (x ∷ xs) = not (has xs x) && is_distinct xs
-
-pub filter_apart : (b : ℕ) (test : ℕ → Bool) (xs : List ℕ) → has xs b ≡ false → filter (λ k. b == k || test k) xs ≡ filter test xs
-filter_apart b test [] h = refl
-filter_apart b test (x ∷ xs) h =
-    let parts = neither (x == b) (has xs b) h in
-    rw (ne_eqb b x (λ e. eqb-false x b parts.0 (sym e)), filter_apart b test xs parts.1) refl
-
-pub one_more_of : (b : ℕ) (test : ℕ → Bool) (xs : List ℕ) → is_distinct xs ≡ true → length (filter (λ k. b == k || test k) xs) ≤ 1 + length (filter test xs)
-one_more_of b test [] h = omega arith
-one_more_of b test (x ∷ xs) h =
-    let parts = both (not (has xs x)) (is_distinct xs) h in
-    elim (cases_eq b x) as (λ _. length (filter (λ k. b == k || test k) (x ∷ xs)) ≤ 1 + length (filter test (x ∷ xs))) [
-      | inl same ↦
-          let least = longer (test x) x (filter test xs) in
-          rw (eq-eqb b x same, filter_apart b test xs (rw same (unnot (has xs x) parts.0))) (omega arith)
-      | inr other ↦ rw (ne_eqb b x other) (longer_both (test x) x _ _ (one_more_of b test xs parts.1))
-    ]
 
 pub picked-shorter : (letters : List ℕ) → length (picked letters) ≤ length letters
 picked-shorter [] = omega arith
-picked-shorter (b ∷ letters) = let more = picked-shorter letters in let one' = one_more_of b (has letters) table refl in omega arith
+picked-shorter (b ∷ letters) = let more = picked-shorter letters in let one' = one_more b (has letters) table refl in omega arith
 
 pub class_clean : (b : ℕ) → is_class b ≡ true → is_clean b ≡ true
 class_clean b h = has_all is_clean table b refl h
@@ -134,7 +112,7 @@ class_clean b h = has_all is_clean table b refl h
 pub picked_some : (letters : List ℕ) → list_all is_class letters ≡ true → 0 < length letters → length (picked letters) ≡ 0 → ⊥
 picked_some [] all some e = omega arith
 picked_some (b ∷ letters) all some e =
-    let class : has table b ≡ true = (both (is_class b) (list_all is_class letters) all).0 in
+    let class : has table b ≡ true = (and_parts (is_class b) (list_all is_class letters) all).0 in
     let here : has (b ∷ letters) b ≡ true = rw (eq-eqb b b refl) refl in
     let there = has-picked (b ∷ letters) b class in
     let none = has_none (picked (b ∷ letters)) b e in
@@ -154,13 +132,13 @@ unfolding mask_of
 mask_again field m h =
     let test = cond_some (list_all is_class field && not (length field == 0)) (Some (mask_over classes field)) m h in
     let e : mask_over classes field ≡ m = cc in
-    let parts = both (list_all is_class field) (not (length field == 0)) test.0 in
-    let apart = eqb-false (length field) 0 (unnot (length field == 0) parts.1) in
+    let parts = and_parts (list_all is_class field) (not (length field == 0)) test.0 in
+    let apart = eqb-false (length field) 0 (not-true (length field == 0) parts.1) in
     let some : 0 < length field = omega arith in
     let letters : letters_of m ≡ picked field = ap letters_of (sym e) ∙ letters_of-mask field in
     let picks = picked_some field parts.0 some in
     record {
       again = ap mask_of letters ∙ picked_again field parts.0 some ∙ ap (λ (n : ℕ). Some n) e;
-      neat = record { shorter = rw letters (picked-shorter field); clean = rw letters (clean_from is_class class_clean (picked field) (filter_kept is_class (has field) table refl)) };
+      neat = record { shorter = rw letters (picked-shorter field); clean = rw letters (each_weaker is_class is_clean class_clean (picked field) (filter_kept is_class (has field) table refl)) };
       some = rw letters (omega arith);
     }

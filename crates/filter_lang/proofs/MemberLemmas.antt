@@ -1,53 +1,35 @@
 -- The members of a set by its bits.
-use Rattle.std.proofs.Common.{◌≡◌, ℕ, zero, suc, ◌+◌, ◌/◌, ◌^◌, ◌<◌, ◌≤◌, Bool, true, false, cond, ◌==◌, List, [], ◌∷◌, filter, length, refl, sym, ◌∙◌, arith, inl, inr, ◌⊎◌, eq-eqb}
-use Rattle.std.specs.Prelude.{bit_and, nat_eq}
+use Rattle.std.proofs.Common.{◌≡◌, ℕ, zero, suc, ◌+◌, ◌/◌, ◌^◌, ◌<◌, ◌≤◌, Bool, false, ◌==◌, List, [], ◌∷◌, filter, length, refl, sym, ◌∙◌, arith, inl, inr, ap}
+use Rattle.std.specs.Prelude.{bit_and, nat_eq, nat_le, nat_lt, ◌&&◌}
 use Rattle.std.specs.Int.{bit_at}
 use Rattle.std.specs.List.{range_with_len}
-use Rattle.std.proofs.lemmas.Bool.{cases_eq, ne_eqb, eqb-false}
+use Rattle.std.proofs.lemmas.Bool.{cases_eq, ne_eqb, eqb-false, eqb-true, lt-ltb, le-ltb, le-leb}
 use Rattle.std.proofs.lemmas.Nat.Bits.{bit_at-zero, same_from_bits_below, shr_and_one, bit_at-lt}
+use Rattle.std.proofs.lemmas.Map.Views.{any-filter_same}
+use Rattle.std.proofs.Math.Bool.{and-true, and-false}
+use Rattle.std.proofs.lemmas.Bool.Decides.{nat_tests}
 use Rattle.filter_lang.specs.Parts.{is_empty}
 use Rattle.filter_lang.specs.Sets.{has, is_set, members_of}
 use Rattle.filter_lang.proofs.SetLemmas.{filter_range}
 
-module _ (test : ℕ → Bool) (k : ℕ) where
-  -- what lies outside of a range is no member
-  pub has_outside : (from n : ℕ) → (k < from) ⊎ (from + n ≤ k) → has (filter test (range_with_len from n)) k ≡ false
-  has_outside from zero h = refl
-  has_outside from (suc n) h = at_first (test from) (has_outside (from + 1) n later)
-    where
-      later : (k < from + 1) ⊎ (from + 1 + n ≤ k)
-      later = elim h [ inl below ↦ inl (omega arith) | inr past ↦ inr (omega arith) ]
+-- a filter's members
+pub has_filter : (test : ℕ → Bool) (xs : List ℕ) (k : ℕ) → has (filter test xs) k ≡ (test k && has xs k)
+has_filter test xs k = any-filter_same (λ c. c == k) test (test k) (λ c e. ap test (eqb-true c k e)) xs
 
-      apart : (from == k) ≡ false
-      apart = ne_eqb from k (λ e. elim h [ inl below ↦ absurd (omega arith) | inr past ↦ absurd (omega arith) ])
+has_range : (from n k : ℕ) → has (range_with_len from n) k ≡ (nat_le from k && nat_lt k (from + n))
+has_range from zero k = grind (arith, nat_tests)
+has_range from (suc n) k = rw (has_range (from + 1) n k) (grind (arith, nat_tests))
 
-      at_first : (c : Bool) → has (filter test (range_with_len (from + 1) n)) k ≡ false → has (cond c (from ∷ filter test (range_with_len (from + 1) n)) (filter test (range_with_len (from + 1) n))) k ≡ false
-      at_first true rest = rw (apart, rest) refl
-      at_first false rest = rest
-
-  -- what lies inside is one by its test
-  pub has_inside : (from n : ℕ) → from ≤ k → k < from + n → has (filter test (range_with_len from n)) k ≡ test k
-  has_inside from zero low high = absurd (omega arith)
-  has_inside from (suc n) low high = elim (cases_eq from k) as (λ _. has (filter test (range_with_len from (suc n))) k ≡ test k) [
-    | inl same ↦ rw (sym same) (at_first (test from) (rw (← same) at has_outside (from + 1) n (inl (omega arith))))
-    | inr other ↦ later (test from) (ne_eqb from k other) (has_inside (from + 1) n (omega arith) (omega arith))
-  ]
-    where
-      at_first : (c : Bool) → has (filter test (range_with_len (from + 1) n)) from ≡ false → has (cond c (from ∷ filter test (range_with_len (from + 1) n)) (filter test (range_with_len (from + 1) n))) from ≡ c
-      at_first true rest = rw (eq-eqb from from refl) refl
-      at_first false rest = rest
-
-      later : (c : Bool) → (from == k) ≡ false → has (filter test (range_with_len (from + 1) n)) k ≡ test k → has (cond c (from ∷ filter test (range_with_len (from + 1) n)) (filter test (range_with_len (from + 1) n))) k ≡ test k
-      later true apart rest = rw (apart, rest) refl
-      later false apart rest = rest
+pub has_members : (test : ℕ → Bool) (k : ℕ) → k < 128 → has (filter test (range_with_len 0 128)) k ≡ test k
+has_members test k h = has_filter test (range_with_len 0 128) k ∙ rw (has_range 0 128 k, le-leb 0 k (omega arith), lt-ltb k 128 h) (and-true (test k))
 
 pub members_of-has : (bits k : ℕ) → k < 128 → has (members_of bits) k ≡ is_set bits k
 unfolding members_of
-members_of-has bits k h = has_inside (is_set bits) k 0 128 (omega arith) h
+members_of-has bits k h = has_members (is_set bits) k h
 
 pub members_of-lacks : (bits k : ℕ) → 128 ≤ k → has (members_of bits) k ≡ false
 unfolding members_of
-members_of-lacks bits k h = has_outside (is_set bits) k 0 128 (inr h)
+members_of-lacks bits k h = has_filter (is_set bits) (range_with_len 0 128) k ∙ rw (has_range 0 128 k, le-leb 0 k (omega arith), le-ltb k 128 h) (and-false (is_set bits k))
 
 -- the code's tests
 pub bit_test : (bits k : ℕ) → k < 128 → nat_eq (bit_and (bits / 2 ^ k) 1) 1 ≡ has (members_of bits) k

@@ -3,14 +3,14 @@ use Rattle.std.proofs.Common.{◌≡◌, ℕ, ◌+◌, ◌<◌, ◌≤◌, Bool,
 use Rattle.std.specs.Prelude.{not}
 use Rattle.std.specs.List.{list_all}
 use Rattle.std.proofs.lemmas.List.{length-map, length-append}
-use Rattle.std.proofs.lemmas.Bool.{leb-true, le-leb}
+use Rattle.std.proofs.lemmas.Bool.{leb-true, le-leb, and_parts}
 use Rattle.std.proofs.lemmas.Bool.Decides.{nat_tests}
+use Rattle.std.proofs.lemmas.Simd.{map-map}
 use Rattle.filter_lang.specs.Seen.{NameSeen}
 use Rattle.filter_lang.specs.Parts.{is_empty, ends_in, without_last}
 use Rattle.filter_lang.specs.Names.{meant, spelled, is_plain, is_name, name_if, name_of, starless, star_text}
-use Rattle.filter_lang.proofs.SetLaws.{map_all}
 use Rattle.filter_lang.proofs.LastLaws.{ends_in-put, without_last-put, ends_in-other, without_last-shorter, without_last-length}
-use Rattle.filter_lang.proofs.Tools.{both, cond_some, is_clean, clean_append, Neat}
+use Rattle.filter_lang.proofs.Tools.{cond_some, is_clean, clean_append, Neat, map_agree, map_all}
 
 -- a name without its slash
 abbrev pub bare : NameSeen → List ℕ
@@ -27,14 +27,6 @@ respelled_clean b h = grind (arith, nat_tests)
 
 pub respelled_meant : (b : ℕ) → is_plain b ≡ true → meant (respelled b) ≡ meant b
 respelled_meant b h = grind (arith, nat_tests)
-
-pub map_map : (f g : ℕ → ℕ) (xs : List ℕ) → map f (map g xs) ≡ map (λ x. f (g x)) xs
-map_map f g [] = refl
-map_map f g (x ∷ xs) = ap (λ (ys : List ℕ). f (g x) ∷ ys) (map_map f g xs)
-
-pub map_agree : (p : ℕ → Bool) (f g : ℕ → ℕ) → ((b : ℕ) → p b ≡ true → f b ≡ g b) → (xs : List ℕ) → list_all p xs ≡ true → map f xs ≡ map g xs
-map_agree p f g each [] h = refl
-map_agree p f g each (x ∷ xs) h = let parts = both (p x) (list_all p xs) h in rw (each x parts.0, map_agree p f g each xs parts.1) refl
 
 -- the parts of a name's text
 pub name_text-parts : (body : List ℕ) (wild : Bool) → list_all is_plain body ≡ true → name_of (body ++ star_text wild) ≡ name_if body wild
@@ -61,10 +53,10 @@ star_clean false = refl
 -- a name of plain bytes
 pub name_by : (field body : List ℕ) (wild : Bool) → list_all is_plain body ≡ true → length body ≤ 9 → (wild || not (is_empty body)) ≡ true → length body + length (star_text wild) ≤ length field → KeepsName field (record { text = map meant body; wild = wild })
 name_by field body wild plain nine some size =
-    let both_ways : map spelled (map meant body) ≡ map respelled body = map_map spelled meant body in
+    let both_ways : map spelled (map meant body) ≡ map respelled body = map-map spelled meant body in
     let plain' = map_all is_plain is_plain respelled respelled_plain body plain in
     let clean = map_all is_plain is_clean respelled respelled_clean body plain in
-    let meant' : map meant (map respelled body) ≡ map meant body = map_map meant respelled body ∙ map_agree is_plain (λ b. meant (respelled b)) meant respelled_meant body plain in
+    let meant' : map meant (map respelled body) ≡ map meant body = map-map meant respelled body ∙ map_agree is_plain (λ b. meant (respelled b)) meant respelled_meant body plain in
     let same = length-map body respelled in
     record {
       again = rw both_ways (name_text-parts (map respelled body) wild plain' ∙ rw (plain', same, le-leb (length body) 9 nine, some, meant') refl);
@@ -93,8 +85,8 @@ name_parts field n h =
     let body : List ℕ = without_last 42 field in
     let wild : Bool = ends_in 42 field in
     let test = cond_some (is_name body wild) (Some (record { text = map meant body; wild = wild })) n h in
-    let first = both (list_all is_plain body && nat_le (length body) 9) (wild || not (is_empty body)) test.0 in
-    let second = both (list_all is_plain body) (nat_le (length body) 9) first.0 in
+    let first = and_parts (list_all is_plain body && nat_le (length body) 9) (wild || not (is_empty body)) test.0 in
+    let second = and_parts (list_all is_plain body) (nat_le (length body) 9) first.0 in
     record {
       body = body;
       wild = wild;

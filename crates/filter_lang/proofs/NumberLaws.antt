@@ -11,14 +11,15 @@ use Rattle.std.proofs.lemmas.Nat.{mod-mul-add}
 use Rattle.std.proofs.Math.Seq.{take-length, take-append_seam, drop-append-add}
 use Rattle.std.proofs.lemmas.List.Folds.{list_all-append}
 use Rattle.std.proofs.lemmas.List.{length-take, length-drop, length-append}
-use Rattle.std.proofs.lemmas.Bool.{cases_lt, cases_eq, ne_eqb, eq-eqb, eqb-false, le-leb, leb-true}
+use Rattle.std.proofs.lemmas.Bool.{cases_lt, cases_eq, ne_eqb, eq-eqb, eqb-false, le-leb, leb-true, and_parts, not-true}
 use Rattle.std.proofs.lemmas.Bool.Decides.{nat_tests}
 use Rattle.std.proofs.lemmas.Fmt.{decimal_is_IsNumeral, length-decimal-le}
+use Rattle.aprs_base.proofs.CallLemmas.{each_weaker}
 use Rattle.aprs_base.specs.Bytes.{is_digit}
 use Rattle.filter_lang.specs.Parts.{is_empty, ◌>>=◌}
 use Rattle.filter_lang.specs.Numbers.{are_digits, is_dot, digits_if, dotted_of, fraction_of, fraction_text, fraction_digits, places, shorter, millionths_of, at_most, size_of, has_minus, degrees_of, kilometres_of, dotted_text, millionths_text, degrees_text}
 use Rattle.filter_lang.proofs.NumberLemmas.{value_bound, fraction_of-bound, fraction_end, total}
-use Rattle.filter_lang.proofs.Tools.{bind_some, map_some, cond_some, both, unnot, is_clean, clean_from, digit_clean, Neat}
+use Rattle.filter_lang.proofs.Tools.{bind_some, map_some, cond_some, is_clean, digit_clean, Neat}
 
 -- a number that has a digit for each place, and nothing left after the last
 abbrev pub FitsPlaces : List ℕ → ℕ → Type 0
@@ -38,14 +39,14 @@ is_size b = is_digit b || is_dot b
 pub digits_undotted : (xs : List ℕ) → list_all is_digit xs ≡ true → position_or_len is_dot xs ≡ length xs
 digits_undotted [] h = refl
 digits_undotted (x ∷ xs) h =
-    let parts = both (is_digit x) (list_all is_digit xs) h in
+    let parts = and_parts (is_digit x) (list_all is_digit xs) h in
     let none : is_dot x ≡ false = (let digit = parts.0 in grind (arith, nat_tests)) in
     rw (none, digits_undotted xs parts.1) (omega arith)
 
 pub digits_dotted : (xs ys : List ℕ) → list_all is_digit xs ≡ true → position_or_len is_dot (xs ++ 46 ∷ ys) ≡ length xs
 digits_dotted [] ys h = refl
 digits_dotted (x ∷ xs) ys h =
-    let parts = both (is_digit x) (list_all is_digit xs) h in
+    let parts = and_parts (is_digit x) (list_all is_digit xs) h in
     let none : is_dot x ≡ false = (let digit = parts.0 in grind (arith, nat_tests)) in
     rw (none, digits_dotted xs ys parts.1) (omega arith)
 
@@ -59,8 +60,8 @@ pub record Dotted (text before after : List ℕ) : Type 0 where
 
 pub number_parts : (xs : List ℕ) → are_digits xs ≡ true → (list_all is_digit xs ≡ true) × (0 < length xs)
 number_parts xs h =
-    let parts = both (list_all is_digit xs) (not (is_empty xs)) h in
-    let some : length xs ≡ 0 → ⊥ = eqb-false (length xs) 0 (unnot (is_empty xs) parts.1) in
+    let parts = and_parts (list_all is_digit xs) (not (is_empty xs)) h in
+    let some : length xs ≡ 0 → ⊥ = eqb-false (length xs) 0 (not-true (is_empty xs) parts.1) in
     (parts.0, omega arith)
 
 pub are_digits_is : (xs : List ℕ) → list_all is_digit xs ≡ true → 0 < length xs → are_digits xs ≡ true
@@ -75,7 +76,7 @@ dotted_by true text before after number size rest h =
 dotted_by false text before after number size rest h =
     let test = cond_some (are_digits before && are_digits after) (Some (before, after)) number h in
     let e : (let pair : List ℕ × List ℕ = (before, after) in pair ≡ number) = cc in
-    let digits = both (are_digits before) (are_digits after) test.0 in
+    let digits = and_parts (are_digits before) (are_digits after) test.0 in
     let first = number_parts before digits.0 in
     let second = number_parts after digits.1 in
     subst (λ (x : List ℕ × List ℕ). Dotted text x.0 x.1) e (record { whole = first.0; some = first.1; more = second.0; size = size; rest = rest })
@@ -164,7 +165,7 @@ kilometres_again text km h =
     record {
       again = rw (dotted_whole (decimal km) ten.digits ten.some, le-leb (length (decimal km)) 5 short, ten.value) refl;
       some = ten.some;
-      neat = record { shorter = (let same = ap (λ (n : ℕ). length (decimal n)) value in let size = is.dotted.size in omega arith); clean = clean_from is_digit digit_clean (decimal km) ten.digits };
+      neat = record { shorter = (let same = ap (λ (n : ℕ). length (decimal n)) value in let size = is.dotted.size in omega arith); clean = each_weaker is_digit is_clean digit_clean (decimal km) ten.digits };
     }
 
 -- the digits after the dot, written and read
@@ -191,7 +192,7 @@ pub fraction_text-shorter : (ps ds : List ℕ) → AreUnits ps → list_all is_d
 fraction_text-shorter [] ds u h = omega arith
 fraction_text-shorter (p ∷ ps) [] u h = omega arith
 fraction_text-shorter (p ∷ ps) (d ∷ ds) u h =
-    let digits = both (is_digit d) (list_all is_digit ds) h in
+    let digits = and_parts (is_digit d) (list_all is_digit ds) h in
     let bound = fraction_of-bound ps ds digits.1 in
     let below : fraction_of ps ds < p = (let apart = u.0 in omega arith) in
     let more = fraction_text-shorter ps ds u.1 digits.1 in
@@ -220,11 +221,10 @@ pub record KeepsSize (text m : List ℕ) (n : ℕ) : Type 0 where
 
 pub digits_plain : (xs ys : List ℕ) → list_all is_digit xs ≡ true → 0 < length xs → has_minus (xs ++ ys) ≡ false
 digits_plain [] ys h some = absurd (omega arith)
-digits_plain (x ∷ xs) ys h some = let digit = (both (is_digit x) (list_all is_digit xs) h).0 in grind (arith, nat_tests)
+digits_plain (x ∷ xs) ys h some = let digit = (and_parts (is_digit x) (list_all is_digit xs) h).0 in grind (arith, nat_tests)
 
 pub digits_size : (xs : List ℕ) → list_all is_digit xs ≡ true → list_all is_size xs ≡ true
-digits_size [] h = refl
-digits_size (x ∷ xs) h = let parts = both (is_digit x) (list_all is_digit xs) h in rw (parts.0, digits_size xs parts.1) refl
+digits_size xs h = each_weaker is_digit is_size (λ b e. grind (arith, nat_tests)) xs h
 
 -- a number without digits after the dot
 pub whole_again : (text : List ℕ) (w : ℕ) → w < 1000 → length (decimal w) ≤ length text → KeepsSize text (decimal w) (w * 1000000 + 0)
@@ -312,7 +312,7 @@ pub degrees_plus : (limit : ℕ) (text : List ℕ) (n : ℕ) → KeepsSize text 
 unfolding degrees_of degrees_text
 degrees_plus limit text n keeps within = record {
   again = rw (keeps.plain, keeps.again, within) refl;
-  neat = record { shorter = keeps.shorter; clean = clean_from is_size size_clean (millionths_text n) keeps.digits };
+  neat = record { shorter = keeps.shorter; clean = each_weaker is_size is_clean size_clean (millionths_text n) keeps.digits };
   some = keeps.some;
 }
 
@@ -320,7 +320,7 @@ pub degrees_minus : (limit : ℕ) (text : List ℕ) (n : ℕ) → length (drop 1
 unfolding degrees_of degrees_text
 degrees_minus limit text n size keeps within = record {
   again = rw (keeps.again, within) refl;
-  neat = record { shorter = (let less = keeps.shorter in omega arith); clean = clean_from is_size size_clean (millionths_text (suc n)) keeps.digits };
+  neat = record { shorter = (let less = keeps.shorter in omega arith); clean = each_weaker is_size is_clean size_clean (millionths_text (suc n)) keeps.digits };
   some = omega arith;
 }
 

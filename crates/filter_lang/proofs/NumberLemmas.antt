@@ -1,5 +1,5 @@
 -- The values of digits.
-use Rattle.std.proofs.Common.{◌≡◌, ℕ, zero, suc, ◌+◌, ◌-◌, ◌*◌, ◌^◌, ◌<◌, ◌≤◌, true, List, [], ◌∷◌, length, take, drop, get_or, arith, refl, drop-cons, add-one}
+use Rattle.std.proofs.Common.{◌≡◌, ℕ, ◌+◌, ◌-◌, ◌*◌, ◌^◌, ◌<◌, ◌≤◌, true, List, [], ◌∷◌, length, take, drop, get_or, arith, refl, drop-cons, add-one}
 use Rattle.std.specs.List.{list_all}
 use Rattle.std.specs.Str.Parse.{digits_value, AllDigits}
 use Rattle.std.specs.Char.{digit_value}
@@ -9,6 +9,7 @@ use Rattle.std.proofs.lemmas.List.{take_rest}
 use Rattle.std.proofs.lemmas.Str.Parse.{digits_value-take-le}
 use Rattle.std.proofs.Math.ListN.{drop_of_length-le}
 use Rattle.std.proofs.Math.Nat.{mul-le-mul_right, pow-le-pow_right}
+use Rattle.std.proofs.lemmas.List.Sums.{AllPass-from_list_all}
 use Rattle.aprs_base.specs.Bytes.{is_digit}
 use Rattle.filter_lang.specs.Numbers.{fraction_of, places}
 
@@ -23,9 +24,7 @@ all_digits_are (d ∷ ds) h =
     (omega (arith, digit_is d first), all_digits_are ds rest)
 
 pub digit_at : (ds : List ℕ) (i : ℕ) → list_all is_digit ds ≡ true → i < length ds → (48 ≤ get_or ds i 0) × (get_or ds i 0 ≤ 57) × (digit_value (get_or ds i 0) ≡ get_or ds i 0 - 48)
-digit_at [] i h lt = absurd (omega arith)
-digit_at (d ∷ ds) zero h lt = let is = digit_is d (grind (arith, nat_tests)) in (is.1, is.2, is.0)
-digit_at (d ∷ ds) (suc i) h lt = digit_at ds i (grind (arith, nat_tests)) (omega arith)
+digit_at ds i h lt = let is = digit_is (get_or ds i 0) (AllPass-from_list_all is_digit ds h i 0 lt) in (is.1, is.2, is.0)
 
 -- one more digit
 pub value_more : (ds : List ℕ) (i : ℕ) → list_all is_digit ds ≡ true → i < length ds → digits_value 10 (take (i + 1) ds) ≡ digits_value 10 (take i ds) * 10 + (get_or ds i 0 - 48)

@@ -9,6 +9,9 @@ use Rattle.std.proofs.lemmas.Bool.{cases_eq}
 use Rattle.std.proofs.lemmas.Nat.Bits.{bit_at_set_same, bit_at_set_other}
 use Rattle.std.specs.Int.{w128}
 use Rattle.std.proofs.lemmas.List.{take_more, map-append}
+use Rattle.std.proofs.lemmas.List.Sums.{AllPass-from_list_all}
+use Rattle.filter_lang.proofs.Tools.{map_same}
+use Rattle.aprs_base.proofs.CallLemmas.{each_weaker}
 use Rattle.aprs_base.specs.Bytes.{is_letter}
 use Rattle.filter_lang.specs.Names.{meant}
 use Rattle.filter_lang.specs.Grammar.{is_printing}
@@ -39,23 +42,13 @@ pub has_more : (text : List ℕ) (i k : ℕ) → i < length text → has (map me
 has_more text i k h = rw (take_more text i 0 h, map-append meant (take i text) (get_or text i 0 ∷ [])) (has-append (map meant (take i text)) (meant (get_or text i 0)) k)
 
 pub printing_meant : (text : List ℕ) (i : ℕ) → list_all is_printing text ≡ true → i < length text → meant (get_or text i 0) < 128
-printing_meant [] i h lt = absurd (omega arith)
-printing_meant (b ∷ text) zero h lt = grind (arith, nat_tests)
-printing_meant (b ∷ text) (suc i) h lt = printing_meant text i (grind (arith, nat_tests)) (omega arith)
+printing_meant text i h lt = let printing = AllPass-from_list_all is_printing text h i 0 lt in grind (arith, nat_tests)
 
 pub letters_printing : (text : List ℕ) → list_all is_letter text ≡ true → list_all is_printing text ≡ true
-letters_printing [] h = refl
-letters_printing (b ∷ text) h =
-    let first : is_printing b ≡ true = grind (arith, nat_tests) in
-    let more = letters_printing text (grind (arith, nat_tests)) in
-    rw (first, more) refl
+letters_printing text h = each_weaker is_letter is_printing (λ b e. grind (arith, nat_tests)) text h
 
 pub letters_meant : (text : List ℕ) → list_all is_letter text ≡ true → map meant text ≡ text
-letters_meant [] h = refl
-letters_meant (b ∷ text) h =
-    let first : meant b ≡ b = grind (arith, nat_tests) in
-    let more = letters_meant text (grind (arith, nat_tests)) in
-    rw (first, more) refl
+letters_meant text h = map_same is_letter meant (λ b e. grind (arith, nat_tests)) text h
 
 pub mask_over_step : (i : ℕ) (letters : List ℕ) → i < 10 → mask_over (drop i classes) letters ≡ (if has letters (slice_index_or classes i (0, 0)).0 then (slice_index_or classes i (0, 0)).1 else 0) + mask_over (drop (i + 1) classes) letters
 mask_over_step i letters h = rw (drop-cons classes i (0, 0) h, add-one i) refl

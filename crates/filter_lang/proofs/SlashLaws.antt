@@ -3,13 +3,13 @@ use Rattle.std.proofs.Common.{◌≡◌, ℕ, suc, ◌+◌, ◌<◌, Bool, true,
 use Rattle.std.specs.Prelude.{not}
 use Rattle.std.specs.List.{list_all, slice_split, onto_first, All}
 use Rattle.std.proofs.lemmas.List.{length-append}
-use Rattle.std.proofs.lemmas.Bool.{eqb-false}
+use Rattle.std.proofs.lemmas.Bool.{eqb-false, and_parts, not-true}
 use Rattle.std.proofs.lemmas.List.Splits.{slice_split_none, slice_split_at}
 use Rattle.std.proofs.lemmas.List.Sums.{AllPass-from_list_all}
 use Rattle.aprs_base.specs.Bytes.{is_blank}
 use Rattle.filter_lang.specs.Parts.{fields_of, is_slash, ends_in, is_empty}
 use Rattle.filter_lang.proofs.LastLaws.{ends_in-append, ends_in-other}
-use Rattle.filter_lang.proofs.Tools.{both, unnot, is_inside, is_clean, inside_unblank}
+use Rattle.filter_lang.proofs.Tools.{is_inside, is_clean, inside_unblank}
 
 abbrev pub slashed : List (List ℕ) → List ℕ
 slashed [] = []
@@ -34,15 +34,15 @@ ends_some (f ∷ []) = not (is_empty f)
 ends_some (f ∷ g ∷ fields) = ends_some (g ∷ fields)
 
 pub clean_unslashed : (f : List ℕ) → is_neat f ≡ true → All (λ b. is_slash b ≡ false) f
-clean_unslashed f h = λ k d lt. let pass = AllPass-from_list_all is_clean f h k d lt in unnot (is_slash (get_or f k d)) (both (is_inside (get_or f k d)) (not (is_slash (get_or f k d))) pass).1
+clean_unslashed f h = λ k d lt. let pass = AllPass-from_list_all is_clean f h k d lt in not-true (is_slash (get_or f k d)) (and_parts (is_inside (get_or f k d)) (not (is_slash (get_or f k d))) pass).1
 
 pub clean_unblank : (f : List ℕ) → is_neat f ≡ true → All (λ b. is_blank b ≡ false) f
-clean_unblank f h = λ k d lt. let pass = AllPass-from_list_all is_clean f h k d lt in inside_unblank (get_or f k d) (both (is_inside (get_or f k d)) (not (is_slash (get_or f k d))) pass).0
+clean_unblank f h = λ k d lt. let pass = AllPass-from_list_all is_clean f h k d lt in inside_unblank (get_or f k d) (and_parts (is_inside (get_or f k d)) (not (is_slash (get_or f k d))) pass).0
 
 pub fields_of-slashed : (front : List ℕ) (fields : List (List ℕ)) → is_neat front ≡ true → list_all is_neat fields ≡ true → fields_of (front ++ slashed fields) ≡ front ∷ fields
 fields_of-slashed front [] h all = rw (append-nil front) (slice_split_none is_slash front (clean_unslashed front h))
 fields_of-slashed front (f ∷ fields) h all =
-    let parts = both (is_neat f) (list_all is_neat fields) all in
+    let parts = and_parts (is_neat f) (list_all is_neat fields) all in
     slice_split_at is_slash front 47 (f ++ slashed fields) (clean_unslashed front h) refl ∙ ap (λ (fs : List (List ℕ)). front ∷ fs) (fields_of-slashed f fields parts.0 parts.1)
 
 -- what ends a field ends the text
@@ -52,13 +52,13 @@ ends_in-field front f rest some = ends_in-append 47 front (47 ∷ (f ++ rest)) (
 pub slashed-ends : (front : List ℕ) (fields : List (List ℕ)) → list_all is_neat fields ≡ true → ends_some fields ≡ true → ends_in 47 (front ++ slashed fields) ≡ false
 slashed-ends front [] all some = cc
 slashed-ends front (f ∷ []) all some =
-    let parts = both (is_neat f) true all in
-    let apart = eqb-false (length f) 0 (unnot (is_empty f) some) in
+    let parts = and_parts (is_neat f) true all in
+    let apart = eqb-false (length f) 0 (not-true (is_empty f) some) in
     let nil = append-nil f in
     let long : 0 < length (f ++ []) = rw nil (omega arith) in
     ends_in-field front f [] long ∙ ap (ends_in 47) nil ∙ ends_in-other 47 is_clean f (λ e. omega arith) refl parts.0
 slashed-ends front (f ∷ g ∷ fields) all some =
-    let parts = both (is_neat f) (list_all is_neat (g ∷ fields)) all in
+    let parts = and_parts (is_neat f) (list_all is_neat (g ∷ fields)) all in
     let long : 0 < length (f ++ slashed (g ∷ fields)) = omega (arith, length-append f (slashed (g ∷ fields))) in
     ends_in-field front f (slashed (g ∷ fields)) long ∙ slashed-ends f (g ∷ fields) parts.1 some
 

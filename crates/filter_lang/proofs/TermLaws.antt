@@ -3,7 +3,9 @@ use Rattle.std.proofs.Common.{◌≡◌, ℕ, ◌+◌, ◌<◌, ◌≤◌, Bool,
 use Rattle.std.specs.Prelude.{not, option_map}
 use Rattle.std.specs.List.{list_all}
 use Rattle.std.proofs.lemmas.List.Folds.{list_all-append}
-use Rattle.std.proofs.lemmas.Bool.{eqb-true, eqb-false}
+use Rattle.std.proofs.lemmas.Bool.{eqb-true, eqb-false, and_parts, not-true}
+use Rattle.std.proofs.lemmas.List.{map-id}
+use Rattle.aprs_base.proofs.CallLemmas.{each_weaker}
 use Rattle.filter_lang.specs.declared.terms.What.{What}
 use Rattle.filter_lang.specs.declared.terms.What.TheVariants as what
 use Rattle.filter_lang.specs.Seen.{NameSeen}
@@ -13,7 +15,7 @@ use Rattle.filter_lang.specs.Numbers.{has_minus}
 use Rattle.filter_lang.specs.Names.{name_of, names_of, names_text, starless}
 use Rattle.filter_lang.specs.Grammar.{other_of, named_of, what_of, what_of_fields, lower, term_of, term_if}
 use Rattle.filter_lang.specs.Canonical.{what_fields, what_text, kind_letter, term_text}
-use Rattle.filter_lang.proofs.Tools.{bind_some, map_some, cond_not_some, both, unnot, is_inside, is_clean}
+use Rattle.filter_lang.proofs.Tools.{bind_some, map_some, cond_not_some, is_inside, is_clean}
 use Rattle.filter_lang.proofs.LastLaws.{without_last-length, without_last-same}
 use Rattle.filter_lang.proofs.NumberLaws.{minus_size}
 use Rattle.filter_lang.proofs.NameLaws.{bare, KeepsName, name_again, starless_again, starless_twice}
@@ -53,10 +55,6 @@ pub names_text-slashed : (names : List NameSeen) → names_text names ≡ slashe
 names_text-slashed [] = refl
 names_text-slashed (n ∷ names) = ap (λ (t : List ℕ). (47 ∷ bare n) ++ t) (names_text-slashed names)
 
-pub map_id : (names : List NameSeen) → map (λ n. n) names ≡ names
-map_id [] = refl
-map_id (n ∷ names) = ap (λ (ns : List NameSeen). n ∷ ns) (map_id names)
-
 pub starless_all : (names : List NameSeen) → map starless (map starless names) ≡ map starless names
 starless_all [] = refl
 starless_all (n ∷ names) = rw (starless_twice n, starless_all names) refl
@@ -79,7 +77,7 @@ list_by g fields names some keeps = record {
 pub list_keeps : (fields : List (List ℕ)) (names : List NameSeen) → names_of fields ≡ Some names → ListKeeps fields names
 list_keeps fields names h =
     let test = cond_not_some (is_empty fields) (all_by name_of fields) names h in
-    subst (λ (ns : List NameSeen). ListKeeps fields ns) (map_id names) (list_by (λ n. n) fields names test.0 (names_keep (λ n. n) name_again fields names test.1))
+    subst (λ (ns : List NameSeen). ListKeeps fields ns) (map-id names) (list_by (λ n. n) fields names test.0 (names_keep (λ n. n) name_again fields names test.1))
 
 pub starless_keeps : (fields : List (List ℕ)) (names : List NameSeen) → names_of fields ≡ Some names → ListKeeps fields (map starless names)
 starless_keeps fields names h =
@@ -173,15 +171,8 @@ kind_letter-good (what.Construct letters gates) = refl
 pub slashed_inside : (fields : List (List ℕ)) → list_all is_neat fields ≡ true → list_all is_inside (slashed fields) ≡ true
 slashed_inside [] h = refl
 slashed_inside (f ∷ fields) h =
-    let parts = both (is_neat f) (list_all is_neat fields) h in
-    rw (list_all-append is_inside f (slashed fields), inside f parts.0, slashed_inside fields parts.1) refl
-  where
-    inside : (xs : List ℕ) → list_all is_clean xs ≡ true → list_all is_inside xs ≡ true
-    inside [] e = refl
-    inside (x ∷ xs) e =
-        let parts = both (is_clean x) (list_all is_clean xs) e in
-        let first = both (is_inside x) _ parts.0 in
-        rw (first.0, inside xs parts.1) refl
+    let parts = and_parts (is_neat f) (list_all is_neat fields) h in
+    rw (list_all-append is_inside f (slashed fields), each_weaker is_clean is_inside (λ b e. (and_parts (is_inside b) _ e).0) f parts.0, slashed_inside fields parts.1) refl
 
 pub record KeepsWhat (body : List ℕ) (w : What) : Type 0 where
   pub again : what_of (what_text w) ≡ Some w
@@ -198,8 +189,8 @@ unfolding what_of
 what_by body letter fields w keeps size =
     let l : ℕ = kind_letter w in
     let canon : List (List ℕ) = keeps.canon in
-    let good = both (is_clean l) (not (l == 45) && lower l == l) (kind_letter-good w) in
-    let more = both (not (l == 45)) (lower l == l) good.1 in
+    let good = and_parts (is_clean l) (not (l == 45) && lower l == l) (kind_letter-good w) in
+    let more = and_parts (not (l == 45)) (lower l == l) good.1 in
     let front : is_neat (l ∷ []) ≡ true = rw good.0 refl in
     let text : what_text w ≡ l ∷ slashed canon = ap (λ (t : List ℕ). l ∷ t) keeps.text in
     let ends = slashed-ends (l ∷ []) canon keeps.clean keeps.ends in
@@ -207,12 +198,12 @@ what_by body letter fields w keeps size =
     let fs = fields_of-slashed (l ∷ []) canon front keeps.clean in
     let kind : lower l ≡ lower letter = eqb-true (lower l) l more.1 ∙ keeps.kind in
     let whole : what_of (l ∷ slashed canon) ≡ Some w = ap (λ (t : List ℕ). what_of_fields (fields_of t)) same ∙ ap what_of_fields fs ∙ front_kind l canon keeps.ends ∙ ap (λ (k : ℕ). other_of k canon) kind ∙ keeps.again in
-    let inside : list_all is_inside (l ∷ slashed canon) ≡ true = rw ((both (is_inside l) _ good.0).0, slashed_inside canon keeps.clean) refl in
+    let inside : list_all is_inside (l ∷ slashed canon) ≡ true = rw ((and_parts (is_inside l) _ good.0).0, slashed_inside canon keeps.clean) refl in
     record {
       again = ap what_of text ∙ whole;
       shorter = (let less = keeps.shorter in let long = length-slashed canon in let e = ap length text in omega arith);
       inside = ap (list_all is_inside) text ∙ inside;
-      plain = unnot (l == 45) more.0;
+      plain = not-true (l == 45) more.0;
     }
 
 pub what_keeps : (body : List ℕ) (w : What) → what_of body ≡ Some w → KeepsWhat body w

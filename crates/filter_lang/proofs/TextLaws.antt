@@ -6,7 +6,7 @@ use Rattle.std.proofs.lemmas.List.{length-append}
 use Rattle.std.proofs.lemmas.List.Splits.{slice_split_none, slice_split_at}
 use Rattle.std.proofs.lemmas.List.Sums.{AllPass-from_list_all}
 use Rattle.std.proofs.lemmas.Result.{IfOk-weaker}
-use Rattle.std.proofs.lemmas.Bool.{le-ltb, ltb-true, ltb-false}
+use Rattle.std.proofs.lemmas.Bool.{le-ltb, ltb-true, ltb-false, and_parts}
 use Rattle.aprs_base.specs.Bytes.{is_blank}
 use Rattle.filter_lang.specs.declared.errors.FilterError.{FilterError}
 use Rattle.filter_lang.specs.declared.errors.FilterError.TheVariants as fault
@@ -14,7 +14,7 @@ use Rattle.filter_lang.specs.Terms.{TermSeen}
 use Rattle.filter_lang.specs.Parts.{is_used, words_of}
 use Rattle.filter_lang.specs.Grammar.{term_of, added, added_all, added_unless, and_then, excess_of, terms_of, Gives}
 use Rattle.filter_lang.specs.Canonical.{term_text, more_text, canonical}
-use Rattle.filter_lang.proofs.Tools.{both, is_inside, inside_unblank}
+use Rattle.filter_lang.proofs.Tools.{is_inside, inside_unblank, cond_not_ok}
 use Rattle.filter_lang.proofs.SlashLaws.{spread, total, parts-total, parts-some}
 use Rattle.filter_lang.proofs.KindLaws.{some_not_empty}
 use Rattle.filter_lang.proofs.TermLaws.{KeepsTerm, term_keeps}
@@ -44,19 +44,28 @@ again_step done word words ts t keeps room rest = record {
   some = rw (some_not_empty (term_text t) keeps.some, rest.some) refl;
 }
 
+-- a word whose term is added, and the words after it
+pub added_is : (done : List TermSeen) (word : List ℕ) (words : List (List ℕ)) (ts : List TermSeen) → added_all done (word ∷ words) ≡ Ok ts →
+    (t : TermSeen) × (term_of word ≡ Some t) × (excess_of done t.what ≡ None) × (added_all (done ++ t ∷ []) words ≡ Ok ts)
+added_is done word words ts h = by (term_of word) refl h
+  where
+    unless : (t : TermSeen) → term_of word ≡ Some t → (o : Option ℕ) → excess_of done t.what ≡ o → and_then (added_unless done t o) (λ more. added_all more words) ≡ Ok ts →
+        (t : TermSeen) × (term_of word ≡ Some t) × (excess_of done t.what ≡ None) × (added_all (done ++ t ∷ []) words ≡ Ok ts)
+    unless t e None room h' = (t, e, room, h')
+    unless t e (Some letter) room h' = cc
+
+    by : (o : Option TermSeen) → term_of word ≡ o → and_then (added done o) (λ more. added_all more words) ≡ Ok ts →
+        (t : TermSeen) × (term_of word ≡ Some t) × (excess_of done t.what ≡ None) × (added_all (done ++ t ∷ []) words ≡ Ok ts)
+    by None e h' = cc
+    by (Some t) e h' = unless t e (excess_of done t.what) refl h'
+
 pub again_all : (words : List (List ℕ)) (done ts : List TermSeen) → added_all done words ≡ Ok ts → Again done words ts
 again_all [] done ts h =
     let e : done ≡ ts = cc in
     record { more = []; is = sym e ∙ sym (append-nil done); again = h; shorter = omega arith; inside = refl; some = refl }
-again_all (word ∷ words) done ts h = by (λ next. again_all words next ts) (term_of word) refl h
-  where
-    unless : (t : TermSeen) → term_of word ≡ Some t → ((next : List TermSeen) → added_all next words ≡ Ok ts → Again next words ts) → (o : Option ℕ) → excess_of done t.what ≡ o → and_then (added_unless done t o) (λ more. added_all more words) ≡ Ok ts → Again done (word ∷ words) ts
-    unless t e each None room h' = again_step done word words ts t (term_keeps word t e) room (each (done ++ t ∷ []) h')
-    unless t e each (Some letter) room h' = cc
-
-    by : ((next : List TermSeen) → added_all next words ≡ Ok ts → Again next words ts) → (o : Option TermSeen) → term_of word ≡ o → and_then (added done o) (λ more. added_all more words) ≡ Ok ts → Again done (word ∷ words) ts
-    by each None e h' = cc
-    by each (Some t) e h' = unless t e each (excess_of done t.what) refl h'
+again_all (word ∷ words) done ts h =
+    let is = added_is done word words ts h in
+    again_step done word words ts is.0 (term_keeps word is.0 is.1) is.2 (again_all words (done ++ is.0 ∷ []) ts is.3)
 
 -- the words of the canonical text
 pub inside_all : (text : List ℕ) → list_all is_inside text ≡ true → All (λ b. is_blank b ≡ false) text
@@ -64,16 +73,16 @@ inside_all text h = λ k d lt. inside_unblank (get_or text k d) (AllPass-from_li
 
 pub split_terms : (t : TermSeen) (ts : List TermSeen) → list_all is_one_word (t ∷ ts) ≡ true → slice_split is_blank (term_text t ++ more_text ts) ≡ map term_text (t ∷ ts)
 split_terms t [] h =
-    let parts = both (is_one_word t) true h in
+    let parts = and_parts (is_one_word t) true h in
     rw (append-nil (term_text t)) (slice_split_none is_blank (term_text t) (inside_all (term_text t) parts.0))
 split_terms t (u ∷ us) h =
-    let parts = both (is_one_word t) (list_all is_one_word (u ∷ us)) h in
+    let parts = and_parts (is_one_word t) (list_all is_one_word (u ∷ us)) h in
     slice_split_at is_blank (term_text t) 32 (term_text u ++ more_text us) (inside_all (term_text t) parts.0) refl ∙ ap (λ (ws : List (List ℕ)). term_text t ∷ ws) (split_terms u us parts.1)
 
 pub filter_used : (ts : List TermSeen) → list_all has_bytes ts ≡ true → filter is_used (map term_text ts) ≡ map term_text ts
 filter_used [] h = refl
 filter_used (t ∷ ts) h =
-    let parts = both (has_bytes t) (list_all has_bytes ts) h in
+    let parts = and_parts (has_bytes t) (list_all has_bytes ts) h in
     rw (parts.0, filter_used ts parts.1) refl
 
 pub words_of-canonical : (ts : List TermSeen) → list_all is_one_word ts ≡ true → list_all has_bytes ts ≡ true → words_of (canonical ts) ≡ map term_text ts
@@ -113,11 +122,9 @@ pub record Read (text : List ℕ) (ts : List TermSeen) : Type 0 where
 
 pub read_is : (text : List ℕ) (ts : List TermSeen) → terms_of text ≡ Ok ts → Read text ts
 unfolding terms_of
-read_is text ts h = by (nat_lt 480 (length text)) refl h
-  where
-    by : (c : Bool) → nat_lt 480 (length text) ≡ c → cond c (Err fault.Long) (added_all [] (words_of text)) ≡ Ok ts → Read text ts
-    by true e h' = cc
-    by false e h' = record { short = ltb-false 480 (length text) e; words = again_all (words_of text) [] ts h' }
+read_is text ts h =
+    let fits = cond_not_ok (nat_lt 480 (length text)) fault.Long (added_all [] (words_of text)) ts h in
+    record { short = ltb-false 480 (length text) fits.0; words = again_all (words_of text) [] ts fits.1 }
 
 pub canonical_shortest : (text : List ℕ) (ts : List TermSeen) → terms_of text ≡ Ok ts → length (canonical ts) ≤ length text
 canonical_shortest text ts h =

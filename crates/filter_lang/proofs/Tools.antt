@@ -1,9 +1,12 @@
 -- Steps that may fail, tests that hold together, and texts without blanks, line ends and slashes.
-use Rattle.std.proofs.Common.{◌≡◌, ℕ, ◌≤◌, Bool, true, false, cond, ◌&&◌, ◌||◌, List, [], ◌∷◌, ◌++◌, Option, Some, None, length, refl, arith}
+use Rattle.std.proofs.Common.{◌≡◌, ℕ, ◌≤◌, Bool, true, false, cond, ◌&&◌, List, [], ◌∷◌, ◌++◌, Option, Some, None, Result, Ok, Err, map, length, refl, ◌∙◌, arith}
 use Rattle.std.specs.Prelude.{option_map, not}
 use Rattle.std.specs.List.{list_all}
-use Rattle.std.proofs.lemmas.List.Folds.{list_all-append}
+use Rattle.std.proofs.lemmas.List.Folds.{list_all-append, list_all-map}
+use Rattle.std.proofs.lemmas.List.{map-id}
+use Rattle.aprs_base.proofs.CallLemmas.{each_weaker}
 use Rattle.aprs_base.specs.Bytes.{is_blank, is_inner, is_digit}
+use Rattle.std.proofs.lemmas.Bool.{and_parts, not-true}
 use Rattle.std.proofs.lemmas.Bool.Decides.{nat_tests}
 use Rattle.filter_lang.specs.Parts.{◌>>=◌, is_slash}
 
@@ -24,17 +27,9 @@ pub cond_not_some : {A : Type 0} (b : Bool) (o : Option A) (y : A) → cond b No
 cond_not_some true o y h = cc
 cond_not_some false o y h = (refl, h)
 
-pub both : (a b : Bool) → (a && b) ≡ true → (a ≡ true) × (b ≡ true)
-both true b h = (refl, h)
-both false b h = cc
-
-pub neither : (a b : Bool) → (a || b) ≡ false → (a ≡ false) × (b ≡ false)
-neither true b h = cc
-neither false b h = (refl, h)
-
-pub unnot : (a : Bool) → not a ≡ true → a ≡ false
-unnot true h = cc
-unnot false h = refl
+pub cond_not_ok : {E A : Type 0} (b : Bool) (e : E) (r : Result A E) (y : A) → cond b (Err e) r ≡ Ok y → (b ≡ false) × (r ≡ Ok y)
+cond_not_ok true e r y h = cc
+cond_not_ok false e r y h = (refl, h)
 
 -- neither blank nor line end, and no slash too
 abbrev pub is_inside : ℕ → Bool
@@ -44,13 +39,19 @@ abbrev pub is_clean : ℕ → Bool
 is_clean b = is_inside b && not (is_slash b)
 
 pub inside_unblank : (b : ℕ) → is_inside b ≡ true → is_blank b ≡ false
-inside_unblank b h = unnot (is_blank b) (both (not (is_blank b)) (is_inner b) h).0
+inside_unblank b h = not-true (is_blank b) (and_parts (not (is_blank b)) (is_inner b) h).0
 
-pub clean_from : (test : ℕ → Bool) → ((b : ℕ) → test b ≡ true → is_clean b ≡ true) → (xs : List ℕ) → list_all test xs ≡ true → list_all is_clean xs ≡ true
-clean_from test each [] h = refl
-clean_from test each (x ∷ xs) h =
-    let parts = both (test x) (list_all test xs) h in
-    rw (each x parts.0, clean_from test each xs parts.1) refl
+-- what functions make of a list that passes a test
+module _ (p : ℕ → Bool) where
+  pub map_agree : (f g : ℕ → ℕ) → ((b : ℕ) → p b ≡ true → f b ≡ g b) → (xs : List ℕ) → list_all p xs ≡ true → map f xs ≡ map g xs
+  map_agree f g each [] h = refl
+  map_agree f g each (x ∷ xs) h = let parts = and_parts (p x) (list_all p xs) h in rw (each x parts.0, map_agree f g each xs parts.1) refl
+
+  pub map_same : (f : ℕ → ℕ) → ((b : ℕ) → p b ≡ true → f b ≡ b) → (xs : List ℕ) → list_all p xs ≡ true → map f xs ≡ xs
+  map_same f each xs h = map_agree f (λ b. b) each xs h ∙ map-id xs
+
+  pub map_all : (q : ℕ → Bool) (f : ℕ → ℕ) → ((b : ℕ) → p b ≡ true → q (f b) ≡ true) → (xs : List ℕ) → list_all p xs ≡ true → list_all q (map f xs) ≡ true
+  map_all q f each xs h = list_all-map q f xs ∙ each_weaker p (λ b. q (f b)) each xs h
 
 pub clean_append : (xs ys : List ℕ) → list_all is_clean xs ≡ true → list_all is_clean ys ≡ true → list_all is_clean (xs ++ ys) ≡ true
 clean_append xs ys p q = rw (list_all-append is_clean xs ys, p, q) refl

@@ -52,13 +52,13 @@ one_of (a ∷ []) = Some a
 one_of _ = None
 
 abbrev pub two_of : List (List ℕ) → Option (List ℕ × List ℕ)
-two_of (a ∷ b ∷ []) = Some (a, b)
-two_of _ = None
+two_of [] = None
+two_of (a ∷ rest) = option_map (λ b. (a, b)) (one_of rest)
 
 abbrev pub three_of : List (List ℕ) → Option (List ℕ × List ℕ × List ℕ)
-three_of (a ∷ b ∷ c ∷ []) = Some (a, b, c)
-three_of _ = None
+three_of [] = None
+three_of (a ∷ rest) = option_map (λ x. (a, x.0, x.1)) (two_of rest)
 
 abbrev pub four_of : List (List ℕ) → Option (List ℕ × List ℕ × List ℕ × List ℕ)
-four_of (a ∷ b ∷ c ∷ d ∷ []) = Some (a, b, c, d)
-four_of _ = None
+four_of [] = None
+four_of (a ∷ rest) = option_map (λ x. (a, x.0, x.1, x.2)) (three_of rest)

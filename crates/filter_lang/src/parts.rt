@@ -42,12 +42,7 @@ pub fn two(text: &[u8]) -> Option<(&[u8], &[u8])>
     ensures { option_map (λ x. (x.0.now, x.1.now)) result ≡ two_of (fields_of text.now) }
 {
     let (first, rest) = cut(text);
-    let (second, rest) = cut(rest?);
-    if rest.is_some() {
-        None
-    } else {
-        Some((first, second))
-    }
+    Some((first, one(rest?)?))
 }
 
 /// The three fields of a text that has three.
@@ -55,13 +50,8 @@ pub fn three(text: &[u8]) -> Option<(&[u8], &[u8], &[u8])>
     ensures { option_map (λ x. (x.0.now, x.1.now, x.2.now)) result ≡ three_of (fields_of text.now) }
 {
     let (first, rest) = cut(text);
-    let (second, rest) = cut(rest?);
-    let (third, rest) = cut(rest?);
-    if rest.is_some() {
-        None
-    } else {
-        Some((first, second, third))
-    }
+    let (second, third) = two(rest?)?;
+    Some((first, second, third))
 }
 
 /// The four fields of a text that has four.
@@ -69,12 +59,6 @@ pub fn four(text: &[u8]) -> Option<(&[u8], &[u8], &[u8], &[u8])>
     ensures { option_map (λ x. (x.0.now, x.1.now, x.2.now, x.3.now)) result ≡ four_of (fields_of text.now) }
 {
     let (first, rest) = cut(text);
-    let (second, rest) = cut(rest?);
-    let (third, rest) = cut(rest?);
-    let (fourth, rest) = cut(rest?);
-    if rest.is_some() {
-        None
-    } else {
-        Some((first, second, third, fourth))
-    }
+    let (second, third, fourth) = three(rest?)?;
+    Some((first, second, third, fourth))
 }

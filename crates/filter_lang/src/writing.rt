@@ -38,13 +38,13 @@ fn letter_of(what: &What) -> u8
     }
 }
 
-/// A text that is written piece by piece.
+/// A filter's canonical text, as far as it is written.
 #[derive(Drop)]
-struct Writer {
+struct Canonical {
     text: Vec<u8>,
 }
 
-impl Model for Writer {
+impl Model for Canonical {
     ghost use Rattle.std.specs.Prelude.{ℕ, List};
 
     ghost Value = { List ℕ };
@@ -52,25 +52,14 @@ impl Model for Writer {
     ghost view = { λ w. w.text.items };
 }
 
-impl Writer {
-    fn byte(&mut self, byte: u8) -> Result<(), AllocError>
-        ensures { OnOk result (self.new ≡ self.old ++ byte ∷ []) }
-    {
-        self.text.push(byte)?;
-        Ok(())
-    }
-
-    fn bytes(&mut self, bytes: &[u8]) -> Result<(), AllocError>
-        ensures { OnOk result (self.new ≡ self.old ++ bytes.now) }
-    {
-        self.text.extend_from_slice(bytes)?;
-        Ok(())
-    }
-
+impl Canonical {
     fn number(&mut self, number: u32) -> Result<(), AllocError>
         ensures { OnOk result (self.new ≡ self.old ++ decimal number) }
     {
-        self.bytes(Buffer::new().format(number).as_bytes())
+        Ok(
+            self.text
+                .extend_from_slice(Buffer::new().format(number).as_bytes())?,
+        )
     }
 
     /// A dot and the digits after it, up to the last that isn't 0; nothing where all are 0.
@@ -81,13 +70,13 @@ impl Writer {
         if millionths == 0 {
             return Ok(());
         }
-        self.byte(b'.')?;
+        self.text.push(b'.')?;
         let mut rest = millionths;
         for place in PLACES {
             if rest == 0 {
                 break;
             }
-            self.byte(b'0' + (rest / place) as u8)?;
+            self.text.push(b'0' + (rest / place) as u8)?;
             rest %= place;
         }
         Ok(())
@@ -105,9 +94,9 @@ impl Writer {
     fn degrees(&mut self, degrees: i32) -> Result<(), AllocError>
         ensures { OnOk result (self.new ≡ self.old ++ field (degrees_text degrees)) }
     {
-        self.byte(b'/')?;
+        self.text.push(b'/')?;
         if degrees < 0 {
-            self.byte(b'-')?;
+            self.text.push(b'-')?;
         }
         self.millionths(degrees.unsigned_abs())
     }
@@ -122,7 +111,7 @@ impl Writer {
     fn kilometres(&mut self, km: u32) -> Result<(), AllocError>
         ensures { OnOk result (self.new ≡ self.old ++ field (decimal km)) }
     {
-        self.byte(b'/')?;
+        self.text.push(b'/')?;
         self.number(km)
     }
 
@@ -130,8 +119,8 @@ impl Writer {
     fn near(&mut self, call: &Call, km: u32) -> Result<(), AllocError>
         ensures { OnOk result (self.new ≡ self.old ++ near_text call.now km) }
     {
-        self.byte(b'/')?;
-        self.bytes(call.bytes())?;
+        self.text.push(b'/')?;
+        self.text.extend_from_slice(call.bytes())?;
         self.kilometres(km)
     }
 
@@ -139,7 +128,7 @@ impl Writer {
         ensures { OnOk result (self.new ≡ self.old ++ map spelled text.now) }
     {
         for byte in text {
-            self.byte(spelled_byte(*byte))?;
+            self.text.push(spelled_byte(*byte))?;
         }
         Ok(())
     }
@@ -147,9 +136,12 @@ impl Writer {
     fn name(&mut self, text: &[u8], wild: bool) -> Result<(), AllocError>
         ensures { OnOk result (self.new ≡ self.old ++ field (map spelled text.now ++ star_text wild)) }
     {
-        self.byte(b'/')?;
+        self.text.push(b'/')?;
         self.spelled(text)?;
-        if wild { self.byte(b'*') } else { Ok(()) }
+        if wild {
+            self.text.push(b'*')?;
+        }
+        Ok(())
     }
 
     fn names(&mut self, names: &[Name]) -> Result<(), AllocError>
@@ -177,10 +169,9 @@ impl Writer {
         ensures { OnOk result (self.new ≡ self.old ++ map spelled (filter (is_set bits) (byte ∷ []))) }
     {
         if (bits >> byte) & 1 == 1 {
-            self.byte(spelled_byte(byte))
-        } else {
-            Ok(())
+            self.text.push(spelled_byte(byte))?;
         }
+        Ok(())
     }
 
     fn members(&mut self, bits: u128) -> Result<(), AllocError>
@@ -195,7 +186,7 @@ impl Writer {
     fn marks(&mut self, marks: &Marks) -> Result<(), AllocError>
         ensures { OnOk result (self.new ≡ self.old ++ set_text marks.now) }
     {
-        self.byte(b'/')?;
+        self.text.push(b'/')?;
         self.members(marks.bits)
     }
 
@@ -203,17 +194,16 @@ impl Writer {
     fn class(&mut self, mask: u16, letter: u8, bit: u16) -> Result<(), AllocError>
         ensures { OnOk result (self.new ≡ self.old ++ (if bit_and mask bit == 0 then [] else letter ∷ [])) }
     {
-        if mask & bit == 0 {
-            Ok(())
-        } else {
-            self.byte(letter)
+        if mask & bit != 0 {
+            self.text.push(letter)?;
         }
+        Ok(())
     }
 
     fn classes(&mut self, mask: u16) -> Result<(), AllocError>
         ensures { OnOk result (self.new ≡ self.old ++ classes_text mask) }
     {
-        self.byte(b'/')?;
+        self.text.push(b'/')?;
         for (letter, bit) in CLASSES {
             self.class(mask, letter, bit)?;
         }
@@ -239,7 +229,10 @@ impl Writer {
         ensures { OnOk result (self.new ≡ self.old ++ (set_text letters.now ++ gates_text gates)) }
     {
         self.marks(letters)?;
-        if gates { self.bytes(b"/I") } else { Ok(()) }
+        if gates {
+            self.text.extend_from_slice(b"/I")?;
+        }
+        Ok(())
     }
 
     /// The fields of a term, each after its slash.
@@ -284,9 +277,9 @@ impl Writer {
         ensures { OnOk result (self.new ≡ self.old ++ term_text term.now) }
     {
         if term.exclude {
-            self.byte(b'-')?;
+            self.text.push(b'-')?;
         }
-        self.byte(letter_of(&term.what))?;
+        self.text.push(letter_of(&term.what))?;
         self.fields(&term.what)
     }
 
@@ -295,7 +288,7 @@ impl Writer {
         ensures { OnOk result (self.new ≡ self.old ++ more_text terms.now) }
     {
         for term in terms {
-            self.byte(b' ')?;
+            self.text.push(b' ')?;
             self.term(term)?;
         }
         Ok(())
@@ -316,7 +309,7 @@ impl Writer {
 fn canonical_text(alloc: Global, terms: &[Term]) -> Result<Text, Memory>
     ensures { IfOk result (λ written. written ≡ canonical terms.now) }
 {
-    let mut out = Writer {
+    let mut out = Canonical {
         text: Vec::new(alloc),
     };
     out.terms(terms)?;

@@ -2,14 +2,15 @@
 use Rattle.std.proofs.Common.{◌≡◌, ℕ, ◌+◌, ◌-◌, ◌*◌, ◌<◌, ◌≤◌, Bool, true, false, cond, not, ◌&&◌, ◌||◌, ◌⊎◌, inl, inr, ltb, leb, eqb, List, [], ◌∷◌, length, take, drop, get_or, Some, None, refl, sym, ap, subst, ◌∙◌, arith}
 use Rattle.std.specs.List.{list_all}
 use Rattle.std.specs.declared.option.Option.{Option}
-use Rattle.std.proofs.Math.Bool.{and-false}
+use Rattle.std.proofs.Math.Nat.{add-sub_cancel, sub-add_cancel}
+use Rattle.std.proofs.lemmas.Bool.Decides.{nat_tests}
 use Rattle.std.proofs.lemmas.Option.{same_Some}
-use Rattle.std.proofs.lemmas.Bool.{eqb-true, false≢true, le-leb, le-ltb, leb-false, leb-true, lt-leb, lt-ltb, ltb-false, ltb-true}
+use Rattle.std.proofs.lemmas.Bool.{eqb-true, false≢true, le-ltb, leb-false, leb-true, lt-ltb, ltb-false, ltb-true, and_parts, cond-false, cond-true, not-false, or_cases, or_parts, and_cases}
 use Rattle.aprs_base.specs.declared.packets.Place.{Place}
 use Rattle.aprs_position.specs.Places.{is_code, is_table, place_at}
 use Rattle.aprs_position.specs.Plain.{angle}
 use Rattle.aprs_position.proofs.PlaceLemmas.{place_at_numbers, place_at_used}
-use Rattle.aprs_position.proofs.Steps.{both, bound, chosen, either, fails_guard, guarded, holds_both, holds_guard, mapped, neither, not_false, unless}
+use Rattle.aprs_position.proofs.Steps.{bound, chosen, guarded, mapped, unless}
 use Rattle.mic_e.specs.Grammar.{IsDegrees, IsMinutes, Says, WritesMicE}
 use Rattle.mic_e.specs.Grammar.Says.{custom_blank, custom_letter, figure, plain_blank, standard_blank, standard_letter}
 use Rattle.mic_e.specs.MicE.{between, degrees_of, digit_of, from_equator, from_greenwich, is_custom, is_mark, is_set, late_digit_of, minutes_of, pair, place_of, signed}
@@ -18,25 +19,16 @@ same_value : (d e m n y z : ℕ) → d ≡ e → m ≡ n → y ≡ z → ◌≡�
 same_value d e m n y z de mn yz = cc
 
 range : (low high b : ℕ) → between low high b ≡ true → (low ≤ b) × (b ≤ high)
-range low high b h = let tests = both (leb low b) (leb b high) h in (leb-true _ _ tests.0, leb-true _ _ tests.1)
-
-inside : (low high b : ℕ) → low ≤ b → b ≤ high → between low high b ≡ true
-inside low high b l h = holds_both _ _ (le-leb _ _ l) (le-leb _ _ h)
-
-under : (low high b : ℕ) → b < low → between low high b ≡ false
-under low high b h = ap (λ t. t && leb b high) (lt-leb low b h)
-
-over : (low high b : ℕ) → high < b → between low high b ≡ false
-over low high b h = ap (λ t. leb low b && t) (lt-leb b high h) ∙ and-false (leb low b)
+range low high b h = let tests = and_parts (leb low b) (leb b high) h in (leb-true _ _ tests.0, leb-true _ _ tests.1)
 
 -- a byte's digit, its place and its bit
 blank_read : (b n : ℕ) → cond (eqb b 75 || eqb b 76 || eqb b 90) (Some 0) None ≡ Some n → Says b n (is_custom b) (is_set b)
 blank_read b n h =
     let test = guarded (eqb b 75 || eqb b 76 || eqb b 90) (Some 0) n h in
     let zero : n ≡ 0 = sym (same_Some _ _ test.1) in
-    elim (either (eqb b 75 || eqb b 76) (eqb b 90) test.0) [
+    elim (or_cases (eqb b 75 || eqb b 76) (eqb b 90) test.0) [
       | inr z ↦ let is = eqb-true b 90 z in standard_blank is zero (ap is_custom is) (ap is_set is)
-      | inl front ↦ elim (either (eqb b 75) (eqb b 76) front) [
+      | inl front ↦ elim (or_cases (eqb b 75) (eqb b 76) front) [
         | inl k ↦ let is = eqb-true b 75 k in custom_blank is zero (ap is_custom is) (ap is_set is)
         | inr l ↦ let is = eqb-true b 76 l in plain_blank is zero (ap is_custom is) (ap is_set is)
       ]
@@ -48,41 +40,26 @@ letter_read b n h =
       | inl first ↦
           let r = range 48 57 b first.0 in
           let is : b - 48 ≡ n = same_Some _ _ first.1 in
-          figure (omega arith) (omega arith) (under 65 75 b (omega arith)) (under 80 90 b (omega arith))
+          figure (omega arith) (omega arith) (grind (arith, nat_tests)) (grind (arith, nat_tests))
       | inr more ↦ elim (chosen (between 65 74 b) (Some (b - 65)) _ (Some n) more.1) [
         | inl second ↦
             let r = range 65 74 b second.0 in
             let is : b - 65 ≡ n = same_Some _ _ second.1 in
-            custom_letter (omega arith) (omega arith) (inside 65 75 b (omega arith) (omega arith)) (under 80 90 b (omega arith))
+            custom_letter (omega arith) (omega arith) (grind (arith, nat_tests)) (grind (arith, nat_tests))
         | inr others ↦ elim (chosen (between 80 89 b) (Some (b - 80)) _ (Some n) others.1) [
           | inl third ↦
               let r = range 80 89 b third.0 in
               let is : b - 80 ≡ n = same_Some _ _ third.1 in
-              standard_letter (omega arith) (omega arith) (over 65 75 b (omega arith)) (inside 80 90 b (omega arith) (omega arith))
+              standard_letter (omega arith) (omega arith) (grind (arith, nat_tests)) (grind (arith, nat_tests))
           | inr blanks ↦ blank_read b n blanks.1
         ]
       ]
     ]
 
 letter_again : (b n : ℕ) (early set : Bool) → Says b n early set → (digit_of b ≡ Some n) × (is_custom b ≡ early) × (is_set b ≡ set)
-letter_again b n early set (figure below is e s) =
-    let same : b - 48 ≡ n = omega arith in (
-      holds_guard _ _ _ (inside 48 57 b (omega arith) (omega arith)) ∙ ap Some same,
-      under 65 75 b (omega arith) ∙ sym e,
-      under 80 90 b (omega arith) ∙ sym s,
-    )
-letter_again b n early set (custom_letter below is e s) =
-    let same : b - 65 ≡ n = omega arith in (
-      fails_guard _ _ _ (over 48 57 b (omega arith)) ∙ holds_guard _ _ _ (inside 65 74 b (omega arith) (omega arith)) ∙ ap Some same,
-      inside 65 75 b (omega arith) (omega arith) ∙ sym e,
-      under 80 90 b (omega arith) ∙ sym s,
-    )
-letter_again b n early set (standard_letter below is e s) =
-    let same : b - 80 ≡ n = omega arith in (
-      fails_guard _ _ _ (over 48 57 b (omega arith)) ∙ fails_guard _ _ _ (over 65 74 b (omega arith)) ∙ holds_guard _ _ _ (inside 80 89 b (omega arith) (omega arith)) ∙ ap Some same,
-      over 65 75 b (omega arith) ∙ sym e,
-      inside 80 90 b (omega arith) (omega arith) ∙ sym s,
-    )
+letter_again b n early set (figure below is e s) = (grind (arith, nat_tests), grind (arith, nat_tests), grind (arith, nat_tests))
+letter_again b n early set (custom_letter below is e s) = (grind (arith, nat_tests), grind (arith, nat_tests), grind (arith, nat_tests))
+letter_again b n early set (standard_letter below is e s) = (grind (arith, nat_tests), grind (arith, nat_tests), grind (arith, nat_tests))
 letter_again b n early set (custom_blank is zero e s) = (ap digit_of is ∙ ap Some (sym zero), ap is_custom is ∙ sym e, ap is_set is ∙ sym s)
 letter_again b n early set (plain_blank is zero e s) = (ap digit_of is ∙ ap Some (sym zero), ap is_custom is ∙ sym e, ap is_set is ∙ sym s)
 letter_again b n early set (standard_blank is zero e s) = (ap digit_of is ∙ ap Some (sym zero), ap is_custom is ∙ sym e, ap is_set is ∙ sym s)
@@ -95,7 +72,7 @@ late_read b n h =
 late_again : (b n : ℕ) (set : Bool) → Says b n false set → (late_digit_of b ≡ Some n) × (is_set b ≡ set)
 late_again b n set says =
     let all = letter_again b n false set says in
-    (fails_guard _ _ _ all.1 ∙ all.0, all.2)
+    (cond-false _ _ _ all.1 ∙ all.0, all.2)
 
 pair_read : (p q : Option ℕ) (n : ℕ) → pair p q ≡ Some n → (t o : ℕ) × (p ≡ Some t) × (q ≡ Some o) × (n ≡ t * 10 + o)
 pair_read p q n h =
@@ -103,13 +80,9 @@ pair_read p q n h =
     let o = mapped q _ n t.2 in
     (t.0, o.0, t.1, o.1, sym o.2)
 
-missed : (a b : Bool) → (a && b) ≡ false → (a ≡ false) ⊎ (b ≡ false)
-missed true b h = inr h
-missed false b h = inl refl
-
 outside : (low high b : ℕ) → between low high b ≡ false → (b < low) ⊎ (high < b)
 outside low high b h =
-    elim (missed (leb low b) (leb b high) h) [
+    elim (and_cases (leb low b) (leb b high) h) [
       | inl before ↦ inl (leb-false _ _ before)
       | inr after ↦ inr (leb-false _ _ after)
     ]
@@ -130,13 +103,9 @@ degrees_read d small =
     ]
 
 degrees_again : (d n : ℕ) → d < 200 → IsDegrees d n → degrees_of d ≡ n
-degrees_again d n small (inl same) = fails_guard _ _ _ (under 180 189 d same.0) ∙ fails_guard _ _ _ (under 190 199 d (omega arith)) ∙ sym same.1
-degrees_again d n small (inr (inl hundreds)) =
-    let same : d - 80 ≡ n = omega arith in
-    holds_guard _ _ _ (inside 180 189 d hundreds.0 (omega arith)) ∙ same
-degrees_again d n small (inr (inr ones)) =
-    let same : d - 190 ≡ n = omega arith in
-    fails_guard _ _ _ (over 180 189 d (omega arith)) ∙ holds_guard _ _ _ (inside 190 199 d ones.0 (omega arith)) ∙ same
+degrees_again d n small (inl same) = grind (arith, nat_tests)
+degrees_again d n small (inr (inl hundreds)) = grind (arith, nat_tests)
+degrees_again d n small (inr (inr ones)) = grind (arith, nat_tests)
 
 minutes_read : (m : ℕ) → IsMinutes m (minutes_of m)
 minutes_read m =
@@ -146,8 +115,8 @@ minutes_read m =
     ]
 
 minutes_again : (m n : ℕ) → IsMinutes m n → minutes_of m ≡ n
-minutes_again m n (inl same) = holds_guard _ _ _ (lt-ltb _ _ same.0) ∙ sym same.1
-minutes_again m n (inr more) = let is : m - 60 ≡ n = omega arith in fails_guard _ _ _ (le-ltb _ _ more.0) ∙ is
+minutes_again m n (inl same) = grind (arith, nat_tests)
+minutes_again m n (inr more) = grind (arith, nat_tests)
 
 -- three bytes of longitude
 record IsSent (text : List ℕ) (more value : ℕ) : Type 0 where
@@ -158,15 +127,12 @@ record IsSent (text : List ℕ) (more value : ℕ) : Type 0 where
   small : (x < 100) × (y < 100) × (z < 100)
   value_is : value ≡ angle (degrees_of (x + more)) (minutes_of y * 100 + z)
 
-three_same : (a b c d e f : ℕ) → a ≡ d → b ≡ e → c ≡ f → a ∷ b ∷ c ∷ [] ≡ d ∷ e ∷ f ∷ []
-three_same a b c d e f ad be cf = cc
-
 sent_read : (text : List ℕ) (more value : ℕ) → from_greenwich more text ≡ Some value → IsSent text more value
 sent_read (a ∷ b ∷ c ∷ []) more value h =
     let test = guarded (list_all (between 28 127) (a ∷ b ∷ c ∷ [])) _ value h in
-    let a_all = both (between 28 127 a) (list_all (between 28 127) (b ∷ c ∷ [])) test.0 in
-    let b_all = both (between 28 127 b) (list_all (between 28 127) (c ∷ [])) a_all.1 in
-    let c_all = both (between 28 127 c) true b_all.1 in
+    let a_all = and_parts (between 28 127 a) (list_all (between 28 127) (b ∷ c ∷ [])) test.0 in
+    let b_all = and_parts (between 28 127 b) (list_all (between 28 127) (c ∷ [])) a_all.1 in
+    let c_all = and_parts (between 28 127 c) true b_all.1 in
     let ar = range 28 127 a a_all.0 in
     let br = range 28 127 b b_all.0 in
     let cr = range 28 127 c c_all.0 in
@@ -174,74 +140,23 @@ sent_read (a ∷ b ∷ c ∷ []) more value h =
       x = a - 28;
       y = b - 28;
       z = c - 28;
-      spelled = three_same a b c (a - 28 + 28) (b - 28 + 28) (c - 28 + 28) (omega arith) (omega arith) (omega arith);
+      spelled = rw (sub-add_cancel ar.0, sub-add_cancel br.0, sub-add_cancel cr.0) refl;
       small = (omega arith, omega arith, omega arith);
       value_is = sym (same_Some _ _ test.1);
     }
-sent_read [] more value h = cc
-sent_read (a ∷ []) more value h = cc
-sent_read (a ∷ b ∷ []) more value h = cc
-sent_read (a ∷ b ∷ c ∷ d ∷ rest) more value h = cc
-
-lowered : (x : ℕ) → x + 28 - 28 ≡ x
-lowered x = omega arith
+sent_read _ more value h = cc
 
 sent_again : (x y z more degrees minutes : ℕ) → x < 100 → y < 100 → z < 100 → degrees_of (x + more) ≡ degrees → minutes_of y ≡ minutes →
     from_greenwich more ((x + 28) ∷ (y + 28) ∷ (z + 28) ∷ []) ≡ Some (angle degrees (minutes * 100 + z))
 sent_again x y z more degrees minutes lx ly lz d m =
-    let digits : list_all (between 28 127) ((x + 28) ∷ (y + 28) ∷ (z + 28) ∷ []) ≡ true =
-    holds_both _ _ (inside 28 127 (x + 28) (omega arith) (omega arith))
-    (holds_both _ _ (inside 28 127 (y + 28) (omega arith) (omega arith)) (holds_both _ _ (inside 28 127 (z + 28) (omega arith) (omega arith)) refl)) in
-    let dl : degrees_of (x + 28 - 28 + more) ≡ degrees = ap (λ n. degrees_of (n + more)) (lowered x) ∙ d in
-    let ml : minutes_of (y + 28 - 28) ≡ minutes = ap minutes_of (lowered y) ∙ m in
-    holds_guard _ _ _ digits ∙ same_value _ _ _ _ _ _ dl ml (lowered z)
+    let digits : list_all (between 28 127) ((x + 28) ∷ (y + 28) ∷ (z + 28) ∷ []) ≡ true = grind (arith, nat_tests) in
+    let dl : degrees_of (x + 28 - 28 + more) ≡ degrees = ap (λ n. degrees_of (n + more)) (add-sub_cancel x 28) ∙ d in
+    let ml : minutes_of (y + 28 - 28) ≡ minutes = ap minutes_of (add-sub_cancel y 28) ∙ m in
+    cond-true _ _ _ digits ∙ same_value _ _ _ _ _ _ dl ml (add-sub_cancel z 28)
 
--- six bytes of a base
-record IsLatitude (a b c d e f value : ℕ) : Type 0 where
-  p : ℕ
-  q : ℕ
-  r : ℕ
-  s : ℕ
-  t : ℕ
-  u : ℕ
-  a_is : digit_of a ≡ Some p
-  b_is : digit_of b ≡ Some q
-  c_is : digit_of c ≡ Some r
-  d_is : late_digit_of d ≡ Some s
-  e_is : late_digit_of e ≡ Some t
-  f_is : late_digit_of f ≡ Some u
-  below : r * 10 + s < 60
-  value_is : value ≡ angle (p * 10 + q) ((r * 10 + s) * 100 + (t * 10 + u))
-
-angle_same : (value degrees minutes hundredths p r t : ℕ) → angle degrees (minutes * 100 + hundredths) ≡ value → degrees ≡ p → minutes ≡ r → hundredths ≡ t → value ≡ angle p (r * 100 + t)
+angle_same : (value degrees minutes hundredths p r t : ℕ) → angle degrees (minutes * 100 + hundredths) ≡ value →
+    degrees ≡ p → minutes ≡ r → hundredths ≡ t → angle p (r * 100 + t) ≡ value
 angle_same value degrees minutes hundredths p r t is d m h = cc
-
-latitude_read : (a b c d e f value : ℕ) → from_equator (a ∷ b ∷ c ∷ d ∷ e ∷ f ∷ []) ≡ Some value → IsLatitude a b c d e f value
-latitude_read a b c d e f value h =
-    let whole = bound (pair (digit_of a) (digit_of b)) _ value h in
-    let before = bound (pair (digit_of c) (late_digit_of d)) _ value whole.2 in
-    let after = bound (pair (late_digit_of e) (late_digit_of f)) _ value before.2 in
-    let test = guarded (ltb before.0 60) (Some (angle whole.0 (before.0 * 100 + after.0))) value after.2 in
-    let p = pair_read (digit_of a) (digit_of b) whole.0 whole.1 in
-    let r = pair_read (digit_of c) (late_digit_of d) before.0 before.1 in
-    let t = pair_read (late_digit_of e) (late_digit_of f) after.0 after.1 in
-    let small : before.0 < 60 = ltb-true _ _ test.0 in
-    record {
-      p = p.0;
-      q = p.1;
-      r = r.0;
-      s = r.1;
-      t = t.0;
-      u = t.1;
-      a_is = p.2;
-      b_is = p.3;
-      c_is = r.2;
-      d_is = r.3;
-      e_is = t.2;
-      f_is = t.3;
-      below = subst (λ n. n < 60) r.4 small;
-      value_is = angle_same _ _ _ _ _ _ _ (same_Some _ _ test.1) p.4 r.4 t.4;
-    }
 
 latitude_again : (a b c d e f p q r s t u : ℕ) → digit_of a ≡ Some p → digit_of b ≡ Some q → digit_of c ≡ Some r →
     late_digit_of d ≡ Some s → late_digit_of e ≡ Some t → late_digit_of f ≡ Some u → r * 10 + s < 60 →
@@ -259,7 +174,7 @@ joined : (body rest : List ℕ) (m g h i s t u j k x y z code table : ℕ) → b
 joined body rest m g h i s t u j k x y z code table cells three c t' = cc
 
 mark_read : (m : ℕ) → is_mark m ≡ true → (m ≡ 96) ⊎ (m ≡ 39)
-mark_read m h = elim (either (eqb m 96) (eqb m 39) h) [ inl first ↦ inl (eqb-true _ _ first) | inr second ↦ inr (eqb-true _ _ second) ]
+mark_read m h = elim (or_cases (eqb m 96) (eqb m 39) h) [ inl first ↦ inl (eqb-true _ _ first) | inr second ↦ inr (eqb-true _ _ second) ]
 
 mark_again : (m : ℕ) → (m ≡ 96) ⊎ (m ≡ 39) → is_mark m ≡ true
 mark_again m (inl first) = ap is_mark first
@@ -272,16 +187,26 @@ sent_small : (x : ℕ) (hundred : Bool) → x < 100 → x + cond hundred 100 0 <
 sent_small x true h = omega arith
 sent_small x false h = omega arith
 
-written : (a b c d e f : ℕ) (body : List ℕ) (place : Place) (lat lon : ℕ) → ltb (length body) 9 ≡ false → is_mark (get_or body 0 0) ≡ true →
-    from_equator (a ∷ b ∷ c ∷ d ∷ e ∷ f ∷ []) ≡ Some lat → from_greenwich (cond (is_set e) 100 0) (take 3 (drop 1 body)) ≡ Some lon →
-    is_code (get_or body 7 0) ≡ true → is_table (get_or body 8 0) ≡ true →
-    place_at (signed (is_set d) lat) (signed (not (is_set f)) lon) (get_or body 8 0) (get_or body 7 0) 9 ≡ Some place →
+read_six : (a b c d e f : ℕ) (body : List ℕ) (place : Place) → place_of (a ∷ b ∷ c ∷ d ∷ e ∷ f ∷ []) body ≡ Some place →
     WritesMicE (a ∷ b ∷ c ∷ d ∷ e ∷ f ∷ []) body place
-written a b c d e f body place lat lon long mark la lo code table placed =
-    let n = place_at_numbers (signed (is_set d) lat) (signed (not (is_set f)) lon) (get_or body 8 0) (get_or body 7 0) 9 place placed in
-    let w = latitude_read a b c d e f lat la in
-    let v = sent_read (take 3 (drop 1 body)) (cond (is_set e) 100 0) lon lo in
-    let cells = nine_cells body long in
+unfolding place_of
+read_six a b c d e f body place h =
+    let sized = unless (ltb (length body) 9 || not (is_mark (get_or body 0 0))) _ place h in
+    let tests = or_parts (ltb (length body) 9) (not (is_mark (get_or body 0 0))) sized.0 in
+    let lat = bound (from_equator (a ∷ b ∷ c ∷ d ∷ e ∷ f ∷ [])) _ place sized.1 in
+    let lon = bound (from_greenwich (cond (is_set e) 100 0) (take 3 (drop 1 body))) _ place lat.2 in
+    let symbol = guarded (is_code (get_or body 7 0) && is_table (get_or body 8 0)) _ place lon.2 in
+    let both_pass = and_parts (is_code (get_or body 7 0)) (is_table (get_or body 8 0)) symbol.0 in
+    let n = place_at_numbers (signed (is_set d) lat.0) (signed (not (is_set f)) lon.0) (get_or body 8 0) (get_or body 7 0) 9 place symbol.1 in
+    let whole = bound (pair (digit_of a) (digit_of b)) _ lat.0 lat.1 in
+    let before = bound (pair (digit_of c) (late_digit_of d)) _ lat.0 whole.2 in
+    let after = bound (pair (late_digit_of e) (late_digit_of f)) _ lat.0 before.2 in
+    let test = guarded (ltb before.0 60) (Some (angle whole.0 (before.0 * 100 + after.0))) lat.0 after.2 in
+    let p = pair_read (digit_of a) (digit_of b) whole.0 whole.1 in
+    let r = pair_read (digit_of c) (late_digit_of d) before.0 before.1 in
+    let t = pair_read (late_digit_of e) (late_digit_of f) after.0 after.1 in
+    let v = sent_read (take 3 (drop 1 body)) (cond (is_set e) 100 0) lon.0 lon.1 in
+    let cells = nine_cells body tests.0 in
     record {
       a = a;
       b = b;
@@ -290,22 +215,22 @@ written a b c d e f body place lat lon long mark la lo code table placed =
       e = e;
       f = f;
       base_is = refl;
-      tens_of_degrees = w.p;
-      degrees = w.q;
-      tens = w.r;
-      minutes = w.s;
-      tenths = w.t;
-      hundredths = w.u;
+      tens_of_degrees = p.0;
+      degrees = p.1;
+      tens = r.0;
+      minutes = r.1;
+      tenths = t.0;
+      hundredths = t.1;
       north = is_set d;
       hundred = is_set e;
       west = is_set f;
-      a_says = (is_custom a, is_set a, letter_read a w.p w.a_is);
-      b_says = (is_custom b, is_set b, letter_read b w.q w.b_is);
-      c_says = (is_custom c, is_set c, letter_read c w.r w.c_is);
-      d_says = late_read d w.s w.d_is;
-      e_says = late_read e w.t w.e_is;
-      f_says = late_read f w.u w.f_is;
-      below = w.below;
+      a_says = (is_custom a, is_set a, letter_read a p.0 p.2);
+      b_says = (is_custom b, is_set b, letter_read b p.1 p.3);
+      c_says = (is_custom c, is_set c, letter_read c r.0 r.2);
+      d_says = late_read d r.1 r.3;
+      e_says = late_read e t.0 t.2;
+      f_says = late_read f t.1 t.3;
+      below = subst (λ n. n < 60) r.4 (ltb-true _ _ test.0);
       mark = get_or body 0 0;
       x = v.x;
       y = v.y;
@@ -315,30 +240,18 @@ written a b c d e f body place lat lon long mark la lo code table placed =
       u = get_or body 6 0;
       rest = drop 9 body;
       body_is = joined _ _ _ _ _ _ _ _ _ _ _ _ _ _ _ _ cells.0 (cells.1 ∙ v.spelled) n.code n.table;
-      mark_is = mark_read _ mark;
+      mark_is = mark_read _ (not-false _ tests.1);
       sent = v.small;
       degrees_east = degrees_of (v.x + cond (is_set e) 100 0);
       minutes_east = minutes_of v.y;
       degrees_are = degrees_read _ (sent_small v.x (is_set e) v.small.0);
       minutes_are = minutes_read v.y;
-      lat = n.lat ∙ ap (signed (is_set d)) w.value_is;
+      lat = n.lat ∙ ap (signed (is_set d)) (sym (angle_same _ _ _ _ _ _ _ (same_Some _ _ test.1) p.4 r.4 t.4));
       lon = n.lon ∙ ap (signed (not (is_set f))) v.value_is;
-      table = rw n.table table;
-      code = rw n.code code;
+      table = rw n.table both_pass.1;
+      code = rw n.code both_pass.0;
       used = n.used;
     }
-
-read_six : (a b c d e f : ℕ) (body : List ℕ) (place : Place) → place_of (a ∷ b ∷ c ∷ d ∷ e ∷ f ∷ []) body ≡ Some place →
-    WritesMicE (a ∷ b ∷ c ∷ d ∷ e ∷ f ∷ []) body place
-unfolding place_of
-read_six a b c d e f body place h =
-    let sized = unless (ltb (length body) 9 || not (is_mark (get_or body 0 0))) _ place h in
-    let tests = neither (ltb (length body) 9) (not (is_mark (get_or body 0 0))) sized.0 in
-    let lat = bound (from_equator (a ∷ b ∷ c ∷ d ∷ e ∷ f ∷ [])) _ place sized.1 in
-    let lon = bound (from_greenwich (cond (is_set e) 100 0) (take 3 (drop 1 body))) _ place lat.2 in
-    let symbol = guarded (is_code (get_or body 7 0) && is_table (get_or body 8 0)) _ place lon.2 in
-    let both_pass = both (is_code (get_or body 7 0)) (is_table (get_or body 8 0)) symbol.0 in
-    written a b c d e f body place lat.0 lon.0 tests.0 (not_false _ tests.1) lat.1 lon.1 both_pass.0 both_pass.1 symbol.1
 
 -- no place comes of a base that isn't six bytes
 no_place : (test : Bool) (place : Place) → cond {A = Option Place} test None None ≡ Some place → ⊥

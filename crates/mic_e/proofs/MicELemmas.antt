@@ -7,13 +7,7 @@ use Rattle.mic_e.specs.MicE.{digit_of, from_equator, late_digit_of, pair}
 
 pub six : (xs : List ℕ) → length xs ≡ 6 → xs ≡ get_or xs 0 0 ∷ get_or xs 1 0 ∷ get_or xs 2 0 ∷ get_or xs 3 0 ∷ get_or xs 4 0 ∷ get_or xs 5 0 ∷ []
 six (a ∷ b ∷ c ∷ d ∷ e ∷ f ∷ []) h = refl
-six [] h = absurd (omega arith)
-six (a ∷ []) h = absurd (omega arith)
-six (a ∷ b ∷ []) h = absurd (omega arith)
-six (a ∷ b ∷ c ∷ []) h = absurd (omega arith)
-six (a ∷ b ∷ c ∷ d ∷ []) h = absurd (omega arith)
-six (a ∷ b ∷ c ∷ d ∷ e ∷ []) h = absurd (omega arith)
-six (a ∷ b ∷ c ∷ d ∷ e ∷ f ∷ g ∷ more) h = absurd (omega arith)
+six _ h = absurd (omega arith)
 
 pub equator_is : (base : List ℕ) (a b c d e f degrees minutes hundredths : ℕ) → base ≡ a ∷ b ∷ c ∷ d ∷ e ∷ f ∷ [] →
     pair (digit_of a) (digit_of b) ≡ Some degrees → pair (digit_of c) (late_digit_of d) ≡ Some minutes → pair (late_digit_of e) (late_digit_of f) ≡ Some hundredths →

@@ -10,18 +10,15 @@ use Rattle.mic_e.specs.MicE.{mic_e_place, place_of}
 abbrev numbers : Option Place → Option (ℤ × ℤ × ℕ × ℕ × ℕ)
 numbers place = option_map (λ p. (p.lat, p.lon, p.table, p.code, p.used)) place
 
-west_of_greenwich : numbers (mic_e_place (codes "S32U6T") (codes "`(_fn\"Oj/")) ≡ Some (pos 33427333, negsuc 12128999, 47, 106, 9)
+-- each destination and body read as their place's numbers, or as none
+rows :
+    -- west of Greenwich
+    (numbers (mic_e_place (codes "S32U6T") (codes "`(_fn\"Oj/")) ≡ Some (pos 33427333, negsuc 12128999, 47, 106, 9))
+    -- a hundred degrees more
+    × (numbers (mic_e_place (codes "S32UVT-7") (codes "`(_fn\"Oj/")) ≡ Some (pos 33427333, negsuc 112128999, 47, 106, 9))
+    -- short body
+    × (mic_e_place (codes "S32U6T") (codes "`(_fn\"Oj") ≡ None)
+    -- short destination
+    × (mic_e_place (codes "S32U6") (codes "`(_fn\"Oj/") ≡ None)
 unfolding place_of
-west_of_greenwich = refl
-
-a_hundred_degrees_more : numbers (mic_e_place (codes "S32UVT-7") (codes "`(_fn\"Oj/")) ≡ Some (pos 33427333, negsuc 112128999, 47, 106, 9)
-unfolding place_of
-a_hundred_degrees_more = refl
-
-short_body : mic_e_place (codes "S32U6T") (codes "`(_fn\"Oj") ≡ None
-unfolding place_of
-short_body = refl
-
-short_destination : mic_e_place (codes "S32U6") (codes "`(_fn\"Oj/") ≡ None
-unfolding place_of
-short_destination = refl
+rows = (refl, refl, refl, refl)

@@ -15,15 +15,13 @@ use Rattle.parsed_lines.specs.declared.parsing.Parsed.{Parsed}
 
 pub all_sound : (lines : List (List ℕ)) (parsed : List Parsed) → AllZip IsParsed lines parsed → All IsSound parsed
 all_sound [] [] h = All-nil IsSound
-all_sound [] (p ∷ parsed) h = absurd h
-all_sound (line ∷ lines) [] h = absurd h
 all_sound (line ∷ lines) (p ∷ parsed) h = All-cons IsSound p parsed h.0.1 (all_sound lines parsed h.1)
+all_sound _ _ h = absurd h
 
 pub each_parsed : (lines : List (List ℕ)) (parsed : List Parsed) → AllZip IsParsed lines parsed → parsed ≡ map parsed_of lines
 each_parsed [] [] h = refl
-each_parsed [] (p ∷ parsed) h = absurd h
-each_parsed (line ∷ lines) [] h = absurd h
 each_parsed (line ∷ lines) (p ∷ parsed) h = ap (λ q. q ∷ parsed) h.0.0 ∙ ap (λ ps. parsed_of line ∷ ps) (each_parsed lines parsed h.1)
+each_parsed _ _ h = absurd h
 
 -- the next line is parsed
 pub one_more_parsed : (lines : List (List ℕ)) (i : ℕ) (line : List ℕ) (parsed : List Parsed) (p : Parsed) → i < length lines → line ≡ get_or lines i line
@@ -39,10 +37,9 @@ IsPiece lines result = IfOk result (λ parsed. AllZip IsParsed lines parsed.item
 pub pieces_parsed : (pieces : List (List (List ℕ))) (found : List (Vec Parsed Global)) → AllZip IsPiece pieces (map Ok found)
     → AllZip IsParsed (flat_map (λ piece. piece) pieces) (joined found)
 pieces_parsed [] [] h = tt
-pieces_parsed [] (parsed ∷ found) h = absurd h
-pieces_parsed (piece ∷ pieces) [] h = absurd h
 pieces_parsed (piece ∷ pieces) (parsed ∷ found) h =
     AllZip-append IsParsed piece (flat_map (λ piece. piece) pieces) parsed.items (joined found) h.0 (pieces_parsed pieces found h.1)
+pieces_parsed _ _ h = absurd h
 
 -- the same of the pieces that were collected
 pub collected_parsed : (pieces : List (List (List ℕ))) (results : List (Result (Vec Parsed Global) AllocError))

@@ -1,5 +1,5 @@
 -- What the rule keeps: a rewritten packet's parts are again parts of a text, with one construct at most.
-use Rattle.std.proofs.Common.{◌≡◌, ℕ, suc, ◌+◌, ◌-◌, ◌<◌, ◌≤◌, Bool, true, false, cond, not, ◌||◌, ◌&&◌, List, [], ◌∷◌, ◌++◌, map, take, drop, length, Option, Result, Ok, Err, refl, sym, ap, ◌∙◌, subst, leb, ltb, arith}
+use Rattle.std.proofs.Common.{◌≡◌, ℕ, suc, ◌+◌, ◌-◌, ◌≤◌, Bool, true, false, cond, not, ◌||◌, ◌&&◌, List, [], ◌∷◌, ◌++◌, map, take, drop, length, Option, Result, Ok, Err, refl, sym, ap, ◌∙◌, subst, leb, ltb, arith}
 use Rattle.std.specs.Prelude.{count_by, codes, IfOk, OnOk, if◌then◌else◌}
 use Rattle.tnc2_line.specs.Pieces.{Fills}
 use Rattle.std.specs.List.{list_all, list_any, position_or_len}
@@ -9,13 +9,14 @@ use Rattle.std.proofs.lemmas.List.Sums.{sum_by-append, sum_by-cons}
 use Rattle.std.proofs.lemmas.List.{take-append-drop, append-nil, length-drop, drop-append-le, map-append}
 use Rattle.aprs_base.specs.Bytes.{is_call, is_construct, is_station}
 use Rattle.aprs_base.specs.declared.packets.Via.{Via}
-use Rattle.tnc2_line.specs.Packet.{IsParts, text_of, names_construct, from_construct, is_element, has_no_star}
+use Rattle.tnc2_line.specs.Packet.{IsParts, text_of, names_construct, from_construct, is_element, has_no_star, ◌>>=◌}
 use Rattle.q_construct.specs.declared.origins.Origin.{Origin}
-use Rattle.q_construct.specs.Rule.{Row, first_row, rows, built_row, common_rows, name_of, is_udp, is_unverified, same, plain, starred, ending, has_construct, first_call, before, given_path, ends_in_gate, gate_front, gate_call, construct_of, among, names_after, with_name, with_path, traced, refused, when, is_submission, keeps_names, is_alone, bars, begins_with, given_drops, built_drops, is_long, process_of, ◌>>=◌}
+use Rattle.q_construct.specs.Rule.{Row, first_row, rows, built_row, common_rows, name_of, is_udp, is_unverified, same, plain, starred, ending, has_construct, first_call, before, given_path, ends_in_gate, gate_front, gate_call, construct_of, among, names_after, with_name, with_path, traced, refused, when, is_submission, keeps_names, is_alone, bars, begins_with, given_drops, built_drops, is_long, process_of}
 use Rattle.q_construct.specs.declared.drops.QDrop.{QDrop}
 use Rattle.q_construct.specs.declared.drops.QDrop.TheVariants as drop_for
 use Rattle.aprs_base.specs.PartsSeen.{PartsSeen}
-use Rattle.tnc2_line.proofs.Laws.{sound_is, is_sound, good_is, is_good}
+use Rattle.tnc2_line.proofs.Cuts.{any_below, none_past}
+use Rattle.tnc2_line.proofs.Laws.{bind_ok, refused as not_refused, sound_is, is_sound, good_is, is_good}
 use Rattle.std.specs.Cmp.Lexicographic.{bytes_decides}
 use Rattle.std.proofs.Math.Seq.{drop-append-add}
 use Rattle.std.proofs.Math.ListN.{drop_of_length-le}
@@ -38,13 +39,11 @@ count_cons via vias = sum_by-cons (λ v. cond (names_construct v) 1 0) via vias
 none_count : (path : List Via) → list_any names_construct path ≡ false → count_by names_construct path ≡ 0
 none_count [] h = refl
 none_count (via ∷ vias) h =
-    count_cons via vias ∙ elim (names_construct via) as (λ b. (b || list_any names_construct vias) ≡ false → cond b 1 0 + count_by names_construct vias ≡ 0) [
-      | true ↦ λ e. cc
-      | false ↦ λ e. omega (arith, none_count vias e)
-    ] h
+    let parts = or_parts (names_construct via) (list_any names_construct vias) h in
+    count_cons via vias ∙ rw parts.0 (omega (arith, none_count vias parts.1))
 
 some_count : (path : List Via) → list_any names_construct path ≡ true → 1 ≤ count_by names_construct path
-some_count [] h = absurd (cc)
+some_count [] h = cc
 some_count (via ∷ vias) h =
     let more : 1 ≤ cond (names_construct via) 1 0 + count_by names_construct vias =
     elim (names_construct via) as (λ b. (b || list_any names_construct vias) ≡ true → 1 ≤ cond b 1 0 + count_by names_construct vias) [
@@ -55,14 +54,10 @@ some_count (via ∷ vias) h =
 
 from_none : (path more : List Via) → list_any names_construct path ≡ false → from_construct (path ++ more) ≡ from_construct more
 from_none [] more h = refl
-from_none (via ∷ vias) more h =
-    elim (names_construct via) as (λ b. (b || list_any names_construct vias) ≡ false → cond b (via ∷ (vias ++ more)) (from_construct (vias ++ more)) ≡ from_construct more) [
-      | true ↦ λ e. cc
-      | false ↦ λ e. from_none vias more e
-    ] h
+from_none (via ∷ vias) more h = let parts = or_parts (names_construct via) (list_any names_construct vias) h in rw parts.0 (from_none vias more parts.1)
 
 from_some : (path more : List Via) → list_any names_construct path ≡ true → from_construct (path ++ more) ≡ from_construct path ++ more
-from_some [] more h = absurd (cc)
+from_some [] more h = cc
 from_some (via ∷ vias) more h =
     elim (names_construct via) as (λ b. (b || list_any names_construct vias) ≡ true → cond b (via ∷ (vias ++ more)) (from_construct (vias ++ more)) ≡ cond b (via ∷ vias) (from_construct vias) ++ more) [
       | true ↦ λ e. refl
@@ -96,24 +91,21 @@ fine_free path f = record {
 free_of : (path : List Via) → list_any names_construct path ≡ false → Fine path → Free path
 free_of path none f = record { elements = f.elements; none = none }
 
--- a construct and a station's call
-pub record Good (construct name : List ℕ) : Type 0 where
-  pub letter : is_construct construct ≡ true
-  pub construct_call : is_call construct ≡ true
-  pub station : is_station name ≡ true
-
 not_construct : (name : List ℕ) → is_station name ≡ true → is_construct name ≡ false
 not_construct name h = not-true _ (and_parts (is_call name) (not (is_construct name)) h).1
 
-fine_ending : (front : List Via) (construct name : List ℕ) → Free front → Good construct name → Fine (front ++ ending construct name)
-fine_ending front construct name f g =
-    let call : is_call name ≡ true = (and_parts (is_call name) (not (is_construct name)) g.station).0 in
-    let other = not_construct name g.station in
-    let count : count_by names_construct (ending construct name) ≡ 1 = rw (g.letter, other) refl in
+-- a construct of this letter, and a station's call
+fine_ending : (front : List Via) (letter : ℕ) (name : List ℕ) → is_construct (113 ∷ 65 ∷ letter ∷ []) ≡ true → is_call (113 ∷ 65 ∷ letter ∷ []) ≡ true
+    → Free front → is_station name ≡ true → Fine (front ++ ending (113 ∷ 65 ∷ letter ∷ []) name)
+fine_ending front letter name is_one construct_call f station =
+    let construct : List ℕ = 113 ∷ 65 ∷ letter ∷ [] in
+    let call : is_call name ≡ true = (and_parts (is_call name) (not (is_construct name)) station).0 in
+    let other = not_construct name station in
+    let count : count_by names_construct (ending construct name) ≡ 1 = rw (is_one, other) refl in
     record {
-      elements = list_all-append is_element front (ending construct name) ∙ and_from _ _ f.elements (and_from _ _ g.construct_call (and_from _ _ call refl));
+      elements = list_all-append is_element front (ending construct name) ∙ and_from _ _ f.elements (and_from _ _ construct_call (and_from _ _ call refl));
       constructs = omega (arith, count_append front (ending construct name), none_count front f.none, count);
-      stars = ap (list_all has_no_star) (from_none front (ending construct name) f.none) ∙ rw g.letter refl;
+      stars = ap (list_all has_no_star) (from_none front (ending construct name) f.none) ∙ rw is_one refl;
     }
 
 fine_named : (path : List Via) (name : List ℕ) → Fine path → list_any names_construct path ≡ true → is_station name ≡ true → Fine (path ++ plain name ∷ [])
@@ -188,28 +180,21 @@ first_meets P (r ∷ rest) h =
       | false ↦ λ e. first_meets P rest (h.1 e)
     ] refl
 
-letter_good : (letter : ℕ) (name : List ℕ) → is_construct (113 ∷ 65 ∷ letter ∷ []) ≡ true → is_call (113 ∷ 65 ∷ letter ∷ []) ≡ true → is_station name ≡ true → Good (113 ∷ 65 ∷ letter ∷ []) name
-letter_good letter name l c s = record { letter = l; construct_call = c; station = s }
+-- a row that fits, or those behind it
+row_or : {A B : Type 0} → A → B → A × B
+row_or here behind = (here, behind)
 
 free_one : (call : List ℕ) → is_station call ≡ true → Free (starred call ∷ [])
 free_one call h = record { elements = and_from _ _ (and_parts (is_call call) (not (is_construct call)) h).0 refl; none = or_from _ _ (not_construct call h) refl }
 
 module _ (source : List ℕ) (origin : Origin) (server : List ℕ) (given : List Via) (fine : Fine given) (served : is_station server ≡ true) (named : is_station (name_of origin) ≡ true) where
   common_fine : RowsMeet Fine (common_rows source origin server given)
-  common_fine = (
-    λ _. fine,
-    λ none. let free = free_of given none fine in (
-      λ _. fine_ending (gate_front given) (codes "qAR") (name_of origin) (free_take (length given - 2) given free) (letter_good 82 (name_of origin) refl refl named),
-      λ _. (
-        λ ends. fine_ending (gate_front given) (codes "qAr") (gate_call given) (free_take (length given - 2) given free) (letter_good 114 (gate_call given) refl refl (gate_station given free ends)),
-        λ _. (
-          λ _. fine_ending (starred (codes "TCPIP") ∷ []) (codes "qAC") server (free_one (codes "TCPIP") refl) (letter_good 67 server refl refl served),
-          λ _.
-              (λ _. fine_ending given (codes "qAS") (name_of origin) free (letter_good 83 (name_of origin) refl refl named), λ no. absurd (cc)),
-        ),
-      ),
-    ),
-  )
+  common_fine =
+      row_or (λ _. fine) (λ none. let free = free_of given none fine in
+      row_or (λ _. fine_ending (gate_front given) 82 (name_of origin) refl refl (free_take (length given - 2) given free) named) (λ _.
+      row_or (λ ends. fine_ending (gate_front given) 114 (gate_call given) refl refl (free_take (length given - 2) given free) (gate_station given free ends)) (λ _.
+      row_or (λ _. fine_ending (starred (codes "TCPIP") ∷ []) 67 server refl refl (free_one (codes "TCPIP") refl) served) (λ _.
+      row_or (λ _. fine_ending given 83 (name_of origin) refl refl free named) (λ no. cc)))))
 
   -- what is no construct's path is free
   free_if : (b c : Bool) → ((b && not (has_construct given)) && c) ≡ true → Free given
@@ -219,25 +204,12 @@ module _ (source : List ℕ) (origin : Origin) (server : List ℕ) (given : List
   unfolding built_row rows
   built_fine =
       first_meets Fine (rows source origin server given) (
-        λ _. fine_ending (starred (codes "TCPIP") ∷ []) (codes "qAU") server (free_one (codes "TCPIP") refl) (letter_good 85 server refl refl served),
-        λ _. (
-          λ _. fine_ending (before given) (codes "qAU") server (before_free given fine) (letter_good 85 server refl refl served),
-          λ _. (
-            λ _. fine_ending (starred (codes "TCPXX") ∷ []) (codes "qAX") server (free_one (codes "TCPXX") refl) (letter_good 88 server refl refl served),
-            λ _. (
-              λ _. fine_ending (before given) (codes "qAo") (name_of origin) (before_free given fine) (letter_good 111 (name_of origin) refl refl named),
-              λ _. (
-                λ gate. fine_ending (gate_front given) (codes "qAo") (name_of origin) (free_take (length given - 2) given (free_if _ _ gate)) (letter_good 111 (name_of origin) refl refl named),
-                λ _. (
-                  λ alone. fine_ending given (codes "qAO") (name_of origin) (free_if _ _ alone) (letter_good 79 (name_of origin) refl refl named),
-                  λ _.
-                      common_fine,
-                ),
-              ),
-            ),
-          ),
-        ),
-      )
+      row_or (λ _. fine_ending (starred (codes "TCPIP") ∷ []) 85 server refl refl (free_one (codes "TCPIP") refl) served) (λ _.
+      row_or (λ _. fine_ending (before given) 85 server refl refl (before_free given fine) served) (λ _.
+      row_or (λ _. fine_ending (starred (codes "TCPXX") ∷ []) 88 server refl refl (free_one (codes "TCPXX") refl) served) (λ _.
+      row_or (λ _. fine_ending (before given) 111 (name_of origin) refl refl (before_free given fine) named) (λ _.
+      row_or (λ gate. fine_ending (gate_front given) 111 (name_of origin) refl refl (free_take (length given - 2) given (free_if _ _ gate)) named) (λ _.
+      row_or (λ alone. fine_ending given 79 (name_of origin) refl refl (free_if _ _ alone) named) (λ _. common_fine)))))))
 
 -- ---- the trace
 
@@ -268,14 +240,6 @@ traced_fine name server path named served f =
     ] refl
 
 -- ---- the answer
-
-bind_ok : {A B : Type 0} (r : Result A QDrop) (f : A → Result B QDrop) (y : B) → (r >>= f) ≡ Ok y → (x : A) × (r ≡ Ok x) × (f x ≡ Ok y)
-bind_ok (Ok x) f y h = (x, refl, h)
-bind_ok (Err e) f y h = absurd (cc)
-
-not_refused : (b : Bool) (x y : PartsSeen) (e : QDrop) → cond b (Err e) (Ok x) ≡ Ok y → (b ≡ false) × (x ≡ y)
-not_refused true x y e h = absurd (cc)
-not_refused false x y e h = let same_one : x ≡ y = cc in (refl, same_one)
 
 abbrev pub built_path : PartsSeen → Origin → List ℕ → List Via
 built_path parts origin server = (built_row parts.source origin server (given_path parts.vias)).path
@@ -335,7 +299,7 @@ answer_stays parts origin server others whole a =
 -- ---- the drops that don't apply
 
 passes : (b : Bool) (d : QDrop) (rest : List (Option QDrop)) → refused (when b d ∷ rest) ≡ Ok tt → (b ≡ false) × (refused rest ≡ Ok tt)
-passes true d rest h = absurd (cc)
+passes true d rest h = cc
 passes false d rest h = (refl, h)
 
 -- the server doesn't stand after the given construct
@@ -353,24 +317,8 @@ answer_not_named parts origin server others whole a =
 
 -- ---- the calls after the construct
 
-place_none : (path : List Via) → list_any names_construct path ≡ false → position_or_len names_construct path ≡ length path
-place_none [] h = refl
-place_none (via ∷ vias) h =
-    elim (names_construct via) as (λ b. (b || list_any names_construct vias) ≡ false → cond (not b) (1 + position_or_len names_construct vias) 0 ≡ length (via ∷ vias)) [
-      | true ↦ λ e. cc
-      | false ↦ λ e. omega (arith, place_none vias e)
-    ] h
-
-place_within : (path : List Via) → list_any names_construct path ≡ true → position_or_len names_construct path < length path
-place_within [] h = absurd (cc)
-place_within (via ∷ vias) h =
-    elim (names_construct via) as (λ b. (b || list_any names_construct vias) ≡ true → cond (not b) (1 + position_or_len names_construct vias) 0 < length (via ∷ vias)) [
-      | true ↦ λ e. omega arith
-      | false ↦ λ e. omega (arith, place_within vias e)
-    ] h
-
 place_more : (path more : List Via) → list_any names_construct path ≡ true → position_or_len names_construct (path ++ more) ≡ position_or_len names_construct path
-place_more [] more h = absurd (cc)
+place_more [] more h = cc
 place_more (via ∷ vias) more h =
     elim (names_construct via) as (λ b. (b || list_any names_construct vias) ≡ true → cond (not b) (1 + position_or_len names_construct (vias ++ more)) 0 ≡ cond (not b) (1 + position_or_len names_construct vias) 0) [
       | true ↦ λ e. refl
@@ -380,21 +328,19 @@ place_more (via ∷ vias) more h =
 place_behind : (front more : List Via) → list_any names_construct front ≡ false → position_or_len names_construct (front ++ more) ≡ length front + position_or_len names_construct more
 place_behind [] more h = omega arith
 place_behind (via ∷ vias) more h =
-    elim (names_construct via) as (λ b. (b || list_any names_construct vias) ≡ false → cond (not b) (1 + position_or_len names_construct (vias ++ more)) 0 ≡ length (via ∷ vias) + position_or_len names_construct more) [
-      | true ↦ λ e. cc
-      | false ↦ λ e. omega (arith, place_behind vias more e)
-    ] h
+    let parts = or_parts (names_construct via) (list_any names_construct vias) h in
+    rw parts.0 (omega (arith, place_behind vias more parts.1))
 
 names_none : (path : List Via) → list_any names_construct path ≡ false → names_after path ≡ []
 names_none path h =
-    let past : drop (position_or_len names_construct path + 1) path ≡ [] = drop_of_length-le path (omega (arith, place_none path h)) in
+    let past : drop (position_or_len names_construct path + 1) path ≡ [] = drop_of_length-le path (omega (arith, none_past names_construct path h)) in
     ap (λ vias. map (λ (via : Via). via.call) vias) past
 
 pub names_more : (path more : List Via) → list_any names_construct path ≡ true → names_after (path ++ more) ≡ names_after path ++ map (λ via. via.call) more
 names_more path more h =
     let place = place_more path more h in
     let rest : drop (position_or_len names_construct path + 1) (path ++ more) ≡ drop (position_or_len names_construct path + 1) path ++ more =
-    drop-append-le (position_or_len names_construct path + 1) path more (omega (arith, place_within path h)) in
+    drop-append-le (position_or_len names_construct path + 1) path more (omega (arith, any_below names_construct path h)) in
     ap (λ n. map (λ (via : Via). via.call) (drop (n + 1) (path ++ more))) place ∙ ap (λ vias. map (λ (via : Via). via.call) vias) rest
     ∙ map-append (λ (via : Via). via.call) (drop (position_or_len names_construct path + 1) path) more
 
@@ -447,31 +393,23 @@ abbrev pub Keeps : List Via → List Via → Type 0
 Keeps given path = (name : List ℕ) → among name (names_after given) ≡ true → among name (names_after path) ≡ true
 
 alone_kept : (login name : List ℕ) (names : List (List ℕ)) → is_alone login names ≡ true → among name names ≡ true → among name (login ∷ []) ≡ true
-alone_kept login name [] alone h = absurd (cc)
+alone_kept login name [] alone h = cc
 alone_kept login name (only ∷ []) alone h =
     let e : only ≡ login = (bytes_decides only login).0 alone in
     subst (λ n. among name (n ∷ []) ≡ true) e h
-alone_kept login name (only ∷ next ∷ more) alone h = absurd (cc)
+alone_kept login name (only ∷ next ∷ more) alone h = cc
 
 module _ (source : List ℕ) (origin : Origin) (server : List ℕ) (given : List Via) (fine : Fine given) (keeps : keeps_names origin ≡ true) where
   none_kept : (path : List Via) → has_construct given ≡ false → Keeps given path
   none_kept path none name h = absurd (let e : among name (names_after given) ≡ false = ap (among name) (names_none given none) in cc)
 
   common_kept : RowsMeet (Keeps given) (common_rows source origin server given)
-  common_kept = (
-    λ _ name h. h,
-    λ none. (
-      λ _. none_kept (gate_front given ++ ending (codes "qAR") (name_of origin)) none,
-      λ _. (
-        λ _. none_kept (gate_front given ++ ending (codes "qAr") (gate_call given)) none,
-        λ _. (
-          λ _. none_kept (starred (codes "TCPIP") ∷ ending (codes "qAC") server) none,
-          λ _.
-              (λ _. none_kept (given ++ ending (codes "qAS") (name_of origin)) none, λ no. absurd (cc)),
-        ),
-      ),
-    ),
-  )
+  common_kept =
+      row_or (λ _ name h. h) (λ none.
+      row_or (λ _. none_kept (gate_front given ++ ending (codes "qAR") (name_of origin)) none) (λ _.
+      row_or (λ _. none_kept (gate_front given ++ ending (codes "qAr") (gate_call given)) none) (λ _.
+      row_or (λ _. none_kept (starred (codes "TCPIP") ∷ ending (codes "qAC") server) none) (λ _.
+      row_or (λ _. none_kept (given ++ ending (codes "qAS") (name_of origin)) none) (λ no. cc)))))
 
   no_construct_if : (b c : Bool) → ((b && not (has_construct given)) && c) ≡ true → has_construct given ≡ false
   no_construct_if b c h = not-true _ (and_parts _ _ (and_parts _ _ h).0).1
@@ -482,29 +420,16 @@ module _ (source : List ℕ) (origin : Origin) (server : List ℕ) (given : List
       let between = and_parts (not (is_udp origin)) (not (is_unverified origin)) keeps in
       let not_udp = not-true (is_udp origin) between.0 in
       let verified = not-true (is_unverified origin) between.1 in
+      let alone_rest : names_after (before given ++ ending (codes "qAo") (name_of origin)) ≡ name_of origin ∷ [] =
+      names_ending (before given) (codes "qAo") (name_of origin) (before_free given fine).none refl in
       first_meets (Keeps given) (rows source origin server given) (
-        λ udp. absurd (let e : is_udp origin ≡ true = (and_parts (is_udp origin) (same source (name_of origin)) udp).0 in cc),
-        λ _. (
-          λ udp. absurd (let e : is_udp origin ≡ true = udp in cc),
-          λ _. (
-            λ un. absurd (let e : is_unverified origin ≡ true = un in cc),
-            λ _. (
-              λ alone name h.
-                  let rest : names_after (before given ++ ending (codes "qAo") (name_of origin)) ≡ name_of origin ∷ [] =
-                  names_ending (before given) (codes "qAo") (name_of origin) (before_free given fine).none refl in
-                  ap (among name) rest ∙ alone_kept (name_of origin) name (names_after given) (and_parts _ (is_alone (name_of origin) (names_after given)) alone).1 h,
-              λ _. (
-                λ gate. none_kept (gate_front given ++ ending (codes "qAo") (name_of origin)) (no_construct_if _ _ gate),
-                λ _. (
-                  λ other. none_kept (given ++ ending (codes "qAO") (name_of origin)) (no_construct_if _ _ other),
-                  λ _.
-                      common_kept,
-                ),
-              ),
-            ),
-          ),
-        ),
-      )
+      row_or (λ udp. absurd (let e : is_udp origin ≡ true = (and_parts (is_udp origin) (same source (name_of origin)) udp).0 in cc)) (λ _.
+      row_or (λ udp. absurd (let e : is_udp origin ≡ true = udp in cc)) (λ _.
+      row_or (λ un. absurd (let e : is_unverified origin ≡ true = un in cc)) (λ _.
+      row_or (λ alone name h.
+      ap (among name) alone_rest ∙ alone_kept (name_of origin) name (names_after given) (and_parts _ (is_alone (name_of origin) (names_after given)) alone).1 h) (λ _.
+      row_or (λ gate. none_kept (gate_front given ++ ending (codes "qAo") (name_of origin)) (no_construct_if _ _ gate)) (λ _.
+      row_or (λ other. none_kept (given ++ ending (codes "qAO") (name_of origin)) (no_construct_if _ _ other)) (λ _. common_kept)))))))
 
 with_name_kept : (name : List ℕ) (path : List Via) → has_construct path ≡ true → Keeps path (with_name name path)
 with_name_kept name path has =

@@ -7,9 +7,12 @@ use Rattle.tnc2_line.specs.Packet.{names_construct, from_construct}
 use Rattle.q_construct.specs.Rule.{same, among, first_call, construct_of, is_own, is_login_not_last}
 use Rattle.q_construct.specs.declared.origins.Origin.{Origin}
 
+any_calls : (test : List ℕ → Bool) (vias : List Via) → list_any (λ via. test via.call) vias ≡ list_any test (map (λ via. via.call) vias)
+any_calls test [] = refl
+any_calls test (via ∷ vias) = ap (λ b. test via.call || b) (any_calls test vias)
+
 pub among_calls : (name : List ℕ) (vias : List Via) → list_any (λ via. same name via.call) vias ≡ among name (map (λ via. via.call) vias)
-among_calls name [] = refl
-among_calls name (via ∷ vias) = ap (λ b. same name via.call || b) (among_calls name vias)
+among_calls name vias = any_calls (same name) vias
 
 get_one : (n : ℕ) (via : Via) (vias : List Via) (d : Via) → get_or (via ∷ vias) (1 + n) d ≡ get_or vias n d
 get_one n via vias d = let e : 1 + n ≡ suc n = omega arith in rw e refl
@@ -37,10 +40,6 @@ construct_first path d n text place lt is = is ∙ ap (λ k. (get_or path k d).c
 
 pub construct_none : (path : List Via) (n : ℕ) → n ≡ position_or_len names_construct path → length path ≤ n → [] ≡ construct_of path
 construct_none path n place le = construct_nowhere path (omega arith)
-
-any_calls : (test : List ℕ → Bool) (vias : List Via) → list_any (λ via. test via.call) vias ≡ list_any test (map (λ via. via.call) vias)
-any_calls test [] = refl
-any_calls test (via ∷ vias) = ap (λ b. test via.call || b) (any_calls test vias)
 
 pub own_before_last : (origin : Origin) (vias : List Via) (n : ℕ) → n ≡ length vias - 1 → list_any (λ via. is_own origin via.call) (take n vias) ≡ is_login_not_last origin (map (λ via. via.call) vias)
 own_before_last origin vias n e =

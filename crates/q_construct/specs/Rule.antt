@@ -7,7 +7,7 @@ use Rattle.aprs_base.specs.Bytes.{is_station}
 use Rattle.aprs_base.specs.declared.texts.Addr.{Addr}
 use Rattle.aprs_base.specs.declared.packets.Via.{Via}
 use Rattle.aprs_base.specs.PartsSeen.{PartsSeen}
-use Rattle.tnc2_line.specs.Packet.{names_construct, from_construct, text_of}
+use Rattle.tnc2_line.specs.Packet.{names_construct, from_construct, text_of, ◌>>=◌}
 use Rattle.q_construct.specs.declared.origins.Origin.{Origin}
 use Rattle.q_construct.specs.declared.origins.Origin.TheVariants.{Udp, Client, Uplink, Peer}
 use Rattle.q_construct.specs.declared.drops.QDrop.{QDrop}
@@ -200,11 +200,6 @@ abbrev pub with_path : PartsSeen → List Via → PartsSeen
 with_path parts path = record parts { vias = path }
 
 -- ---- the drops: the first that applies
-
-infixl 10 ◌>>=◌
-abbrev pub ◌>>=◌ : {A B : Type 0} → Result A QDrop → (A → Result B QDrop) → Result B QDrop
-(Ok x) >>= f = f x
-(Err e) >>= f = Err e
 
 abbrev pub when : Bool → QDrop → Option QDrop
 when test drop' = if test then Some drop' else None

@@ -17,6 +17,7 @@ use Rattle.tnc2_line.specs.declared.reading.LineFault.TheVariants as fault
 use Rattle.aprs_base.proofs.CallLemmas.{is_call_byte, each_weaker, call_bytes, no_line_end}
 use Rattle.tnc2_line.proofs.Calls.{call_without, no_colon, no_arrow, no_comma}
 use Rattle.tnc2_line.proofs.Cuts.{cut_there, cut_sides}
+use Rattle.tnc2_line.proofs.Steps.{Head, with_arrow, with_body, with_cut, with_head, with_path, with_source}
 use Rattle.tnc2_line.proofs.Paths.{vias_back, vias_gives, split_back, join_back, Follow}
 
 -- a test that all bytes of calls, the comma and the star pass is passed by each byte of a path
@@ -125,47 +126,43 @@ parts_back parts h =
 
 -- ---- a text that reads
 
-bind_ok : {A B : Type 0} (r : Result A LineFault) (f : A → Result B LineFault) (y : B) → (r >>= f) ≡ Ok y → (x : A) × (r ≡ Ok x) × (f x ≡ Ok y)
+pub bind_ok : {E A B : Type 0} (r : Result A E) (f : A → Result B E) (y : B) → (r >>= f) ≡ Ok y → (x : A) × (r ≡ Ok x) × (f x ≡ Ok y)
 bind_ok (Ok x) f y h = (x, refl, h)
-bind_ok (Err e) f y h = absurd (cc)
+bind_ok (Err e) f y h = cc
+
+pub same_ok : {E A : Type 0} (x y : A) → ◌≡◌ {A = Result A E} (Ok x) (Ok y) → x ≡ y
+same_ok x y h = cc
 
 ok_or_ok : {A : Type 0} (o : Option A) (e : LineFault) (x : A) → ok_or o e ≡ Ok x → o ≡ Some x
 ok_or_ok (Some z) e x h = let same : z ≡ x = cc in ap Some same
-ok_or_ok None e x h = absurd (cc)
+ok_or_ok None e x h = cc
 
-checked : {A : Type 0} (b : Bool) (x y : A) (e : LineFault) → cond b (Ok x) (Err e) ≡ Ok y → (b ≡ true) × (x ≡ y)
-checked true x y e h = let same : x ≡ y = cc in (refl, same)
-checked false x y e h = absurd (cc)
+pub checked : {E A : Type 0} (b : Bool) (x y : A) (e : E) → cond b (Ok x) (Err e) ≡ Ok y → (b ≡ true) × (x ≡ y)
+checked true x y e h = (refl, cc)
+checked false x y e h = cc
 
-refused : {A : Type 0} (b : Bool) (x y : A) (e : LineFault) → cond b (Err e) (Ok x) ≡ Ok y → (b ≡ false) × (x ≡ y)
-refused true x y e h = absurd (cc)
-refused false x y e h = let same : x ≡ y = cc in (refl, same)
+pub refused : {E A : Type 0} (b : Bool) (x y : A) (e : E) → cond b (Err e) (Ok x) ≡ Ok y → (b ≡ false) × (x ≡ y)
+refused true x y e h = cc
+refused false x y e h = (refl, cc)
 
 -- a destination and a path that read, from the texts between the commas
 path_gives : (texts : List (List ℕ)) (dest : List ℕ) (vias : List Via) → path_of texts ≡ Ok (dest, vias)
     → (texts ≡ dest ∷ map via_text vias) × (is_call dest ≡ true) × Follow [] vias
-path_gives [] dest vias h = absurd (cc)
+path_gives [] dest vias h = cc
 path_gives (text ∷ texts) dest vias h =
     let first = bind_ok (call_of fault.BadDest text) (λ d. vias_of [] texts >>= λ vs. Ok (d, vs)) (dest, vias) h in
     let rest = bind_ok (vias_of [] texts) (λ vs. Ok (first.0, vs)) (dest, vias) first.2 in
     let call = checked (is_call text) text first.0 fault.BadDest first.1 in
     let more = vias_gives [] texts rest.0 (omega arith) rest.1 in
-    let dest_is : first.0 ≡ dest = ap dest_in rest.2 in
-    let vias_is : rest.0 ≡ vias = ap vias_in rest.2 in
+    let both = same_ok (first.0, rest.0) (dest, vias) rest.2 in
+    let dest_is : first.0 ≡ dest = ap (λ p. p.0) both in
+    let vias_is : rest.0 ≡ vias = ap (λ p. p.1) both in
     let same : more.0 ≡ vias = sym more.1.whole ∙ vias_is in
     let text_same : text ≡ dest = call.1 ∙ dest_is in (
       ap (λ t. t ∷ texts) text_same ∙ ap (λ ts. dest ∷ ts) (sym more.1.texts_are) ∙ ap (λ vs. dest ∷ map via_text vs) same,
       ap is_call (sym text_same) ∙ call.0,
       subst (λ vs. Follow [] vs) same more.1.follow,
     )
-  where
-    dest_in : Result (List ℕ × List Via) LineFault → List ℕ
-    dest_in (Ok p) = p.0
-    dest_in (Err e) = []
-
-    vias_in : Result (List ℕ × List Via) LineFault → List Via
-    vias_in (Ok p) = p.1
-    vias_in (Err e) = []
 
 pub record HeadIs (head source dest : List ℕ) (vias : List Via) : Type 0 where
   pub text : head ≡ source ++ (62 ∷ (dest ++ flat_map with_comma vias))
@@ -173,35 +170,8 @@ pub record HeadIs (head source dest : List ℕ) (vias : List Via) : Type 0 where
   pub dest_is : is_call dest ≡ true
   pub path : is_path vias ≡ true
 
-abbrev pub Head : Type 0
-Head = List ℕ × List ℕ × List Via
-
-abbrev with_vias : List ℕ → List ℕ → List Via → Result Head LineFault
-with_vias source dest vias = Ok (source, dest, vias)
-
-abbrev with_path : List ℕ → List ℕ × List Via → Result Head LineFault
-with_path source path = checked_path path.1 >>= with_vias source path.0
-
-abbrev with_source : List ℕ → List ℕ → Result Head LineFault
-with_source rest source = path_of (slice_split is_comma rest) >>= with_path source
-
-abbrev with_cut : List ℕ × List ℕ → Result Head LineFault
-with_cut sides = call_of fault.BadSource sides.0 >>= with_source sides.1
-
 same_head : (a c : List ℕ) (b d : List ℕ) (u v : List Via) → ◌≡◌ {A = Result Head LineFault} (Ok (a, b, u)) (Ok (c, d, v)) → (a ≡ c) × (b ≡ d) × (u ≡ v)
-same_head a c b d u v h = (ap source_in h, ap dest_in h, ap vias_in h)
-  where
-    source_in : Result Head LineFault → List ℕ
-    source_in (Ok p) = p.0
-    source_in (Err e) = []
-
-    dest_in : Result Head LineFault → List ℕ
-    dest_in (Ok p) = p.1
-    dest_in (Err e) = []
-
-    vias_in : Result Head LineFault → List Via
-    vias_in (Ok p) = p.2
-    vias_in (Err e) = []
+same_head a c b d u v h = let same = same_ok (a, b, u) (c, d, v) h in (ap (λ p. p.0) same, ap (λ p. p.1) same, ap (λ p. p.2) same)
 
 head_from : (head source dest : List ℕ) (vias : List Via) (sides : List ℕ × List ℕ) (call : List ℕ) (path : List ℕ × List Via) (vs : List Via)
     → cut_at is_arrow head ≡ Some sides → call_of fault.BadSource sides.0 ≡ Ok call → path_of (slice_split is_comma sides.1) ≡ Ok path → checked_path path.1 ≡ Ok vs
@@ -229,22 +199,13 @@ head_from head source dest vias sides call path vs cut called read once same =
 head_gives : (head source dest : List ℕ) (vias : List Via) → head_of head ≡ Ok (source, dest, vias) → HeadIs head source dest vias
 unfolding head_of
 head_gives head source dest vias h =
-    let a = bind_ok (ok_or (cut_at is_arrow head) fault.NoArrow) with_cut (source, dest, vias) h in
+    let a = bind_ok (ok_or (cut_at is_arrow head) fault.NoArrow) with_arrow (source, dest, vias) h in
     let b = bind_ok (call_of fault.BadSource a.0.0) (with_source a.0.1) (source, dest, vias) a.2 in
     let c = bind_ok (path_of (slice_split is_comma a.0.1)) (with_path b.0) (source, dest, vias) b.2 in
-    let d = bind_ok (checked_path c.0.1) (with_vias b.0 c.0.0) (source, dest, vias) c.2 in
+    let d = bind_ok (checked_path c.0.1) (λ vs. Ok (b.0, c.0.0, vs)) (source, dest, vias) c.2 in
     head_from head source dest vias a.0 b.0 c.0 d.0 (ok_or_ok (cut_at is_arrow head) fault.NoArrow a.0 a.1) b.1 c.1 d.1 (same_head b.0 source c.0.0 dest d.0 vias d.2)
 
 -- ---- the line
-
-abbrev with_body : Head → List ℕ → Result PartsSeen LineFault
-with_body head body = Ok (record { source = head.0; dest = head.1; vias = head.2; body = body })
-
-abbrev with_head : List ℕ → Head → Result PartsSeen LineFault
-with_head text head = checked_body text >>= with_body head
-
-abbrev with_line : List ℕ × List ℕ → Result PartsSeen LineFault
-with_line sides = head_of sides.0 >>= with_head sides.1
 
 parts_from : (line : List ℕ) (sides : List ℕ × List ℕ) (head : Head) (body : List ℕ) → list_all is_inner line ≡ true
     → cut_at is_colon line ≡ Some sides → head_of sides.0 ≡ Ok head → checked_body sides.1 ≡ Ok body
@@ -271,7 +232,7 @@ parts_from line sides head body inner cut front rest =
 pub parts_give : (line : List ℕ) (parts : PartsSeen) → list_all is_inner line ≡ true → parts_of line ≡ Ok parts → IsPacket line parts
 unfolding parts_of
 parts_give line parts inner h =
-    let a = bind_ok (ok_or (cut_at is_colon line) fault.NoColon) with_line parts h in
+    let a = bind_ok (ok_or (cut_at is_colon line) fault.NoColon) with_cut parts h in
     let b = bind_ok (head_of a.0.0) (with_head a.0.1) parts a.2 in
     let c = bind_ok (checked_body a.0.1) (with_body b.0) parts b.2 in
     carried b.0 c.0 c.2 (parts_from line a.0 b.0 c.0 inner (ok_or_ok (cut_at is_colon line) fault.NoColon a.0 a.1) b.1 c.1)

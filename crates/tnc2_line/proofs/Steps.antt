@@ -9,7 +9,7 @@ use Rattle.tnc2_line.specs.Pieces.{Fills, path_at, with_vias}
 use Rattle.tnc2_line.specs.declared.reading.LineFault.{LineFault}
 use Rattle.tnc2_line.specs.declared.reading.LineFault.TheVariants as fault
 
-abbrev Head : Type 0
+abbrev pub Head : Type 0
 Head = List ℕ × List ℕ × List Via
 
 then_then : {A B C : Type 0} (r : Result A LineFault) (f : A → Result B LineFault) (g : B → Result C LineFault) → (r >>= f >>= g) ≡ (r >>= λ x. f x >>= g)
@@ -18,13 +18,13 @@ then_then (Err e) f g = refl
 
 -- ---- a head, from its cut and its calls
 
-abbrev with_path : List ℕ → List ℕ × List Via → Result Head LineFault
+abbrev pub with_path : List ℕ → List ℕ × List Via → Result Head LineFault
 with_path source path = checked_path path.1 >>= λ vias. Ok (source, path.0, vias)
 
-abbrev with_source : List ℕ → List ℕ → Result Head LineFault
+abbrev pub with_source : List ℕ → List ℕ → Result Head LineFault
 with_source text source = path_of (slice_split is_comma text) >>= with_path source
 
-abbrev with_arrow : List ℕ × List ℕ → Result Head LineFault
+abbrev pub with_arrow : List ℕ × List ℕ → Result Head LineFault
 with_arrow cut = call_of fault.BadSource cut.0 >>= with_source cut.1
 
 abbrev pub with_dest : List ℕ → List (List ℕ) → Result (List ℕ) LineFault → Result Head LineFault
@@ -51,7 +51,7 @@ with_body head body = Ok (record { source = head.0; dest = head.1; vias = head.2
 abbrev pub with_head : List ℕ → Head → Result PartsSeen LineFault
 with_head text head = checked_body text >>= with_body head
 
-abbrev with_cut : List ℕ × List ℕ → Result PartsSeen LineFault
+abbrev pub with_cut : List ℕ × List ℕ → Result PartsSeen LineFault
 with_cut parts = head_of parts.0 >>= with_head parts.1
 
 -- the head, where its path is read

@@ -1,7 +1,7 @@
 use Rattle.std.proofs.Common.{refl, ◌∙◌}
 use Rattle.filter_lang.specs.Sets.{members_of}
 use Rattle.filter_lang.proofs.WriteLemmas.{bits_put}
-use Rattle.filter_lang.proofs.writing.Writer.members.Goals as goal
+use Rattle.filter_lang.proofs.writing.Canonical.members.Goals as goal
 
 pub loop-byte-init : goal.loop-byte-init
 unfolding members_of

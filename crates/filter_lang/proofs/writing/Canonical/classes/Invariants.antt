@@ -1,6 +1,6 @@
 use Rattle.std.proofs.Common.{◌≡◌, ◌++◌, drop}
 use Rattle.filter_lang.specs.Sets.{mask_text, classes, letters_of}
-use Rattle.filter_lang.proofs.writing.Writer.classes.Given as goal
+use Rattle.filter_lang.proofs.writing.Canonical.classes.Given as goal
 
 abbrev pub invariant-loop-letter : goal.invariant-loop-letter
 invariant-loop-letter l = record {

@@ -1,7 +1,7 @@
 use Rattle.std.proofs.Common.{refl, ◌∙◌}
 use Rattle.filter_lang.specs.Sets.{letters_of}
 use Rattle.filter_lang.proofs.WriteLemmas.{mask_put}
-use Rattle.filter_lang.proofs.writing.Writer.classes.Goals as goal
+use Rattle.filter_lang.proofs.writing.Canonical.classes.Goals as goal
 
 pub loop-letter-init : goal.loop-letter-init
 unfolding letters_of
