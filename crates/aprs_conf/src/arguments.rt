@@ -173,22 +173,17 @@ pub fn host(text: &[u8]) -> Option<ArrayVec<u8, 64>>
     ArrayVec::try_from(text).ok()
 }
 
-fn is_pair(word: &[u8], proto: &[u8], wanted: &[u8], by: &[u8]) -> bool
+/// Whether these are the wanted kind and protocol.
+pub fn is_pair(word: &[u8], proto: &[u8], wanted: &[u8], by: &[u8]) -> bool
     ensures { result ≡ (same word.now wanted.now && same proto.now by.now) }
 {
     word == wanted && proto == by
 }
 
-fn serving(kind: PortKind) -> Option<Service>
-    ensures { result ≡ Some (record { kind = kind; idle = false }) }
+fn serves(kind: PortKind, idle: bool) -> Option<Service>
+    ensures { result ≡ Some (record { kind = kind; idle = idle }) }
 {
-    Some(Service { kind, idle: false })
-}
-
-fn resting(kind: PortKind) -> Option<Service>
-    ensures { result ≡ Some (record { kind = kind; idle = true }) }
-{
-    Some(Service { kind, idle: true })
+    Some(Service { kind, idle })
 }
 
 /// What a listener of this kind and protocol serves.
@@ -196,21 +191,21 @@ pub fn kind(word: &[u8], proto: &[u8]) -> Option<Service>
     ensures { result ≡ kind_of word.now proto.now }
 {
     if is_pair(word, proto, b"fullfeed", b"tcp") {
-        serving(PortKind::Full)
+        serves(PortKind::Full, false)
     } else if is_pair(word, proto, b"igate", b"tcp") {
-        serving(PortKind::Igate)
+        serves(PortKind::Igate, false)
     } else if is_pair(word, proto, b"clientonly", b"tcp") {
-        serving(PortKind::Only)
+        serves(PortKind::Only, false)
     } else if is_pair(word, proto, b"dupefeed", b"tcp") {
-        serving(PortKind::Dupe)
+        serves(PortKind::Dupe, false)
     } else if is_pair(word, proto, b"udpsubmit", b"udp") {
-        serving(PortKind::Submit)
+        serves(PortKind::Submit, false)
     } else if is_pair(word, proto, b"fullfeed", b"udp") {
-        resting(PortKind::Full)
+        serves(PortKind::Full, true)
     } else if is_pair(word, proto, b"igate", b"udp") {
-        resting(PortKind::Igate)
+        serves(PortKind::Igate, true)
     } else if is_pair(word, proto, b"clientonly", b"udp") {
-        resting(PortKind::Only)
+        serves(PortKind::Only, true)
     } else {
         None
     }

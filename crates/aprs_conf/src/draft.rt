@@ -1,15 +1,15 @@
 //! What the lines so far have said, and what each kind of line adds.
 ghost use Rattle.std.specs.Prelude.{◌≡◌, ◌<◌, ◌∷◌, ◌++◌, List, Ok, Err, IfOk, MatchResult, [], length};
-ghost use Rattle.aprs_conf.specs.Grammar.{admin_says, at_of, clients_say, code_says, email_says, empty, group_in, group_says, is_full, is_group, listen_in, listen_says, nothing_says, peer_of, peers_from, server_says, time_in_line, uplink_in, uplink_says};
+ghost use Rattle.aprs_conf.specs.Grammar.{at_of, clients_say, code_says, empty, group_in, group_says, is_group, listen_in, listen_says, need, nothing_says, one_of, peer_of, peers_from, server_says, time_in_line, uplink_in, uplink_says};
 ghost use Rattle.aprs_conf.specs.declared.types.PeerSpec.{PeerSpec};
 ghost use Rattle.aprs_conf.specs.Seen.{DraftSeen};
 ghost use Rattle.aprs_conf.specs.Reading.{Becomes, BecomesUnless, Fails};
 ghost use Rattle.aprs_conf.specs.Words.{arguments_of};
 
-use crate::arguments::{clients, host, ip, kind, port, station, time};
+use crate::arguments::{clients, host, ip, is_pair, kind, port, station, time};
 use crate::errors::{ConfFault, LineError};
 use crate::types::{Listen, PeerSpec};
-use crate::words::{count_arguments, five, listen_words, next_argument, one};
+use crate::words::{count_arguments, five, next_argument, one};
 use aprs_base::{Addr, Call, ListenSpec, Text, UplinkSpec};
 use login_pass::code_number;
 use std::alloc::Global;
@@ -102,22 +102,12 @@ pub fn line_time(args: &[u8]) -> Result<u32, ConfFault>
     time(text).ok_or(ConfFault::BadTime)
 }
 
-/// `MyAdmin TEXT`
-pub fn add_admin(alloc: Global, draft: &mut Draft, args: &[u8]) -> Result<(), LineError>
-    ensures { BecomesUnless result draft.new (admin_says draft.old (arguments_of args.now)) }
+/// The text of a line that has nothing else.
+pub fn line_text(alloc: Global, args: &[u8]) -> Result<Text, LineError>
+    ensures { MatchResult result (λ text. need ConfFault.BadCount (one_of (arguments_of args.now)) ≡ Ok text) (λ e. Fails e (need ConfFault.BadCount (one_of (arguments_of args.now)))) }
 {
     let text = one(args).ok_or(ConfFault::BadCount)?;
-    draft.admin = Some(Text::copied(alloc, text)?);
-    Ok(())
-}
-
-/// `MyEmail TEXT`
-pub fn add_email(alloc: Global, draft: &mut Draft, args: &[u8]) -> Result<(), LineError>
-    ensures { BecomesUnless result draft.new (email_says draft.old (arguments_of args.now)) }
-{
-    let text = one(args).ok_or(ConfFault::BadCount)?;
-    draft.email = Some(Text::copied(alloc, text)?);
-    Ok(())
+    Ok(Text::copied(alloc, text)?)
 }
 
 /// An address and a port.
@@ -140,7 +130,7 @@ struct ListenRead<'a> {
 fn read_listen(args: &[u8]) -> Result<ListenRead<'_>, ConfFault>
     ensures { MatchResult result (λ l. listen_in (arguments_of args.now) ≡ Ok (record { name = l.name.now; spec = l.spec; idle = l.idle })) (λ f. listen_in (arguments_of args.now) ≡ Err f) }
 {
-    let (name, word, proto, address, number) = listen_words(args).ok_or(ConfFault::BadCount)?;
+    let (name, word, proto, address, number) = five(args, true).ok_or(ConfFault::BadCount)?;
     let service = kind(word, proto).ok_or(ConfFault::BadKind)?;
     let at = at(address, number)?;
     Ok(ListenRead {
@@ -169,17 +159,11 @@ pub fn add_listen(alloc: Global, draft: &mut Draft, args: &[u8]) -> Result<(), L
     Ok(())
 }
 
-fn is_full(kind: &[u8], proto: &[u8]) -> bool
-    ensures { result ≡ is_full kind.now proto.now }
-{
-    kind == b"full".as_slice() && proto == b"tcp".as_slice()
-}
-
 fn read_uplink(args: &[u8]) -> Result<UplinkSpec, ConfFault>
     ensures { result ≡ uplink_in (arguments_of args.now) }
 {
-    let (_, kind, proto, name, number) = five(args).ok_or(ConfFault::BadCount)?;
-    if !is_full(kind, proto) {
+    let (_, kind, proto, name, number) = five(args, false).ok_or(ConfFault::BadCount)?;
+    if !is_pair(kind, proto, b"full", b"tcp") {
         return Err(ConfFault::BadKind);
     }
     let host = host(name).ok_or(ConfFault::BadHost)?;

@@ -9,8 +9,8 @@ ghost use Rattle.aprs_conf.specs.Words.{arguments_of, lines_of};
 ghost use Rattle.login_pass.specs.Login.{is_keyword};
 
 use crate::draft::{
-    Draft, add_admin, add_clients, add_code, add_email, add_group, add_listen, add_server,
-    add_uplink, expect_argument, line_time,
+    Draft, add_clients, add_code, add_group, add_listen, add_server, add_uplink, expect_argument,
+    line_text, line_time,
 };
 use crate::errors::{ConfError, ConfFault, ConfWord, LineError};
 use crate::types::Conf;
@@ -100,22 +100,6 @@ fn was_said(word: LineWord, draft: &Draft) -> bool
     }
 }
 
-fn add_up_timeout(draft: &mut Draft, args: &[u8]) -> Result<(), ConfFault>
-    ensures { Becomes result draft.new (says LineWord.UpstreamTimeout draft.old (arguments_of args.now)) }
-{
-    let time = line_time(args)?;
-    draft.up_timeout = Some(time);
-    Ok(())
-}
-
-fn add_client_timeout(draft: &mut Draft, args: &[u8]) -> Result<(), ConfFault>
-    ensures { Becomes result draft.new (says LineWord.ClientTimeout draft.old (arguments_of args.now)) }
-{
-    let time = line_time(args)?;
-    draft.client_timeout = Some(time);
-    Ok(())
-}
-
 /// Adds what the line of this word says.
 fn add(alloc: Global, word: LineWord, draft: &mut Draft, args: &[u8]) -> Result<(), LineError>
     ensures { BecomesUnless result draft.new (says word draft.old (arguments_of args.now)) }
@@ -123,13 +107,13 @@ fn add(alloc: Global, word: LineWord, draft: &mut Draft, args: &[u8]) -> Result<
     match word {
         LineWord::ServerId => add_server(draft, args)?,
         LineWord::PassCode => add_code(draft, args)?,
-        LineWord::MyAdmin => add_admin(alloc, draft, args)?,
-        LineWord::MyEmail => add_email(alloc, draft, args)?,
+        LineWord::MyAdmin => draft.admin = Some(line_text(alloc, args)?),
+        LineWord::MyEmail => draft.email = Some(line_text(alloc, args)?),
         LineWord::Listen => add_listen(alloc, draft, args)?,
         LineWord::Uplink => add_uplink(draft, args)?,
         LineWord::PeerGroup => add_group(alloc, draft, args)?,
-        LineWord::UpstreamTimeout => add_up_timeout(draft, args)?,
-        LineWord::ClientTimeout => add_client_timeout(draft, args)?,
+        LineWord::UpstreamTimeout => draft.up_timeout = Some(line_time(args)?),
+        LineWord::ClientTimeout => draft.client_timeout = Some(line_time(args)?),
         LineWord::MaxClients => add_clients(draft, args)?,
         LineWord::Unused => expect_argument(args)?,
     }
