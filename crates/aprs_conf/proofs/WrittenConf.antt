@@ -14,7 +14,7 @@ use Rattle.aprs_conf.specs.declared.errors.ConfFault.TheVariants as fault
 use Rattle.aprs_conf.specs.declared.types.Listen.{Listen}
 use Rattle.aprs_conf.specs.declared.types.PeerSpec.{PeerSpec}
 use Rattle.aprs_conf.specs.Arguments.{port_of, tcp, udp}
-use Rattle.aprs_conf.specs.Grammar.{◌>>=◌, after, at_line, at_of, conf_of, conf_with, drafted, empty, group_in, is_group, line_says, listen_in, next, peer_of, peers_from, unless, uplink_in, with_listen, with_uplink, words_say, group_says}
+use Rattle.aprs_conf.specs.Grammar.{◌>>=◌, after, at_line, at_of, conf_of, conf_with, drafted, empty, is_group, line_says, listen_in, next, peer_of, peers_from, unless, uplink_in, with_listen, with_uplink, words_say, group_says}
 use Rattle.aprs_conf.specs.Seen.{ConfSeen, DraftSeen}
 use Rattle.aprs_conf.specs.Words.{closed, has_open, lines_of}
 use Rattle.aprs_conf.specs.Writing.{at_words, conf_lines, group_line, group_lines, identity_lines, ip_text, kind_name, limit_lines, line_text, listen_line, peer_words, proto_name, text_of_conf, uplink_line, word_text}
@@ -167,9 +167,6 @@ group_counted at peers is =
     let high : n ≤ 28 = omega arith in
     let third : n % 3 ≡ 1 = omega arith in
     rw (le-leb 7 n low, le-leb n 28 high, eq-eqb (n % 3) 1 third) refl
-
-group_in_again : (at : Addr) (peers : List PeerSpec) → WritableAt at → group_in (group_args at peers) ≡ Ok (at, flat_map peer_words peers)
-group_in_again at peers is = rw (at_again at is) refl
 
 one_group_says : (draft : DraftSeen) (at : Addr) (peers : List PeerSpec) → WritablePeers at peers → group_says draft (group_args at peers) ≡ Ok (record draft { group = Some at; peers = peers })
 one_group_says draft at peers is = rw (group_counted at peers is, at_again at is.at, peers_again [] peers is.each) refl

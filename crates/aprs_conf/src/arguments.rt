@@ -1,8 +1,8 @@
 //! What an argument of a line may be.
-ghost use Rattle.std.specs.Prelude.{◌≡◌, ◌≤◌, ◌&&◌, ◌∷◌, Some, None, true, false, [], if◌then◌else◌, nat_le, MatchOption};
+ghost use Rattle.std.specs.Prelude.{◌≡◌, ◌≤◌, ◌&&◌, ◌∷◌, Some, None, true, [], if◌then◌else◌, nat_le, MatchOption};
 ghost use Rattle.std.specs.List.{list_all, slice_split};
 ghost use Rattle.std.specs.Option.{option_map};
-ghost use Rattle.aprs_base.specs.Bytes.{is_digit, is_station};
+ghost use Rattle.aprs_base.specs.Bytes.{is_digit};
 ghost use Rattle.login_pass.specs.Login.{number_from};
 ghost use Rattle.aprs_conf.specs.Arguments.{clients_of, host_of, ip_of, is_dot, is_plain, kind_of, last_in, octet_of, octets_in, port_of, same, seconds_of, station_of, time_of};
 

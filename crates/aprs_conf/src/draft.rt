@@ -1,17 +1,16 @@
 //! What the lines so far have said, and what each kind of line adds.
 ghost use Rattle.std.specs.Prelude.{◌≡◌, ◌<◌, ◌∷◌, ◌++◌, List, Ok, Err, IfOk, MatchResult, [], length};
-ghost use Rattle.aprs_conf.specs.Grammar.{at_of, clients_say, code_says, empty, group_in, group_says, is_group, listen_in, listen_says, need, nothing_says, one_of, peer_of, peers_from, server_says, time_in_line, uplink_in, uplink_says};
+ghost use Rattle.aprs_conf.specs.Grammar.{at_of, empty, group_in, group_says, is_group, listen_in, listen_says, nothing_says, peer_of, peers_from, uplink_in, uplink_says};
 ghost use Rattle.aprs_conf.specs.declared.types.PeerSpec.{PeerSpec};
 ghost use Rattle.aprs_conf.specs.Seen.{DraftSeen};
 ghost use Rattle.aprs_conf.specs.Reading.{Becomes, BecomesUnless, Fails};
 ghost use Rattle.aprs_conf.specs.Words.{arguments_of};
 
-use crate::arguments::{clients, host, ip, is_pair, kind, port, station, time};
+use crate::arguments::{host, ip, is_pair, kind, port, station};
 use crate::errors::{ConfFault, LineError};
 use crate::types::{Listen, PeerSpec};
-use crate::words::{count_arguments, five, next_argument, one};
+use crate::words::{count_arguments, five, next_argument};
 use aprs_base::{Addr, Call, ListenSpec, Text, UplinkSpec};
-use login_pass::code_number;
 use std::alloc::Global;
 use std::marker::Model;
 
@@ -62,52 +61,6 @@ impl Draft {
             max_clients: None,
         }
     }
-}
-
-/// `ServerId CALL`
-pub fn add_server(draft: &mut Draft, args: &[u8]) -> Result<(), ConfFault>
-    ensures { Becomes result draft.new (server_says draft.old (arguments_of args.now)) }
-{
-    let text = one(args).ok_or(ConfFault::BadCount)?;
-    let call = station(text).ok_or(ConfFault::BadCall)?;
-    draft.server = Some(call);
-    Ok(())
-}
-
-/// `PassCode N`
-pub fn add_code(draft: &mut Draft, args: &[u8]) -> Result<(), ConfFault>
-    ensures { Becomes result draft.new (code_says draft.old (arguments_of args.now)) }
-{
-    let text = one(args).ok_or(ConfFault::BadCount)?;
-    let code = code_number(text).ok_or(ConfFault::BadNumber)?;
-    draft.code = Some(code);
-    Ok(())
-}
-
-/// `MaxClients N`
-pub fn add_clients(draft: &mut Draft, args: &[u8]) -> Result<(), ConfFault>
-    ensures { Becomes result draft.new (clients_say draft.old (arguments_of args.now)) }
-{
-    let text = one(args).ok_or(ConfFault::BadCount)?;
-    let most = clients(text).ok_or(ConfFault::BadNumber)?;
-    draft.max_clients = Some(most);
-    Ok(())
-}
-
-/// The time of a line that has nothing else.
-pub fn line_time(args: &[u8]) -> Result<u32, ConfFault>
-    ensures { result ≡ time_in_line (arguments_of args.now) }
-{
-    let text = one(args).ok_or(ConfFault::BadCount)?;
-    time(text).ok_or(ConfFault::BadTime)
-}
-
-/// The text of a line that has nothing else.
-pub fn line_text(alloc: Global, args: &[u8]) -> Result<Text, LineError>
-    ensures { MatchResult result (λ text. need ConfFault.BadCount (one_of (arguments_of args.now)) ≡ Ok text) (λ e. Fails e (need ConfFault.BadCount (one_of (arguments_of args.now)))) }
-{
-    let text = one(args).ok_or(ConfFault::BadCount)?;
-    Ok(Text::copied(alloc, text)?)
 }
 
 /// An address and a port.

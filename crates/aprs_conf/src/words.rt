@@ -1,12 +1,13 @@
 //! The lines of a text, and the words of a line.
-ghost use Rattle.std.specs.Prelude.{◌≡◌, ◌<◌, ◌≤◌, [], ◌∷◌, Some, None, length, MatchOption, IfSome, if◌then◌else◌, ◌==◌, option_copied};
+ghost use Rattle.std.specs.Prelude.{◌≡◌, ◌<◌, ◌≤◌, [], ◌∷◌, Some, Ok, Err, length, MatchOption, MatchResult, IfSome, if◌then◌else◌, ◌==◌, option_copied};
 ghost use Rattle.std.specs.List.{prefix_len, position_or_len};
 ghost use Rattle.std.specs.Option.{option_map};
 ghost use Rattle.aprs_conf.specs.Words.{arguments_of, has_open, is_gap, is_remark, lines_of, without_return, words_from, words_of};
 ghost use Rattle.aprs_conf.specs.Words.Place.{Plain, Quoted};
 ghost use Rattle.aprs_conf.specs.Reading.{BeginsWith, lines_behind};
-ghost use Rattle.aprs_conf.specs.Grammar.{five_of, is_hidden_at_most, listen_of, one_of};
+ghost use Rattle.aprs_conf.specs.Grammar.{five_of, is_hidden_at_most, listen_of, need, one_of};
 
+use crate::errors::ConfFault;
 use aprs_base::first_place;
 
 /// What a text begins with, behind its blanks and tabs.
@@ -157,13 +158,13 @@ pub fn count_arguments(text: &[u8]) -> usize
 }
 
 /// The one argument of a text that has no other.
-pub fn one(text: &[u8]) -> Option<&[u8]>
-    ensures { option_map (λ a. a.now) result ≡ one_of (arguments_of text.now) }
+pub fn one(text: &[u8]) -> Result<&[u8], ConfFault>
+    ensures { MatchResult result (λ a. need ConfFault.BadCount (one_of (arguments_of text.now)) ≡ Ok a.now) (λ f. need ConfFault.BadCount (one_of (arguments_of text.now)) ≡ Err f) }
 {
-    let (first, behind) = next_argument(text)?;
+    let (first, behind) = next_argument(text).ok_or(ConfFault::BadCount)?;
     match next_argument(behind) {
-        Some(_) => None,
-        None => Some(first),
+        Some(_) => Err(ConfFault::BadCount),
+        None => Ok(first),
     }
 }
 

@@ -4,7 +4,7 @@ ghost use Rattle.std.specs.Fmt.{decimal};
 ghost use Rattle.std.specs.List.{flat_map, list_all};
 ghost use Rattle.aprs_conf.specs.Grammar.{conf_of};
 ghost use Rattle.aprs_conf.specs.Words.{is_gap};
-ghost use Rattle.aprs_conf.specs.Writing.{at_words, group_line, group_lines, identity_lines, ip_text, is_bare, kind_name, limit_lines, line_text, list_lines, listen_line, peer_words, proto_name, spelled, text_of_conf, uplink_line, word_text};
+ghost use Rattle.aprs_conf.specs.Writing.{at_words, group_lines, identity_lines, ip_text, is_bare, kind_name, limit_lines, line_text, list_lines, listen_line, peer_words, proto_name, spelled, text_of_conf, uplink_line, word_text};
 
 use crate::types::{Conf, Listen, PeerSpec};
 use crate::words::is_gap_byte;
