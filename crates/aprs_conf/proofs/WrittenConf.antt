@@ -1,10 +1,11 @@
 -- The text that is written of a configuration reads as it.
-use Rattle.std.proofs.Common.{◌≡◌, ℕ, ◌+◌, ◌*◌, ◌%◌, ◌<◌, ◌≤◌, ◌==◌, true, false, cond, List, [], ◌∷◌, ◌++◌, Option, Some, None, Result, Ok, map, length, refl, sym, ap, ◌∙◌, arith, append_assoc, append-nil}
+use Rattle.std.proofs.Common.{◌≡◌, ℕ, ◌+◌, ◌*◌, ◌%◌, ◌<◌, ◌≤◌, ◌==◌, true, false, cond, List, [], ◌∷◌, ◌++◌, Option, Some, None, Result, Ok, Err, map, length, refl, sym, ap, ◌∙◌, arith, append_assoc, append-nil}
 use Rattle.std.specs.Prelude.{codes, is_some}
-use Rattle.std.specs.List.{flat_map, list_all}
+use Rattle.std.specs.List.{AllByRecursion as Each, flat_map, list_all}
 use Rattle.std.specs.Fmt.{decimal}
 use Rattle.std.proofs.lemmas.Bool.{eq-eqb, ne_eqb, le-leb, lt-leb}
 use Rattle.std.proofs.lemmas.List.{length-append}
+use Rattle.std.proofs.lemmas.Result.{IfOk-at_ok}
 use Rattle.aprs_base.specs.UplinkSeen.{UplinkSeen}
 use Rattle.aprs_base.specs.declared.texts.Addr.{Addr}
 use Rattle.aprs_conf.specs.declared.errors.ConfError.{ConfError}
@@ -13,16 +14,21 @@ use Rattle.aprs_conf.specs.declared.errors.ConfFault.TheVariants as fault
 use Rattle.aprs_conf.specs.declared.types.Listen.{Listen}
 use Rattle.aprs_conf.specs.declared.types.PeerSpec.{PeerSpec}
 use Rattle.aprs_conf.specs.Arguments.{port_of, tcp, udp}
-use Rattle.aprs_conf.specs.Grammar.{◌>>=◌, after, at_line, at_of, conf_of, conf_with, drafted, empty, group_in, is_group, line_says, listen_in, next, peer_of, peers_from, unless, uplink_in, with_listen, with_uplink, words_say, group_says}
+use Rattle.aprs_conf.specs.Grammar.{◌>>=◌, after, at_line, at_of, conf_of, conf_with, drafted, empty, is_group, line_says, listen_in, next, peer_of, peers_from, unless, uplink_in, with_listen, with_uplink, words_say, group_says}
 use Rattle.aprs_conf.specs.Seen.{ConfSeen, DraftSeen}
 use Rattle.aprs_conf.specs.Words.{closed, has_open, lines_of}
 use Rattle.aprs_conf.specs.Writing.{at_words, conf_lines, group_line, group_lines, identity_lines, ip_text, kind_name, limit_lines, line_text, listen_line, peer_words, proto_name, text_of_conf, uplink_line, word_text}
-use Rattle.aprs_conf.proofs.WritableDrafts.{Each, IsPort, WritableAt, WritableConf, WritableGroup, WritableListen, WritablePeer, WritablePeers, WritableUplink, bind_ok, conf_writable}
+use Rattle.aprs_conf.specs.Sound.{IsWithin}
+use Rattle.aprs_conf.proofs.WritableDrafts.{WritableAt, WritableConf, WritableGroup, WritableListen, WritablePeer, WritablePeers, WritableUplink, conf_writable}
 use Rattle.aprs_conf.proofs.WrittenLines.{line_read}
 use Rattle.aprs_conf.proofs.WrittenNumbers.{code_again, decimal_word, ip_again, ip_word, number_again, time_again}
 use Rattle.aprs_conf.proofs.WrittenWords.{all_closed, is_word, none_open, words_read}
 
 -- ---- lines, as lists of words
+
+bind_ok : {E A B : Type 0} (r : Result A E) (f : A → Result B E) (y : B) → (r >>= f) ≡ Ok y → (x : A) × (r ≡ Ok x) × (f x ≡ Ok y)
+bind_ok (Ok x) f y h = (x, refl, h)
+bind_ok (Err e) f y h = cc
 
 -- what these lines say
 abbrev all_say : DraftSeen → List (List (List ℕ)) → Result DraftSeen ConfFault
@@ -58,28 +64,28 @@ lines_again n draft new (((b ∷ name) ∷ args) ∷ lines) each h =
     let line : List (List ℕ) = (b ∷ name) ∷ args in
     let rest : List ℕ = flat_map line_text lines in
     let more = bind_ok (line_says draft line) (λ d. all_say d lines) new h in
-    let own : after draft (flat_map word_text line) ≡ Ok more.0 = written_says draft b name args each.0.0 each.0.1 ∙ more.1.0 in
+    let own : after draft (flat_map word_text line) ≡ Ok more.0 = written_says draft b name args each.0.0 each.0.1 ∙ more.1 in
     ap (drafted n draft) (line_read (b ∷ name) args rest each.0.1)
     ∙ ap (λ (r : Result DraftSeen ConfFault). at_line n r >>= λ d. drafted (next n) d (lines_of rest)) own
-    ∙ lines_again (next n) more.0 new lines each.1 more.1.1
+    ∙ lines_again (next n) more.0 new lines each.1 more.2
 
 all_say-append : (draft middle : DraftSeen) (before lines : List (List (List ℕ))) → all_say draft before ≡ Ok middle → all_say draft (before ++ lines) ≡ all_say middle lines
 all_say-append draft middle [] lines h = (let is : draft ≡ middle = cc in ap (λ d. all_say d lines) is)
 all_say-append draft middle (words ∷ before) lines h =
     let more = bind_ok (line_says draft words) (λ d. all_say d before) middle h in
-    ap (λ (r : Result DraftSeen ConfFault). r >>= λ d. all_say d (before ++ lines)) more.1.0
-    ∙ all_say-append more.0 middle before lines more.1.1
+    ap (λ (r : Result DraftSeen ConfFault). r >>= λ d. all_say d (before ++ lines)) more.1
+    ∙ all_say-append more.0 middle before lines more.2
 
 -- ---- arguments
 
-port_again : (port : ℕ) → IsPort port → port_of (decimal port) ≡ Some port
-port_again port is = number_again 1 65535 port is.0 is.1 (let most = is.1 in omega arith)
+port_again : (port : ℕ) → IsWithin 1 65535 port → port_of (decimal port) ≡ Some port
+port_again port is = number_again 1 65535 port is (omega arith)
 
 at_again : (at : Addr) → WritableAt at → at_of (ip_text at.ip) (decimal at.port) ≡ Ok at
 at_again at is = rw (ip_again at.ip is.ip, port_again at.port is.port) refl
 
-port_word : (port : ℕ) → IsPort port → is_word (decimal port) ≡ true
-port_word port is = decimal_word port (let most = is.1 in omega arith)
+port_word : (port : ℕ) → IsWithin 1 65535 port → is_word (decimal port) ≡ true
+port_word port is = decimal_word port (omega arith)
 
 -- ---- listeners
 
@@ -162,9 +168,6 @@ group_counted at peers is =
     let third : n % 3 ≡ 1 = omega arith in
     rw (le-leb 7 n low, le-leb n 28 high, eq-eqb (n % 3) 1 third) refl
 
-group_in_again : (at : Addr) (peers : List PeerSpec) → WritableAt at → group_in (group_args at peers) ≡ Ok (at, flat_map peer_words peers)
-group_in_again at peers is = rw (at_again at is) refl
-
 one_group_says : (draft : DraftSeen) (at : Addr) (peers : List PeerSpec) → WritablePeers at peers → group_says draft (group_args at peers) ≡ Ok (record draft { group = Some at; peers = peers })
 one_group_says draft at peers is = rw (group_counted at peers is, at_again at is.at, peers_again [] peers is.each) refl
 
@@ -238,9 +241,9 @@ first_say conf lines is =
     rw (
       is.server.station,
       code_again conf.code is.code,
-      time_again conf.up_timeout is.up_timeout.0 is.up_timeout.1,
-      time_again conf.client_timeout is.client_timeout.0 is.client_timeout.1,
-      number_again 1 10000 conf.max_clients is.max_clients.0 is.max_clients.1 (let most = is.max_clients.1 in omega arith),
+      time_again conf.up_timeout is.up_timeout,
+      time_again conf.client_timeout is.client_timeout,
+      number_again 1 10000 conf.max_clients is.max_clients (omega arith),
     ) refl
 
 conf_says : (conf : ConfSeen) → WritableConf conf → all_say empty (conf_lines conf) ≡ Ok (whole_draft conf)
@@ -262,6 +265,6 @@ made_of conf some = rw (ne_eqb (length conf.listens) 0 (λ e. omega arith)) refl
 pub written_again : (text : List ℕ) (conf : ConfSeen) → conf_of text ≡ Ok conf → conf_of (text_of_conf conf) ≡ Ok conf
 unfolding conf_of text_of_conf
 written_again text conf h =
-    let is = conf_writable text conf h in
+    let is = IfOk-at_ok WritableConf h (conf_writable text) in
     ap (λ (r : Result DraftSeen ConfError). r >>= conf_with) (lines_again 1 empty (whole_draft conf) (conf_lines conf) (conf_are_lines conf is) (conf_says conf is))
     ∙ made_of conf is.some_listens

@@ -1,30 +1,24 @@
 -- Lines that are written read as themselves; and no word or line that is read holds a line feed.
-use Rattle.std.proofs.Common.{◌≡◌, ℕ, zero, suc, ◌-◌, ◌==◌, Bool, true, false, cond, List, [], ◌∷◌, ◌++◌, Some, None, take, length, refl, sym, ap, subst, ◌∙◌, arith, append_assoc, append-nil}
+use Rattle.std.proofs.Common.{◌≡◌, ℕ, ◌-◌, ◌==◌, Bool, true, false, cond, List, [], ◌∷◌, ◌++◌, Some, None, take, drop, get_or, length, All, ◌&&◌, refl, sym, ap, subst, ◌∙◌, arith, append_assoc, append-nil}
 use Rattle.std.specs.Prelude.{not, slice_index}
 use Rattle.std.specs.List.{flat_map, list_all, slice_split, onto_first}
 use Rattle.std.proofs.Math.Seq.{get_or-append_seam}
-use Rattle.std.proofs.lemmas.List.{length-append}
+use Rattle.std.proofs.lemmas.Bool.{and_parts, cond_both, not-true}
+use Rattle.std.proofs.lemmas.List.{length-append, take-append-drop}
 use Rattle.std.proofs.lemmas.List.Folds.{list_all-append}
+use Rattle.std.proofs.lemmas.List.Splits.{slice_split_at}
+use Rattle.std.proofs.lemmas.List.Sums.{AllPass-from_list_all}
 use Rattle.aprs_conf.specs.Words.{is_feed, is_gap, is_quote, with_byte, words_from, words_of, Word, closed, ended, lines_of, without_return}
 use Rattle.aprs_conf.specs.Words.Place.{Between, Plain, Quoted}
 use Rattle.aprs_conf.specs.Writing.{in_quotes, is_bare, spelled, word_text, line_text}
 use Rattle.aprs_conf.proofs.LineLemmas.{line_first}
-use Rattle.aprs_conf.proofs.WrittenWords.{both, unnot, no_feed, no_gap, no_quote, is_word}
+use Rattle.aprs_conf.proofs.WrittenWords.{no_feed, no_gap, no_quote, is_word}
 
 -- ---- writing
 
--- a text is cut at the first byte of a kind
-pub cut_at : (test : ℕ → Bool) (c : ℕ) → test c ≡ true → (xs rest : List ℕ) → list_all (λ x. not (test x)) xs ≡ true → slice_split test (xs ++ c ∷ rest) ≡ xs ∷ slice_split test rest
-cut_at test c is [] rest h = rw is refl
-cut_at test c is (x ∷ xs) rest h =
-    let parts = both (not (test x)) (list_all (λ y. not (test y)) xs) h in
-    rw (unnot (test x) parts.0, cut_at test c is xs rest parts.1) refl
-
-pub never_cut : (test : ℕ → Bool) (xs : List ℕ) → list_all (λ x. not (test x)) xs ≡ true → slice_split test xs ≡ xs ∷ []
-never_cut test [] h = refl
-never_cut test (x ∷ xs) h =
-    let parts = both (not (test x)) (list_all (λ y. not (test y)) xs) h in
-    rw (unnot (test x) parts.0, never_cut test xs parts.1) refl
+-- a text without a byte, as the parts of a text take it
+pub without : (test : ℕ → Bool) (xs : List ℕ) → list_all (λ x. not (test x)) xs ≡ true → All (λ x. test x ≡ false) xs
+without test xs h k d less = not-true (test (get_or xs k d)) (AllPass-from_list_all (λ x. not (test x)) xs h k d less)
 
 -- what is written of a word has no line feed
 spelled_feed : (bare : Bool) (word : List ℕ) → list_all no_feed word ≡ true → list_all no_feed (cond bare word (in_quotes word) ++ 32 ∷ []) ≡ true
@@ -34,8 +28,8 @@ spelled_feed false word h = rw (append_assoc word (34 ∷ []) (32 ∷ []), list_
 line_feed : (words : List (List ℕ)) → list_all is_word words ≡ true → list_all no_feed (flat_map word_text words) ≡ true
 line_feed [] h = refl
 line_feed (word ∷ words) h =
-    let parts = both (is_word word) (list_all is_word words) h in
-    let fed = both (list_all no_feed word) _ parts.0 in
+    let parts = and_parts (is_word word) (list_all is_word words) h in
+    let fed = and_parts (list_all no_feed word) _ parts.0 in
     rw (list_all-append no_feed (word_text word) (flat_map word_text words), spelled_feed (is_bare word) word fed.0, line_feed words parts.1) refl
 
 -- and ends in a blank
@@ -58,18 +52,11 @@ line_read word words rest h =
     let end = ends words word in
     let kept : without_return line ≡ line = subst (λ text. without_return text ≡ text) (sym end.1) (keeps_blank end.0) in
     ap lines_of (append_assoc line (10 ∷ []) rest)
-    ∙ ap ended (cut_at is_feed 10 refl line rest (line_feed (word ∷ words) h))
+    ∙ ap ended (slice_split_at is_feed line 10 rest (without is_feed line (line_feed (word ∷ words) h)) refl)
     ∙ line_first line rest
     ∙ ap (λ first. first ∷ lines_of rest) kept
 
 -- ---- reading
-
-take_all_pass : (test : ℕ → Bool) (n : ℕ) (xs : List ℕ) → list_all test xs ≡ true → list_all test (take n xs) ≡ true
-take_all_pass test zero xs h = refl
-take_all_pass test (suc n) [] h = refl
-take_all_pass test (suc n) (x ∷ xs) h =
-    let parts = both (test x) (list_all test xs) h in
-    rw (parts.0, take_all_pass test n xs parts.1) refl
 
 -- no line has a line feed
 abbrev pub is_feedless : List ℕ → Bool
@@ -82,22 +69,21 @@ onto_feedless x (part ∷ parts) fine h = rw fine h
 parts_feedless : (text : List ℕ) → list_all is_feedless (slice_split is_feed text) ≡ true
 parts_feedless [] = refl
 parts_feedless (x ∷ xs) =
-    elim (is_feed x) as (λ b. is_feed x ≡ b → list_all is_feedless (cond b ([] ∷ slice_split is_feed xs) (onto_first x (slice_split is_feed xs))) ≡ true) [
-      | true ↦ λ _. parts_feedless xs
-      | false ↦ λ e. onto_feedless x (slice_split is_feed xs) (ap not e) (parts_feedless xs)
-    ] refl
+    let more = parts_feedless xs in
+    cond_both (is_feed x) ([] ∷ slice_split is_feed xs) (onto_first x (slice_split is_feed xs)) (λ parts. list_all is_feedless parts ≡ true) (λ _. more) (λ e. onto_feedless x (slice_split is_feed xs) (ap not e) more)
 
-return_feedless : (b : Bool) (n : ℕ) (line : List ℕ) → is_feedless line ≡ true → is_feedless (cond b (take n line) line) ≡ true
-return_feedless true n line h = take_all_pass no_feed n line h
-return_feedless false n line h = h
+return_feedless : (line : List ℕ) → is_feedless line ≡ true → is_feedless (without_return line) ≡ true
+return_feedless line h =
+    let n = length line - 1 in
+    let parts : (is_feedless (take n line) && is_feedless (drop n line)) ≡ true = rw (← list_all-append no_feed (take n line) (drop n line), take-append-drop) h in
+    cond_both (slice_index line n == 13) (take n line) line (λ kept. is_feedless kept ≡ true) (λ _. (and_parts _ _ parts).0) (λ _. h)
 
 ended_feedless : (parts : List (List ℕ)) → list_all is_feedless parts ≡ true → list_all is_feedless (ended parts) ≡ true
 ended_feedless [] h = refl
 ended_feedless (last ∷ []) h = h
 ended_feedless (line ∷ next ∷ more) h =
-    let parts = both (is_feedless line) (list_all is_feedless (next ∷ more)) h in
-    let kept : is_feedless (without_return line) ≡ true = return_feedless (slice_index line (length line - 1) == 13) (length line - 1) line parts.0 in
-    rw (kept, ended_feedless (next ∷ more) parts.1) refl
+    let parts = and_parts (is_feedless line) (list_all is_feedless (next ∷ more)) h in
+    rw (return_feedless line parts.0, ended_feedless (next ∷ more) parts.1) refl
 
 pub lines_feedless : (text : List ℕ) → list_all is_feedless (lines_of text) ≡ true
 lines_feedless text = ended_feedless (slice_split is_feed text) (parts_feedless text)
@@ -144,26 +130,13 @@ begun_sound b (Some word ∷ words) fine gap quote h = rw (fine, h.0, gap, quote
 sound : (xs : List ℕ) → list_all no_feed xs ≡ true → Sound (words_from Between xs) × SoundPlain (words_from Plain xs) × SoundQuoted (words_from Quoted xs)
 sound [] h = (refl, (refl, refl, refl), refl)
 sound (b ∷ xs) h =
-    let parts = both (no_feed b) (list_all no_feed xs) h in
+    let parts = and_parts (no_feed b) (list_all no_feed xs) h in
     let more = sound xs parts.1 in
-    let between : Sound (words_from Between (b ∷ xs)) =
-    elim (is_gap b) as (λ g. is_gap b ≡ g → Sound (cond g (words_from Between xs) (cond (is_quote b) (words_from Quoted xs) (with_byte b (words_from Plain xs))))) [
-      | true ↦ λ _. more.0
-      | false ↦ λ gap. elim (is_quote b) as (λ q. is_quote b ≡ q → Sound (cond q (words_from Quoted xs) (with_byte b (words_from Plain xs)))) [
-        | true ↦ λ _. quoted_sound (words_from Quoted xs) more.2
-        | false ↦ λ quote. begun_sound b (words_from Plain xs) parts.0 gap quote more.1
-      ] refl
-    ] refl in
-    let plain : SoundPlain (words_from Plain (b ∷ xs)) =
-    elim (is_gap b) as (λ g. is_gap b ≡ g → SoundPlain (cond g (Some [] ∷ words_from Between xs) (with_byte b (words_from Plain xs)))) [
-      | true ↦ λ _. (refl, refl, more.0)
-      | false ↦ λ gap. plain_more b (words_from Plain xs) parts.0 gap more.1
-    ] refl in
-    let quoted : SoundQuoted (words_from Quoted (b ∷ xs)) =
-    elim (is_quote b) as (λ q. is_quote b ≡ q → SoundQuoted (cond q (Some [] ∷ words_from Between xs) (with_byte b (words_from Quoted xs)))) [
-      | true ↦ λ _. (refl, refl, more.0)
-      | false ↦ λ quote. quoted_more b (words_from Quoted xs) parts.0 quote more.2
-    ] refl in
+    let own = words_from Plain xs in
+    let between = cond_both (is_gap b) (words_from Between xs) (cond (is_quote b) (words_from Quoted xs) (with_byte b own)) Sound (λ _. more.0)
+    (λ gap. cond_both (is_quote b) (words_from Quoted xs) (with_byte b own) Sound (λ _. quoted_sound (words_from Quoted xs) more.2) (λ quote. begun_sound b own parts.0 gap quote more.1)) in
+    let plain = cond_both (is_gap b) (Some [] ∷ words_from Between xs) (with_byte b own) SoundPlain (λ _. (refl, refl, more.0)) (λ gap. plain_more b own parts.0 gap more.1) in
+    let quoted = cond_both (is_quote b) (Some [] ∷ words_from Between xs) (with_byte b (words_from Quoted xs)) SoundQuoted (λ _. (refl, refl, more.0)) (λ quote. quoted_more b (words_from Quoted xs) parts.0 quote more.2) in
     (between, plain, quoted)
 
 -- the words of a line are words that a line can have

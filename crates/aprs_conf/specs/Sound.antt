@@ -1,10 +1,10 @@
 -- The ranges of a configuration.
-use Rattle.std.specs.Prelude.{◌≡◌, ℕ, ◌≤◌, List, [], length, Option, None, IfSome, IsTrue}
+use Rattle.std.specs.Prelude.{◌≡◌, ℕ, ◌≤◌, List, [], length, Option, None, IsTrue}
 use Rattle.std.specs.List.{list_all}
 use Rattle.aprs_base.specs.Bytes.{is_station}
 use Rattle.aprs_base.specs.declared.texts.Addr.{Addr}
 use Rattle.aprs_conf.specs.declared.types.PeerSpec.{PeerSpec}
-use Rattle.aprs_conf.specs.Seen.{ConfSeen, DraftSeen}
+use Rattle.aprs_conf.specs.Seen.{ConfSeen}
 
 abbrev pub IsWithin : ℕ → ℕ → ℕ → Type 0
 IsWithin least most n = (least ≤ n) × (n ≤ most)
@@ -23,13 +23,3 @@ pub record IsSound (conf : ConfSeen) : Type 0 where
   pub up_timeout : IsWithin 1 10000000 conf.up_timeout
   pub client_timeout : IsWithin 1 10000000 conf.client_timeout
   pub max_clients : IsWithin 1 10000 conf.max_clients
-
--- the same of what some lines have said
-pub record IsSoundSoFar (draft : DraftSeen) : Type 0 where
-  pub server : IfSome draft.server (λ call. IsTrue (is_station call))
-  pub listens : length draft.listens ≤ 16
-  pub uplinks : length draft.uplinks ≤ 8
-  pub peers : IsGroup draft.group draft.peers
-  pub up_timeout : IfSome draft.up_timeout (IsWithin 1 10000000)
-  pub client_timeout : IfSome draft.client_timeout (IsWithin 1 10000000)
-  pub max_clients : IfSome draft.max_clients (IsWithin 1 10000)

@@ -1,8 +1,8 @@
 //! What an argument of a line may be.
-ghost use Rattle.std.specs.Prelude.{◌≡◌, ◌≤◌, ◌&&◌, ◌∷◌, Some, None, true, false, [], if◌then◌else◌, nat_le, MatchOption};
+ghost use Rattle.std.specs.Prelude.{◌≡◌, ◌≤◌, ◌&&◌, ◌∷◌, Some, None, true, [], if◌then◌else◌, nat_le, MatchOption};
 ghost use Rattle.std.specs.List.{list_all, slice_split};
 ghost use Rattle.std.specs.Option.{option_map};
-ghost use Rattle.aprs_base.specs.Bytes.{is_digit, is_station};
+ghost use Rattle.aprs_base.specs.Bytes.{is_digit};
 ghost use Rattle.login_pass.specs.Login.{number_from};
 ghost use Rattle.aprs_conf.specs.Arguments.{clients_of, host_of, ip_of, is_dot, is_plain, kind_of, last_in, octet_of, octets_in, port_of, same, seconds_of, station_of, time_of};
 
@@ -173,22 +173,17 @@ pub fn host(text: &[u8]) -> Option<ArrayVec<u8, 64>>
     ArrayVec::try_from(text).ok()
 }
 
-fn is_pair(word: &[u8], proto: &[u8], wanted: &[u8], by: &[u8]) -> bool
+/// Whether these are the wanted kind and protocol.
+pub fn is_pair(word: &[u8], proto: &[u8], wanted: &[u8], by: &[u8]) -> bool
     ensures { result ≡ (same word.now wanted.now && same proto.now by.now) }
 {
     word == wanted && proto == by
 }
 
-fn serving(kind: PortKind) -> Option<Service>
-    ensures { result ≡ Some (record { kind = kind; idle = false }) }
+fn serves(kind: PortKind, idle: bool) -> Option<Service>
+    ensures { result ≡ Some (record { kind = kind; idle = idle }) }
 {
-    Some(Service { kind, idle: false })
-}
-
-fn resting(kind: PortKind) -> Option<Service>
-    ensures { result ≡ Some (record { kind = kind; idle = true }) }
-{
-    Some(Service { kind, idle: true })
+    Some(Service { kind, idle })
 }
 
 /// What a listener of this kind and protocol serves.
@@ -196,21 +191,21 @@ pub fn kind(word: &[u8], proto: &[u8]) -> Option<Service>
     ensures { result ≡ kind_of word.now proto.now }
 {
     if is_pair(word, proto, b"fullfeed", b"tcp") {
-        serving(PortKind::Full)
+        serves(PortKind::Full, false)
     } else if is_pair(word, proto, b"igate", b"tcp") {
-        serving(PortKind::Igate)
+        serves(PortKind::Igate, false)
     } else if is_pair(word, proto, b"clientonly", b"tcp") {
-        serving(PortKind::Only)
+        serves(PortKind::Only, false)
     } else if is_pair(word, proto, b"dupefeed", b"tcp") {
-        serving(PortKind::Dupe)
+        serves(PortKind::Dupe, false)
     } else if is_pair(word, proto, b"udpsubmit", b"udp") {
-        serving(PortKind::Submit)
+        serves(PortKind::Submit, false)
     } else if is_pair(word, proto, b"fullfeed", b"udp") {
-        resting(PortKind::Full)
+        serves(PortKind::Full, true)
     } else if is_pair(word, proto, b"igate", b"udp") {
-        resting(PortKind::Igate)
+        serves(PortKind::Igate, true)
     } else if is_pair(word, proto, b"clientonly", b"udp") {
-        resting(PortKind::Only)
+        serves(PortKind::Only, true)
     } else {
         None
     }

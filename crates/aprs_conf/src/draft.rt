@@ -1,17 +1,16 @@
 //! What the lines so far have said, and what each kind of line adds.
 ghost use Rattle.std.specs.Prelude.{◌≡◌, ◌<◌, ◌∷◌, ◌++◌, List, Ok, Err, IfOk, MatchResult, [], length};
-ghost use Rattle.aprs_conf.specs.Grammar.{admin_says, at_of, clients_say, code_says, email_says, empty, group_in, group_says, is_full, is_group, listen_in, listen_says, nothing_says, peer_of, peers_from, server_says, time_in_line, uplink_in, uplink_says};
+ghost use Rattle.aprs_conf.specs.Grammar.{at_of, empty, group_in, group_says, is_group, listen_in, listen_says, nothing_says, peer_of, peers_from, uplink_in, uplink_says};
 ghost use Rattle.aprs_conf.specs.declared.types.PeerSpec.{PeerSpec};
 ghost use Rattle.aprs_conf.specs.Seen.{DraftSeen};
 ghost use Rattle.aprs_conf.specs.Reading.{Becomes, BecomesUnless, Fails};
 ghost use Rattle.aprs_conf.specs.Words.{arguments_of};
 
-use crate::arguments::{clients, host, ip, kind, port, station, time};
+use crate::arguments::{host, ip, is_pair, kind, port, station};
 use crate::errors::{ConfFault, LineError};
 use crate::types::{Listen, PeerSpec};
-use crate::words::{count_arguments, five, listen_words, next_argument, one};
+use crate::words::{count_arguments, five, next_argument};
 use aprs_base::{Addr, Call, ListenSpec, Text, UplinkSpec};
-use login_pass::code_number;
 use std::alloc::Global;
 use std::marker::Model;
 
@@ -64,62 +63,6 @@ impl Draft {
     }
 }
 
-/// `ServerId CALL`
-pub fn add_server(draft: &mut Draft, args: &[u8]) -> Result<(), ConfFault>
-    ensures { Becomes result draft.new (server_says draft.old (arguments_of args.now)) }
-{
-    let text = one(args).ok_or(ConfFault::BadCount)?;
-    let call = station(text).ok_or(ConfFault::BadCall)?;
-    draft.server = Some(call);
-    Ok(())
-}
-
-/// `PassCode N`
-pub fn add_code(draft: &mut Draft, args: &[u8]) -> Result<(), ConfFault>
-    ensures { Becomes result draft.new (code_says draft.old (arguments_of args.now)) }
-{
-    let text = one(args).ok_or(ConfFault::BadCount)?;
-    let code = code_number(text).ok_or(ConfFault::BadNumber)?;
-    draft.code = Some(code);
-    Ok(())
-}
-
-/// `MaxClients N`
-pub fn add_clients(draft: &mut Draft, args: &[u8]) -> Result<(), ConfFault>
-    ensures { Becomes result draft.new (clients_say draft.old (arguments_of args.now)) }
-{
-    let text = one(args).ok_or(ConfFault::BadCount)?;
-    let most = clients(text).ok_or(ConfFault::BadNumber)?;
-    draft.max_clients = Some(most);
-    Ok(())
-}
-
-/// The time of a line that has nothing else.
-pub fn line_time(args: &[u8]) -> Result<u32, ConfFault>
-    ensures { result ≡ time_in_line (arguments_of args.now) }
-{
-    let text = one(args).ok_or(ConfFault::BadCount)?;
-    time(text).ok_or(ConfFault::BadTime)
-}
-
-/// `MyAdmin TEXT`
-pub fn add_admin(alloc: Global, draft: &mut Draft, args: &[u8]) -> Result<(), LineError>
-    ensures { BecomesUnless result draft.new (admin_says draft.old (arguments_of args.now)) }
-{
-    let text = one(args).ok_or(ConfFault::BadCount)?;
-    draft.admin = Some(Text::copied(alloc, text)?);
-    Ok(())
-}
-
-/// `MyEmail TEXT`
-pub fn add_email(alloc: Global, draft: &mut Draft, args: &[u8]) -> Result<(), LineError>
-    ensures { BecomesUnless result draft.new (email_says draft.old (arguments_of args.now)) }
-{
-    let text = one(args).ok_or(ConfFault::BadCount)?;
-    draft.email = Some(Text::copied(alloc, text)?);
-    Ok(())
-}
-
 /// An address and a port.
 fn at(address: &[u8], number: &[u8]) -> Result<Addr, ConfFault>
     ensures { result ≡ at_of address.now number.now }
@@ -140,7 +83,7 @@ struct ListenRead<'a> {
 fn read_listen(args: &[u8]) -> Result<ListenRead<'_>, ConfFault>
     ensures { MatchResult result (λ l. listen_in (arguments_of args.now) ≡ Ok (record { name = l.name.now; spec = l.spec; idle = l.idle })) (λ f. listen_in (arguments_of args.now) ≡ Err f) }
 {
-    let (name, word, proto, address, number) = listen_words(args).ok_or(ConfFault::BadCount)?;
+    let (name, word, proto, address, number) = five(args, true).ok_or(ConfFault::BadCount)?;
     let service = kind(word, proto).ok_or(ConfFault::BadKind)?;
     let at = at(address, number)?;
     Ok(ListenRead {
@@ -169,17 +112,11 @@ pub fn add_listen(alloc: Global, draft: &mut Draft, args: &[u8]) -> Result<(), L
     Ok(())
 }
 
-fn is_full(kind: &[u8], proto: &[u8]) -> bool
-    ensures { result ≡ is_full kind.now proto.now }
-{
-    kind == b"full".as_slice() && proto == b"tcp".as_slice()
-}
-
 fn read_uplink(args: &[u8]) -> Result<UplinkSpec, ConfFault>
     ensures { result ≡ uplink_in (arguments_of args.now) }
 {
-    let (_, kind, proto, name, number) = five(args).ok_or(ConfFault::BadCount)?;
-    if !is_full(kind, proto) {
+    let (_, kind, proto, name, number) = five(args, false).ok_or(ConfFault::BadCount)?;
+    if !is_pair(kind, proto, b"full", b"tcp") {
         return Err(ConfFault::BadKind);
     }
     let host = host(name).ok_or(ConfFault::BadHost)?;

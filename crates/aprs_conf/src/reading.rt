@@ -3,19 +3,18 @@ ghost use Rattle.std.specs.Prelude.{◌≡◌, ℕ, Ok, Err, ◌∷◌, unwrap_o
 ghost use Rattle.aprs_conf.specs.declared.errors.ConfFault.{ConfFault};
 ghost use Rattle.aprs_conf.specs.declared.errors.ConfWord.{ConfWord};
 ghost use Rattle.aprs_conf.specs.Grammar.{after, conf_of, conf_with, drafted, empty, is_unused, line_says, says, was_said, word_of};
-ghost use Rattle.aprs_conf.specs.Reading.{at_number, Becomes, BecomesUnless, FailsAt};
+ghost use Rattle.aprs_conf.specs.Reading.{at_number, BecomesUnless, FailsAt};
 ghost use Rattle.aprs_conf.specs.Sound.{IsSound};
 ghost use Rattle.aprs_conf.specs.Words.{arguments_of, lines_of};
 ghost use Rattle.login_pass.specs.Login.{is_keyword};
 
-use crate::draft::{
-    Draft, add_admin, add_clients, add_code, add_email, add_group, add_listen, add_server,
-    add_uplink, expect_argument, line_time,
-};
+use crate::arguments::{clients, station, time};
+use crate::draft::{Draft, add_group, add_listen, add_uplink, expect_argument};
 use crate::errors::{ConfError, ConfFault, ConfWord, LineError};
 use crate::types::Conf;
-use crate::words::{begins_remark, cut_line, is_unended, next_argument};
+use crate::words::{begins_remark, cut_line, is_unended, next_argument, one};
 use aprs_base::Text;
+use login_pass::code_number;
 use std::alloc::Global;
 
 /// The words that begin a line. Those without effect are one.
@@ -100,37 +99,29 @@ fn was_said(word: LineWord, draft: &Draft) -> bool
     }
 }
 
-fn add_up_timeout(draft: &mut Draft, args: &[u8]) -> Result<(), ConfFault>
-    ensures { Becomes result draft.new (says LineWord.UpstreamTimeout draft.old (arguments_of args.now)) }
-{
-    let time = line_time(args)?;
-    draft.up_timeout = Some(time);
-    Ok(())
-}
-
-fn add_client_timeout(draft: &mut Draft, args: &[u8]) -> Result<(), ConfFault>
-    ensures { Becomes result draft.new (says LineWord.ClientTimeout draft.old (arguments_of args.now)) }
-{
-    let time = line_time(args)?;
-    draft.client_timeout = Some(time);
-    Ok(())
-}
-
 /// Adds what the line of this word says.
 fn add(alloc: Global, word: LineWord, draft: &mut Draft, args: &[u8]) -> Result<(), LineError>
     ensures { BecomesUnless result draft.new (says word draft.old (arguments_of args.now)) }
 {
     match word {
-        LineWord::ServerId => add_server(draft, args)?,
-        LineWord::PassCode => add_code(draft, args)?,
-        LineWord::MyAdmin => add_admin(alloc, draft, args)?,
-        LineWord::MyEmail => add_email(alloc, draft, args)?,
+        LineWord::ServerId => draft.server = Some(station(one(args)?).ok_or(ConfFault::BadCall)?),
+        LineWord::PassCode => draft.code = Some(code_number(one(args)?).ok_or(
+            ConfFault::BadNumber,
+        )?),
+        LineWord::MyAdmin => draft.admin = Some(Text::copied(alloc, one(args)?)?),
+        LineWord::MyEmail => draft.email = Some(Text::copied(alloc, one(args)?)?),
         LineWord::Listen => add_listen(alloc, draft, args)?,
         LineWord::Uplink => add_uplink(draft, args)?,
         LineWord::PeerGroup => add_group(alloc, draft, args)?,
-        LineWord::UpstreamTimeout => add_up_timeout(draft, args)?,
-        LineWord::ClientTimeout => add_client_timeout(draft, args)?,
-        LineWord::MaxClients => add_clients(draft, args)?,
+        LineWord::UpstreamTimeout => draft.up_timeout = Some(time(one(args)?).ok_or(
+            ConfFault::BadTime,
+        )?),
+        LineWord::ClientTimeout => draft.client_timeout = Some(time(one(args)?).ok_or(
+            ConfFault::BadTime,
+        )?),
+        LineWord::MaxClients => draft.max_clients = Some(clients(one(args)?).ok_or(
+            ConfFault::BadNumber,
+        )?),
         LineWord::Unused => expect_argument(args)?,
     }
     Ok(())

@@ -1,12 +1,13 @@
 //! The lines of a text, and the words of a line.
-ghost use Rattle.std.specs.Prelude.{◌≡◌, ◌<◌, ◌≤◌, [], ◌∷◌, Some, None, length, MatchOption, IfSome, IfNone, option_copied};
+ghost use Rattle.std.specs.Prelude.{◌≡◌, ◌<◌, ◌≤◌, [], ◌∷◌, Some, Ok, Err, length, MatchOption, MatchResult, IfSome, if◌then◌else◌, ◌==◌, option_copied};
 ghost use Rattle.std.specs.List.{prefix_len, position_or_len};
 ghost use Rattle.std.specs.Option.{option_map};
 ghost use Rattle.aprs_conf.specs.Words.{arguments_of, has_open, is_gap, is_remark, lines_of, without_return, words_from, words_of};
 ghost use Rattle.aprs_conf.specs.Words.Place.{Plain, Quoted};
 ghost use Rattle.aprs_conf.specs.Reading.{BeginsWith, lines_behind};
-ghost use Rattle.aprs_conf.specs.Grammar.{five_of, is_hidden_at_most, listen_of, one_of};
+ghost use Rattle.aprs_conf.specs.Grammar.{five_of, is_hidden_at_most, listen_of, need, one_of};
 
+use crate::errors::ConfFault;
 use aprs_base::first_place;
 
 /// What a text begins with, behind its blanks and tabs.
@@ -157,60 +158,42 @@ pub fn count_arguments(text: &[u8]) -> usize
 }
 
 /// The one argument of a text that has no other.
-pub fn one(text: &[u8]) -> Option<&[u8]>
-    ensures { option_map (λ a. a.now) result ≡ one_of (arguments_of text.now) }
+pub fn one(text: &[u8]) -> Result<&[u8], ConfFault>
+    ensures { MatchResult result (λ a. need ConfFault.BadCount (one_of (arguments_of text.now)) ≡ Ok a.now) (λ f. need ConfFault.BadCount (one_of (arguments_of text.now)) ≡ Err f) }
 {
-    let (first, behind) = next_argument(text)?;
+    let (first, behind) = next_argument(text).ok_or(ConfFault::BadCount)?;
     match next_argument(behind) {
-        Some(_) => None,
-        None => Some(first),
+        Some(_) => Err(ConfFault::BadCount),
+        None => Ok(first),
+    }
+}
+
+/// Whether a text has no argument, or only `hidden` where that may stand there.
+fn may_end(text: &[u8], may_hide: bool) -> bool
+    ensures { result ≡ (if may_hide then is_hidden_at_most (arguments_of text.now) else length (arguments_of text.now) == 0) }
+{
+    match next_argument(text) {
+        Some((word, behind)) => may_hide
+            && word == b"hidden".as_slice()
+            && count_arguments(behind) == 0,
+        None => true,
     }
 }
 
 /// Five arguments, from the left.
 pub type Five<'a> = (&'a [u8], &'a [u8], &'a [u8], &'a [u8], &'a [u8]);
 
-/// The first five arguments of a text, and what stands behind them.
-fn first_five(text: &[u8]) -> Option<(Five<'_>, &[u8])>
-    ensures some { IfSome result (λ p. arguments_of text.now ≡ p.0.0.now ∷ p.0.1.now ∷ p.0.2.now ∷ p.0.3.now ∷ p.0.4.now ∷ arguments_of p.1.now) }
-    ensures none { IfNone result ((five_of (arguments_of text.now) ≡ None) × (listen_of (arguments_of text.now) ≡ None)) }
+/// The five arguments of a text that has five, and perhaps `hidden` where that may stand behind them.
+pub fn five(text: &[u8], may_hide: bool) -> Option<Five<'_>>
+    ensures { option_map (λ p. (p.0.now, p.1.now, p.2.now, p.3.now, p.4.now)) result ≡ (if may_hide then listen_of (arguments_of text.now) else five_of (arguments_of text.now)) }
 {
     let (first, behind) = next_argument(text)?;
     let (second, behind) = next_argument(behind)?;
     let (third, behind) = next_argument(behind)?;
     let (fourth, behind) = next_argument(behind)?;
     let (fifth, behind) = next_argument(behind)?;
-    Some(((first, second, third, fourth, fifth), behind))
-}
-
-/// The five arguments of a text that has five.
-pub fn five(text: &[u8]) -> Option<Five<'_>>
-    ensures { option_map (λ p. (p.0.now, p.1.now, p.2.now, p.3.now, p.4.now)) result ≡ five_of (arguments_of text.now) }
-{
-    let (five, behind) = first_five(text)?;
-    match next_argument(behind) {
-        Some(_) => None,
-        None => Some(five),
-    }
-}
-
-/// Whether the one argument of a text is `hidden`, or there is none.
-fn is_hidden_or_nothing(text: &[u8]) -> bool
-    ensures { result ≡ is_hidden_at_most (arguments_of text.now) }
-{
-    match next_argument(text) {
-        Some((word, behind)) => word == b"hidden".as_slice() && count_arguments(behind) == 0,
-        None => true,
-    }
-}
-
-/// The five arguments of a text that has five, and perhaps `hidden`.
-pub fn listen_words(text: &[u8]) -> Option<Five<'_>>
-    ensures { option_map (λ p. (p.0.now, p.1.now, p.2.now, p.3.now, p.4.now)) result ≡ listen_of (arguments_of text.now) }
-{
-    let (five, behind) = first_five(text)?;
-    if is_hidden_or_nothing(behind) {
-        Some(five)
+    if may_end(behind, may_hide) {
+        Some((first, second, third, fourth, fifth))
     } else {
         None
     }

@@ -4,7 +4,7 @@ ghost use Rattle.std.specs.Fmt.{decimal};
 ghost use Rattle.std.specs.List.{flat_map, list_all};
 ghost use Rattle.aprs_conf.specs.Grammar.{conf_of};
 ghost use Rattle.aprs_conf.specs.Words.{is_gap};
-ghost use Rattle.aprs_conf.specs.Writing.{at_words, group_line, group_lines, identity_lines, ip_text, is_bare, kind_name, limit_lines, line_text, list_lines, listen_line, peer_words, proto_name, spelled, text_of_conf, uplink_line, word_text};
+ghost use Rattle.aprs_conf.specs.Writing.{at_words, group_lines, identity_lines, ip_text, is_bare, kind_name, limit_lines, line_text, list_lines, listen_line, peer_words, proto_name, spelled, text_of_conf, uplink_line, word_text};
 
 use crate::types::{Conf, Listen, PeerSpec};
 use crate::words::is_gap_byte;
@@ -53,45 +53,31 @@ fn proto_name(kind: PortKind, idle: bool) -> &'static [u8]
     }
 }
 
-/// A text that is written piece by piece.
+/// The text of a configuration, as far as it is written.
 #[derive(Drop)]
-struct Writer {
+struct ConfText {
     text: Vec<u8>,
 }
 
-impl Model for Writer {
+impl Model for ConfText {
     ghost use Rattle.std.specs.Prelude.{ℕ, List};
 
     ghost Value = { List ℕ };
 
-    ghost view = { λ w. w.text.items };
+    ghost view = { λ t. t.text.items };
 }
 
-impl Writer {
-    fn byte(&mut self, byte: u8) -> Result<(), AllocError>
-        ensures { OnOk result (self.new ≡ self.old ++ byte ∷ []) }
-    {
-        self.text.push(byte)?;
-        Ok(())
-    }
-
-    fn bytes(&mut self, bytes: &[u8]) -> Result<(), AllocError>
-        ensures { OnOk result (self.new ≡ self.old ++ bytes.now) }
-    {
-        self.text.extend_from_slice(bytes)?;
-        Ok(())
-    }
-
+impl ConfText {
     /// A word, between quotes unless it may stand without them.
     fn spelled(&mut self, word: &[u8]) -> Result<(), AllocError>
         ensures { OnOk result (self.new ≡ self.old ++ spelled word.now) }
     {
         if is_bare(word) {
-            return self.bytes(word);
+            return Ok(self.text.extend_from_slice(word)?);
         }
-        self.byte(b'"')?;
-        self.bytes(word)?;
-        self.byte(b'"')
+        self.text.push(b'"')?;
+        self.text.extend_from_slice(word)?;
+        Ok(self.text.push(b'"')?)
     }
 
     /// A word and a blank, which keeps a CR that ends the word from the end of the line.
@@ -99,7 +85,7 @@ impl Writer {
         ensures { OnOk result (self.new ≡ self.old ++ word_text word.now) }
     {
         self.spelled(word)?;
-        self.byte(b' ')
+        Ok(self.text.push(b' ')?)
     }
 
     fn number(&mut self, number: u32) -> Result<(), AllocError>
@@ -111,8 +97,9 @@ impl Writer {
     fn octet(&mut self, octet: u8) -> Result<(), AllocError>
         ensures { OnOk result (self.new ≡ self.old ++ (decimal octet ++ 46 ∷ [])) }
     {
-        self.bytes(Buffer::new().format(octet).as_bytes())?;
-        self.byte(b'.')
+        self.text
+            .extend_from_slice(Buffer::new().format(octet).as_bytes())?;
+        Ok(self.text.push(b'.')?)
     }
 
     fn ip(&mut self, ip: [u8; 4]) -> Result<(), AllocError>
@@ -122,7 +109,9 @@ impl Writer {
         self.octet(first)?;
         self.octet(second)?;
         self.octet(third)?;
-        self.number(u32::from(fourth))
+        self.text
+            .extend_from_slice(Buffer::new().format(fourth).as_bytes())?;
+        Ok(self.text.push(b' ')?)
     }
 
     /// An address and its port.
@@ -139,7 +128,7 @@ impl Writer {
     {
         self.word(name)?;
         self.word(text)?;
-        self.byte(b'\n')
+        Ok(self.text.push(b'\n')?)
     }
 
     /// A line of a word and a number.
@@ -157,7 +146,7 @@ impl Writer {
         self.word(kind_name(listen.spec.kind))?;
         self.word(proto_name(listen.spec.kind, listen.idle))?;
         self.at(listen.spec.at)?;
-        self.byte(b'\n')
+        Ok(self.text.push(b'\n')?)
     }
 
     fn listens(&mut self, listens: &[Listen]) -> Result<(), AllocError>
@@ -169,13 +158,23 @@ impl Writer {
         Ok(())
     }
 
+    /// A host and its port.
+    fn host(&mut self, uplink: &UplinkSpec) -> Result<(), AllocError>
+        ensures { OnOk result (self.new ≡ self.old ++ flat_map word_text (uplink.now.host ∷ decimal uplink.now.port ∷ [])) }
+    {
+        self.word(uplink.host.as_slice())?;
+        self.number(u32::from(uplink.port))
+    }
+
     fn uplink(&mut self, uplink: &UplinkSpec) -> Result<(), AllocError>
         ensures { OnOk result (self.new ≡ self.old ++ line_text (uplink_line uplink.now)) }
     {
-        self.bytes(b"Uplink uplink full tcp ")?;
-        self.word(uplink.host.as_slice())?;
-        self.number(u32::from(uplink.port))?;
-        self.byte(b'\n')
+        self.word(b"Uplink")?;
+        self.word(b"uplink")?;
+        self.word(b"full")?;
+        self.word(b"tcp")?;
+        self.host(uplink)?;
+        Ok(self.text.push(b'\n')?)
     }
 
     fn uplinks(&mut self, uplinks: &[UplinkSpec]) -> Result<(), AllocError>
@@ -210,10 +209,12 @@ impl Writer {
         let Some(at) = group else {
             return Ok(());
         };
-        self.bytes(b"PeerGroup peers udp ")?;
+        self.word(b"PeerGroup")?;
+        self.word(b"peers")?;
+        self.word(b"udp")?;
         self.at(at)?;
         self.peers(peers)?;
-        self.byte(b'\n')
+        Ok(self.text.push(b'\n')?)
     }
 
     /// Whose server it is.
@@ -258,7 +259,7 @@ impl Conf {
         ensures text { IfOk result (λ written. written ≡ text_of_conf self.now) }
         ensures again { (text : List ℕ) → conf_of text ≡ Ok self.now → IfOk result (λ written. conf_of written ≡ Ok self.now) }
     {
-        let mut out = Writer {
+        let mut out = ConfText {
             text: Vec::new(alloc),
         };
         out.conf(self)?;

@@ -6,8 +6,8 @@ ghost use Rattle.login_pass.specs.Login.{code_of, filter_in, is_code_number, is_
 ghost use Rattle.login_pass.specs.Words.{words_from};
 
 use crate::pass::passcode;
-use crate::words::{is_word, leading_blanks, next_word, trailing_blanks};
-use aprs_base::{Call, Line};
+use crate::words::{is_word, next_word};
+use aprs_base::{Call, Line, leading_blanks, trailing_blanks};
 
 /// Who logs in, by which code, and with which filter.
 #[derive(Clone, PartialEq, Eq, Debug, Drop)]
@@ -44,16 +44,10 @@ impl Login {
     }
 }
 
-fn is_digit_byte(byte: u8) -> bool
-    ensures { result ≡ is_digit byte }
-{
-    byte.is_ascii_digit()
-}
-
 fn all_digits(text: &[u8]) -> bool
     ensures { result ≡ list_all is_digit text.now }
 {
-    text.iter().all(|byte| is_digit_byte(*byte))
+    text.iter().all(|byte| byte.is_ascii_digit())
 }
 
 fn is_number(text: &[u8]) -> bool

@@ -1,8 +1,11 @@
-use Rattle.aprs_conf.proofs.WordLemmas.{skip_at, skipped_at}
+use Rattle.std.proofs.lemmas.List.{take_rest}
+use Rattle.login_pass.proofs.Cuts.{none_first}
+use Rattle.aprs_conf.specs.Words.{is_gap}
+use Rattle.aprs_conf.proofs.WordLemmas.{skip}
 use Rattle.aprs_conf.proofs.words.behind_gaps.Goals as goal
 
 pub returns-clause-words : goal.returns-clause-words
-returns-clause-words c = skip_at c.args.text.now c.leading_gaps.result c.leading_gaps.ensures.count
+returns-clause-words c = rw (take_rest, c.leading_gaps.ensures.count) (skip c.args.text.now)
 
 pub returns-clause-none : goal.returns-clause-none
-returns-clause-none c = skipped_at c.args.text.now c.leading_gaps.result c.leading_gaps.ensures.count
+returns-clause-none c = rw (take_rest, c.leading_gaps.ensures.count) (none_first is_gap c.args.text.now)

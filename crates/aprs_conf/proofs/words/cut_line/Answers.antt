@@ -1,10 +1,11 @@
 use Rattle.std.proofs.Common.{◌∷◌, ◌+◌, ◌-◌, take, drop, length, arith, sym, ap, ◌∙◌}
 use Rattle.aprs_conf.specs.Words.{ended, is_feed, lines_of}
-use Rattle.aprs_conf.proofs.LineLemmas.{uncut, cut, line_first}
+use Rattle.login_pass.proofs.Cuts.{uncut, cut}
+use Rattle.aprs_conf.proofs.LineLemmas.{line_first}
 use Rattle.aprs_conf.proofs.words.cut_line.Goals as goal
 
 pub returns-then-end-text-clause-lines : goal.returns-then-end-text-clause-lines
-returns-then-end-text-clause-lines c = ap ended (uncut is_feed c.args.text.now (sym c.first_place-end.ensures.place ∙ c.if-end-text.true))
+returns-then-end-text-clause-lines c = ap ended (uncut is_feed c.args.text.now (omega arith))
 
 pub returns-clause-lines : goal.returns-clause-lines
 returns-clause-lines c =

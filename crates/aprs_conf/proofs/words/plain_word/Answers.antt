@@ -1,5 +1,6 @@
-use Rattle.aprs_conf.proofs.WordLemmas.{plain_at}
+use Rattle.std.proofs.lemmas.List.{take_rest}
+use Rattle.aprs_conf.proofs.WordLemmas.{plain_cut}
 use Rattle.aprs_conf.proofs.words.plain_word.Goals as goal
 
 pub returns-clause-words : goal.returns-clause-words
-returns-clause-words c = plain_at c.args.text.now c.plain_length-end.result c.plain_length-end.ensures.count
+returns-clause-words c = rw (take_rest, c.plain_length-end.ensures.count) (plain_cut c.args.text.now)

@@ -1,7 +1,7 @@
 use Rattle.std.proofs.Common.{◌≡◌, ◌++◌, drop, map}
 use Rattle.std.specs.List.{flat_map}
 use Rattle.aprs_conf.specs.Writing.{line_text, listen_line}
-use Rattle.aprs_conf.proofs.writing.Writer.listens.Given as goal
+use Rattle.aprs_conf.proofs.writing.ConfText.listens.Given as goal
 
 -- what was written and what is left are the whole
 abbrev pub invariant-loop-listen : goal.invariant-loop-listen

@@ -1,7 +1,7 @@
 use Rattle.std.proofs.Common.{◌≡◌, ◌++◌, drop}
 use Rattle.std.specs.List.{flat_map}
 use Rattle.aprs_conf.specs.Writing.{peer_words, word_text}
-use Rattle.aprs_conf.proofs.writing.Writer.peers.Given as goal
+use Rattle.aprs_conf.proofs.writing.ConfText.peers.Given as goal
 
 -- what was written and what is left are the whole
 abbrev pub invariant-loop-peer : goal.invariant-loop-peer

@@ -1,7 +1,7 @@
 use Rattle.std.proofs.Common.{◌≡◌, ◌++◌, drop, map}
 use Rattle.std.specs.List.{flat_map}
 use Rattle.aprs_conf.specs.Writing.{line_text, uplink_line}
-use Rattle.aprs_conf.proofs.writing.Writer.uplinks.Given as goal
+use Rattle.aprs_conf.proofs.writing.ConfText.uplinks.Given as goal
 
 -- what was written and what is left are the whole
 abbrev pub invariant-loop-uplink : goal.invariant-loop-uplink

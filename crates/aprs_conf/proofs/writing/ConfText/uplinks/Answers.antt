@@ -1,7 +1,7 @@
 use Rattle.std.proofs.Common.{◌∙◌}
 use Rattle.aprs_conf.specs.Writing.{uplink_line}
 use Rattle.aprs_conf.proofs.PushLemmas.{line_put}
-use Rattle.aprs_conf.proofs.writing.Writer.uplinks.Goals as goal
+use Rattle.aprs_conf.proofs.writing.ConfText.uplinks.Goals as goal
 
 pub loop-uplink-preserved : goal.loop-uplink-preserved
 loop-uplink-preserved c =
