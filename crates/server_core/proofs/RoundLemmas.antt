@@ -1,38 +1,26 @@
 -- Whole rounds: the history with a round's events, its trace, and the acts that are due after it.
 use Rattle.std.specs.Bool.{⊤}
-use Rattle.std.proofs.Common.{◌≡◌, ℕ, ◌+◌, ◌/◌, ◌==◌, nat_lt, length, Bool, true, false, not, ◌&&◌, ◌||◌, List, [], ◌∷◌, ◌++◌, map, filter, refl, sym, ap, ◌∙◌, arith, append-nil, Option, Some, None, Result, Ok, Err, if◌then◌else◌}
+use Rattle.std.proofs.Common.{◌≡◌, ℕ, ◌+◌, ◌/◌, ◌==◌, nat_lt, length, true, false, not, ◌&&◌, ◌||◌, List, [], ◌∷◌, ◌++◌, map, filter, refl, sym, ap, ◌∙◌, arith, if◌then◌else◌}
 use Rattle.std.proofs.Math.Bool.{or-false}
 use Rattle.std.proofs.lemmas.Bool.{and_parts, eqb-true, false_from_ne_true, not-true, or_parts, true≢false, false≢true}
-use Rattle.aprs_base.specs.Cuts.{cuts_by}
 use Rattle.aprs_base.specs.Outside.{new_link}
-use Rattle.aprs_base.specs.declared.cutting.Cut.{Cut}
 use Rattle.aprs_base.specs.declared.events.Event.{Event}
 use Rattle.aprs_base.specs.declared.events.Event.TheVariants as event
 use Rattle.aprs_base.specs.declared.events.Sent.TheVariants as sent
 use Rattle.aprs_base.specs.declared.events.Happening.TheVariants as did
-use Rattle.aprs_base.specs.declared.packets.PortKind.{PortKind}
-use Rattle.aprs_base.specs.declared.packets.PortKind.TheVariants as kind
-use Rattle.aprs_base.specs.declared.packets.Source.{Source}
-use Rattle.aprs_base.specs.declared.packets.Source.TheVariants as source
-use Rattle.aprs_base.specs.declared.texts.Addr.{Addr}
-use Rattle.q_construct.specs.declared.origins.Origin.TheVariants as origin
-use Rattle.aprs_history.specs.declared.verdicts.Refusal.{Refusal}
-use Rattle.aprs_history.specs.Setting.{Setting, kind_at, peer_from}
-use Rattle.aprs_history.specs.Scenes.{datagram_scene, scene_of}
-use Rattle.aprs_history.specs.Verdicts.{Scene, submitter_of, verdict_of}
-use Rattle.aprs_history.specs.Trace.{Trace, Dated, RoundBegan, Said, Ticked, Brought, Roomed, Ended, moment_of, stopped_links, served_links, is_live, Entry, stopped_link}
-use Rattle.aprs_history.specs.declared.verdicts.EndReason.TheVariants.{FoundGone, ByPeer}
-use Rattle.aprs_history.specs.Links.{brought_by, gone_links, is_blocked, late_links, late_reason, taken_by}
+use Rattle.aprs_history.specs.Setting.{Setting}
+use Rattle.aprs_history.specs.Trace.{Trace, Ended, stopped_links, served_links, Entry, stopped_link}
+use Rattle.aprs_history.specs.Links.{is_blocked, taken_by}
 use Rattle.link_queue.specs.Lines.{text_bytes}
 use Rattle.aprs_history.specs.Texts.{lines_of}
-use Rattle.aprs_history.specs.History.{History, open_events, ends_round, is_stop, is_stopped, greatest_link, trace_of, with_event, begun, begin_round, bring, comment_seconds, dated, datagram_cuts, end_each, end_round, ended, refused_links, refused_reason, relay, say_all, submit, with_lines}
+use Rattle.aprs_history.specs.History.{History, open_events, ends_round, is_stop, is_stopped, greatest_link, trace_of, with_event, begun, begin_round, end_round, ended}
 use Rattle.aprs_history.specs.Rounds.{is_whole, with_events, events_trace, greatest_after, stopped_after}
 use Rattle.aprs_history.specs.Acts.{acts_after, due, is_offered, offered_links}
 use Rattle.aprs_history.specs.Stands.{CoreSeen, link_seen, Follows}
 use Rattle.served_links.specs.Links.{is_ready, number_of}
 use Rattle.aprs_history.proofs.EntryLemmas.{MayAdd, any_link, kept_after}
 use Rattle.server_core.proofs.FollowLemmas.{left_over, queued-bytes}
-use Rattle.server_core.proofs.WalkLemmas.{filter_seen, going_after, late_goes, numbers_seen, refused_goes}
+use Rattle.server_core.proofs.WalkLemmas.{filter_seen, numbers_seen}
 
 pub ends_not : (n : ℕ) (e next : Event) (events : List Event) → is_whole n (e ∷ next ∷ events) ≡ true → (ends_round n e ≡ false) × (is_whole (n + 1) (next ∷ events) ≡ true)
 ends_not n e next events whole =

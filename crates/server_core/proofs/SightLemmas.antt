@@ -14,13 +14,11 @@ use Rattle.filter_eval.specs.declared.seen.Seen.{Seen}
 use Rattle.station_table.specs.Last.{HasExactly, fresh_gate, last_gate, last_place, later_or, place_by}
 use Rattle.station_table.specs.Stations.{gate_at, place_at, seen_at, seen_in}
 use Rattle.station_table.proofs.LastSeen.{told_more}
-use Rattle.aprs_history.specs.declared.verdicts.FilterAnswer.{FilterAnswer}
-use Rattle.aprs_history.specs.declared.verdicts.FilterAnswer.TheVariants.{Active, Denied}
 use Rattle.aprs_history.specs.declared.verdicts.Session.{Session}
 use Rattle.aprs_history.specs.Sights.{friend_in, is_gate_at, login_in, named_call, sighting}
 use Rattle.aprs_history.specs.Stands.{LinkSeen, CoreSeen}
-use Rattle.server_core.specs.LinkSteps.{found_in, place_young, source_found, with_answer}
-use Rattle.served_links.specs.Changes.{friend_seen, login_seen, with_filter, with_seen}
+use Rattle.server_core.specs.LinkSteps.{found_in, place_young, source_found}
+use Rattle.served_links.specs.Changes.{friend_seen, login_seen, with_seen}
 use Rattle.served_links.specs.Links.{submitted_from}
 
 -- ---- time goes on
