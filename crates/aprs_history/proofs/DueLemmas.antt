@@ -1,6 +1,7 @@
 -- The acts that are due: which links are served, what they are offered, and which are closed.
 use Rattle.std.proofs.Common.{◌≡◌, ℕ, ◌+◌, ◌≤◌, ◌<◌, ◌==◌, Bool, true, false, ◌||◌, List, [], ◌∷◌, ◌++◌, map, filter, take, max, refl, sym, ap, ◌∙◌, subst, arith, IfSome, Option, Some, None, append-nil, append_assoc, if◌then◌else◌}
-use Rattle.std.proofs.lemmas.Bool.{true≢false}
+use Rattle.std.proofs.Math.Bool.{or-false}
+use Rattle.std.proofs.lemmas.Bool.{true≢false, or_right}
 use Rattle.std.specs.Bool.{⊤}
 use Rattle.aprs_base.specs.Outside.{new_link, IsOutcome}
 use Rattle.aprs_base.specs.declared.packets.ListenSpec.{ListenSpec}
@@ -11,16 +12,16 @@ use Rattle.aprs_base.specs.declared.events.Sent.TheVariants as sent
 use Rattle.aprs_base.specs.declared.events.Happening.TheVariants as did
 use Rattle.aprs_history.specs.Setting.{Setting}
 use Rattle.aprs_history.specs.declared.verdicts.Admission.{Admission}
-use Rattle.aprs_history.specs.declared.verdicts.Admission.TheVariants.{NoPort, NotAsked, TurnedAway, Served}
-use Rattle.aprs_history.specs.Trace.{Trace, Entry, RoundBegan, Dated, Looked, Unjoined, Ticked, Opened, Brought, Said, Roomed, Took, Lost, Ended, closed_links, is_member, is_other, live_links, opened_link, stopped_link, served_links, stopped_links}
+use Rattle.aprs_history.specs.declared.verdicts.Admission.TheVariants.{Served}
+use Rattle.aprs_history.specs.Trace.{Trace, Entry, Opened, Took, Lost, Ended, closed_links, is_member, is_other, live_links, opened_link, stopped_link, served_links, stopped_links, Rises}
 use Rattle.aprs_history.specs.declared.verdicts.EndReason.TheVariants.{ByStop}
 use Rattle.aprs_history.specs.Dials.{CastSeen, casts_of, dial_of}
 use Rattle.aprs_history.specs.Texts.{untaken}
 use Rattle.aprs_history.specs.History.{History, admission, begun, end_all, end_each, end_stopped, ended, ends_round, greater_link, greatest_link, is_stop, is_stopped, joined_admission, open_events, refused_links, refused_reason, trace_of, with_event}
-use Rattle.aprs_history.specs.Acts.{Act, Listens, Dials, Casts, Offers, Closes, IsRun, MayCome, acts_after, but_first, cast_act, dials, due, is_offered, listens_from, offer_to, offered_links}
+use Rattle.aprs_history.specs.Acts.{Act, Listens, Offers, Closes, IsRun, MayCome, acts_after, but_first, cast_act, dials, due, is_offered, listens_from, offer_to, offered_links}
 use Rattle.aprs_history.specs.Headline.{HasFreshLinks}
 use Rattle.aprs_history.proofs.EntryLemmas.{MayAdd, kept_begun, kept_event, kept_refused}
-use Rattle.aprs_history.proofs.NumberLemmas.{Rises, or_true, member_first, first_left, rises_filtered, rises_higher, rises_pushed}
+use Rattle.aprs_history.proofs.NumberLemmas.{member_first, first_left, rises_filtered, rises_higher, rises_pushed}
 
 -- ---- the links that are served rise
 
@@ -29,35 +30,25 @@ abbrev pub Goes : ℕ → Trace → Type 0
 Goes high t = (stopped_links t ≡ []) × Rises 0 (live_links t) high
 
 goes_on : (s : Setting) (h : History) (high : ℕ) (t : Trace) (entry : Entry) → MayAdd s h (λ link. ⊥) t entry → Goes high t → Goes high (entry ∷ t)
-goes_on s h high t RoundBegan may goes = goes
-goes_on s h high t (Ticked moment) may goes = goes
-goes_on s h high t (Dated moment) may goes = goes
-goes_on s h high t Looked may goes = goes
-goes_on s h high t (Unjoined uplink) may goes = goes
 goes_on s h high t (Opened door admission link from) may goes = absurd may
-goes_on s h high t (Brought link bytes) may goes = goes
-goes_on s h high t (Said from cut verdict) may goes = goes
-goes_on s h high t (Roomed link) may goes = goes
 goes_on s h high t (Took link offered taken) may goes = absurd may
 goes_on s h high t (Lost link) may goes = absurd may
 goes_on s h high t (Ended link reason) may goes = (ap (λ ks. ks ++ stopped_link reason link) goes.0 ∙ may.0, rises_filtered (is_other link) 0 high (live_links t) goes.1)
+goes_on s h high t entry may goes = goes
 
 goes_opened : (high k : ℕ) (admission : Admission) (ks : List ℕ) → high < k → Rises 0 ks high → Rises 0 (ks ++ opened_link admission k) (greater_link (Some k) high)
-goes_opened high k NoPort ks above rises = subst (λ ns. Rises 0 ns (max k high)) (sym (append-nil ks)) (rises_higher 0 high (max k high) ks (omega arith) rises)
-goes_opened high k TurnedAway ks above rises = subst (λ ns. Rises 0 ns (max k high)) (sym (append-nil ks)) (rises_higher 0 high (max k high) ks (omega arith) rises)
-goes_opened high k NotAsked ks above rises = subst (λ ns. Rises 0 ns (max k high)) (sym (append-nil ks)) (rises_higher 0 high (max k high) ks (omega arith) rises)
 goes_opened high k (Served kind) ks above rises = rises_higher 0 k (max k high) (ks ++ k ∷ []) (omega arith) (rises_pushed 0 high k ks above rises)
+goes_opened high k admission ks above rises = subst (λ ns. Rises 0 ns (max k high)) (sym (append-nil ks)) (rises_higher 0 high (max k high) ks (omega arith) rises)
 
 goes_event : (s : Setting) (h : History) (high : ℕ) (e : Event) (t : Trace) → IfSome (new_link e) (λ link. high < link) → Goes high t → Goes (greater_link (new_link e) high) (with_event s e t)
 goes_event s h high (event.Opened listener link from) t fresh goes = (goes.0, goes_opened high link (admission s t listener) (live_links t) fresh goes.1)
 goes_event s h high (event.Joined uplink link at) t fresh goes = (goes.0, goes_opened high link (joined_admission s t uplink link) (live_links t) fresh goes.1)
-goes_event s h high (event.Tick moment) t fresh goes = let all = did.Event (event.Tick moment) ∷ h in kept_event s all (λ link. ⊥) (Goes high) (goes_on s all high) h (event.Tick moment) t refl tt goes
 goes_event s h high (event.Bytes link bytes) t fresh goes = let all = did.Event (event.Bytes link bytes) ∷ h in kept_event s all (λ link. ⊥) (Goes high) (goes_on s all high) h (event.Bytes link bytes) t refl tt goes
 goes_event s h high (event.Ended link) t fresh goes = let all = did.Event (event.Ended link) ∷ h in kept_event s all (λ link. ⊥) (Goes high) (goes_on s all high) h (event.Ended link) t refl tt goes
 goes_event s h high (event.Room link) t fresh goes = let all = did.Event (event.Room link) ∷ h in kept_event s all (λ link. ⊥) (Goes high) (goes_on s all high) h (event.Room link) t refl tt goes
 goes_event s h high event.Stop t fresh goes = goes
 goes_event s h high (event.Unjoined uplink) t fresh goes = goes
-goes_event s h high (event.Datagram listener from bytes) t fresh goes = let all = did.Event (event.Datagram listener from bytes) ∷ h in kept_event s all (λ link. ⊥) (Goes high) (goes_on s all high) h (event.Datagram listener from bytes) t refl tt goes
+goes_event s h high e t fresh goes = let all = did.Event e ∷ h in kept_event s all (λ link. ⊥) (Goes high) (goes_on s all high) h e t refl tt goes
 
 -- rising links are all stopped, in order
 stopped_all : (low high : ℕ) (ks : List ℕ) (t : Trace) → Rises low ks high → live_links t ≡ ks → served_links (end_all ByStop ks t) ≡ stopped_links t ++ ks
@@ -87,14 +78,7 @@ serves_ended s h true high e t goes = of (is_stop e) (end_each (refused_reason t
 event_comes : (acts : List Act) (stopped : Bool) (e : Event) → MayCome acts stopped (did.Event e) → stopped ≡ false
 event_comes [] stopped e may = may.0
 event_comes (Listens n ∷ acts) stopped e may = absurd may
-event_comes (Dials uplink ∷ acts) stopped e may = absurd may
-event_comes (Casts peer given ∷ acts) stopped e may = absurd may
-event_comes (Offers link bytes ∷ acts) stopped e may = absurd may
-event_comes (Closes link ∷ acts) stopped e may = absurd may
-
-or_none : (a b : Bool) → b ≡ false → (a || b) ≡ a
-or_none true b is = refl
-or_none false b is = is
+event_comes (act ∷ acts) stopped e may = absurd may
 
 -- in a run the links that are served rise
 pub serves : (s : Setting) (h : History) → IsRun s h → HasFreshLinks h → Serves (is_stopped h) (greatest_link h) (trace_of s h)
@@ -106,52 +90,37 @@ serves s (did.Event e ∷ h) run fresh =
     let none = before.0 going in
     let n = open_events h in
     let goes = kept_begun s h (λ link. ⊥) (Goes (greatest_link h)) (goes_on s h (greatest_link h)) n (trace_of s h) (none, subst (λ ks. Rises 0 (ks ++ live_links (trace_of s h)) (greatest_link h)) none before.1) in
-    subst (λ stopped. Serves stopped (greatest_link (did.Event e ∷ h)) (trace_of s (did.Event e ∷ h))) (sym (or_none (is_stop e) (is_stopped h) going))
+    subst (λ stopped. Serves stopped (greatest_link (did.Event e ∷ h)) (trace_of s (did.Event e ∷ h))) (sym (ap (λ b. is_stop e || b) going ∙ or-false (is_stop e)))
     (serves_ended s h (ends_round n e) (greatest_link (did.Event e ∷ h)) e (with_event s e (begun n (trace_of s h))) (goes_event s h (greatest_link h) e (begun n (trace_of s h)) fresh.1 goes))
 serves s (did.Sent link bytes (sent.Took n) ∷ h) run fresh = serves s h run.0 fresh
 serves s (did.Sent link bytes sent.Gone ∷ h) run fresh = serves s h run.0 fresh
-serves s (did.Listen n ∷ h) run fresh = serves s h run.0 fresh
-serves s (did.Closed link ∷ h) run fresh = serves s h run.0 fresh
-serves s (did.Dialled uplink ∷ h) run fresh = serves s h run.0 fresh
-serves s (did.Cast peer bytes ∷ h) run fresh = serves s h run.0 fresh
+serves s (happening ∷ h) run fresh = serves s h run.0 fresh
 
 -- ---- offers
 
 -- each offer is of what its link hasn't taken, and the links rise
 abbrev pub OffersStand : Setting → Trace → ℕ → List Act → ℕ → Type 0
 OffersStand s t low [] high = low ≤ high
-OffersStand s t low (Listens n ∷ acts) high = OffersStand s t low acts high
-OffersStand s t low (Dials uplink ∷ acts) high = OffersStand s t low acts high
-OffersStand s t low (Casts peer given ∷ acts) high = OffersStand s t low acts high
 OffersStand s t low (Offers link bytes ∷ acts) high = (low < link) × (bytes ≡ take 65536 (untaken s t link)) × OffersStand s t link acts high
-OffersStand s t low (Closes link ∷ acts) high = OffersStand s t low acts high
+OffersStand s t low (act ∷ acts) high = OffersStand s t low acts high
 
 module _ (s : Setting) (t : Trace) where
   pub offers_within : (low : ℕ) (acts : List Act) (high : ℕ) → OffersStand s t low acts high → low ≤ high
   offers_within low [] high stand = stand
-  offers_within low (Listens n ∷ acts) high stand = offers_within low acts high stand
-  offers_within low (Dials uplink ∷ acts) high stand = offers_within low acts high stand
-  offers_within low (Casts peer given ∷ acts) high stand = offers_within low acts high stand
   offers_within low (Offers link bytes ∷ acts) high stand = let above = stand.0 in let later = offers_within link acts high stand.2 in omega arith
-  offers_within low (Closes link ∷ acts) high stand = offers_within low acts high stand
+  offers_within low (act ∷ acts) high stand = offers_within low acts high stand
 
   pub offers_lower : (less low : ℕ) (acts : List Act) (high : ℕ) → less ≤ low → OffersStand s t low acts high → OffersStand s t less acts high
   offers_lower less low [] high le stand = omega arith
-  offers_lower less low (Listens n ∷ acts) high le stand = offers_lower less low acts high le stand
-  offers_lower less low (Dials uplink ∷ acts) high le stand = offers_lower less low acts high le stand
-  offers_lower less low (Casts peer given ∷ acts) high le stand = offers_lower less low acts high le stand
   offers_lower less low (Offers link bytes ∷ acts) high le stand = let above = stand.0 in (omega arith, stand.1, stand.2)
-  offers_lower less low (Closes link ∷ acts) high le stand = offers_lower less low acts high le stand
+  offers_lower less low (act ∷ acts) high le stand = offers_lower less low acts high le stand
 
   -- where the links above one have the same left to take
   pub offers_same : (u : Trace) (k low : ℕ) (acts : List Act) (high : ℕ) → ((j : ℕ) → k < j → untaken s u j ≡ untaken s t j) → k ≤ low → OffersStand s t low acts high → OffersStand s u low acts high
   offers_same u k low [] high same le stand = stand
-  offers_same u k low (Listens n ∷ acts) high same le stand = offers_same u k low acts high same le stand
-  offers_same u k low (Dials uplink ∷ acts) high same le stand = offers_same u k low acts high same le stand
-  offers_same u k low (Casts peer given ∷ acts) high same le stand = offers_same u k low acts high same le stand
   offers_same u k low (Offers link bytes ∷ acts) high same le stand =
       let above = stand.0 in (stand.0, stand.1 ∙ ap (take 65536) (sym (same link (omega arith))), offers_same u k link acts high same (omega arith) stand.2)
-  offers_same u k low (Closes link ∷ acts) high same le stand = offers_same u k low acts high same le stand
+  offers_same u k low (act ∷ acts) high same le stand = offers_same u k low acts high same le stand
 
   offers_closes : (low high : ℕ) (ks : List ℕ) → low ≤ high → OffersStand s t low (map Closes ks) high
   offers_closes low high [] le = le
@@ -183,41 +152,29 @@ module _ (s : Setting) (t : Trace) where
 
   pub offers_next : (acts : List Act) (high : ℕ) → OffersStand s t 0 acts high → OffersStand s t 0 (but_first acts) high
   offers_next [] high stand = stand
-  offers_next (Listens n ∷ acts) high stand = stand
-  offers_next (Dials uplink ∷ acts) high stand = stand
-  offers_next (Casts peer given ∷ acts) high stand = stand
   offers_next (Offers link bytes ∷ acts) high stand = offers_lower 0 link acts high (omega arith) stand.2
-  offers_next (Closes link ∷ acts) high stand = stand
+  offers_next (act ∷ acts) high stand = stand
 
   -- what is sent is what is due
   pub sent_due : (acts : List Act) (stopped : Bool) (link : ℕ) (bytes : List ℕ) (outcome : Sent) (high : ℕ) → MayCome acts stopped (did.Sent link bytes outcome) → OffersStand s t 0 acts high
       → (bytes ≡ take 65536 (untaken s t link)) × IsOutcome bytes outcome × OffersStand s t link (but_first acts) high
   sent_due [] stopped link bytes outcome high may stand = absurd may.1
-  sent_due (Listens n ∷ acts) stopped link bytes outcome high may stand = absurd may
-  sent_due (Dials uplink ∷ acts) stopped link bytes outcome high may stand = absurd may
-  sent_due (Casts peer given ∷ acts) stopped link bytes outcome high may stand = absurd may
   sent_due (Offers owed given ∷ acts) stopped link bytes outcome high may stand =
       (may.1 ∙ stand.1 ∙ ap (λ k. take 65536 (untaken s t k)) (sym may.0), may.2, subst (λ k. OffersStand s t k acts high) (sym may.0) stand.2)
-  sent_due (Closes other ∷ acts) stopped link bytes outcome high may stand = absurd may
+  sent_due (act ∷ acts) stopped link bytes outcome high may stand = absurd may
 
 -- ---- closes
 
 -- each close is of such a link
 abbrev pub ClosesStand : List ℕ → List Act → Type 0
 ClosesStand closed [] = ⊤
-ClosesStand closed (Listens n ∷ acts) = ClosesStand closed acts
-ClosesStand closed (Dials uplink ∷ acts) = ClosesStand closed acts
-ClosesStand closed (Casts peer given ∷ acts) = ClosesStand closed acts
-ClosesStand closed (Offers link bytes ∷ acts) = ClosesStand closed acts
 ClosesStand closed (Closes link ∷ acts) = (is_member link closed ≡ true) × ClosesStand closed acts
+ClosesStand closed (act ∷ acts) = ClosesStand closed acts
 
 closes_next : (closed : List ℕ) (acts : List Act) → ClosesStand closed acts → ClosesStand closed (but_first acts)
 closes_next closed [] stand = stand
-closes_next closed (Listens n ∷ acts) stand = stand
-closes_next closed (Dials uplink ∷ acts) stand = stand
-closes_next closed (Casts peer given ∷ acts) stand = stand
-closes_next closed (Offers link bytes ∷ acts) stand = stand
 closes_next closed (Closes link ∷ acts) stand = stand.1
+closes_next closed (act ∷ acts) stand = stand
 
 closes_listens : (closed : List ℕ) (n : ℕ) (listens : List ListenSpec) → ClosesStand closed (listens_from n listens)
 closes_listens closed n [] = tt
@@ -226,7 +183,7 @@ closes_listens closed n (spec ∷ specs) = closes_listens closed (n + 1) specs
 closes_of : (closed ks : List ℕ) → ((k : ℕ) → is_member k ks ≡ true → is_member k closed ≡ true) → ClosesStand closed (map Closes ks)
 closes_of closed [] among = tt
 closes_of closed (k ∷ ks) among =
-    (among k (member_first k ks), closes_of closed ks (λ j member. among j (or_true (k == j) (is_member j ks) member)))
+    (among k (member_first k ks), closes_of closed ks (λ j member. among j (or_right (k == j) (is_member j ks) member)))
 
 closes_offers : (closed ks closes : List ℕ) (s : Setting) (t : Trace) → ClosesStand closed (map Closes closes) → ClosesStand closed (map (offer_to s t) ks ++ map Closes closes)
 closes_offers closed [] closes s t stand = stand
@@ -254,15 +211,9 @@ closes_stand s [] = closes_listens [] 0 s.listens
 closes_stand s (did.Event e ∷ h) = closes_after s (trace_of s (did.Event e ∷ h)) (ends_round (open_events h) e)
 closes_stand s (did.Sent link bytes (sent.Took n) ∷ h) = closes_next (closed_links (trace_of s h)) (due s h) (closes_stand s h)
 closes_stand s (did.Sent link bytes sent.Gone ∷ h) = closes_next (closed_links (trace_of s h)) (due s h) (closes_stand s h)
-closes_stand s (did.Listen n ∷ h) = closes_next (closed_links (trace_of s h)) (due s h) (closes_stand s h)
-closes_stand s (did.Closed link ∷ h) = closes_next (closed_links (trace_of s h)) (due s h) (closes_stand s h)
-closes_stand s (did.Dialled uplink ∷ h) = closes_next (closed_links (trace_of s h)) (due s h) (closes_stand s h)
-closes_stand s (did.Cast peer bytes ∷ h) = closes_next (closed_links (trace_of s h)) (due s h) (closes_stand s h)
+closes_stand s (happening ∷ h) = closes_next (closed_links (trace_of s h)) (due s h) (closes_stand s h)
 
 pub closed_due : (closed : List ℕ) (acts : List Act) (stopped : Bool) (link : ℕ) → MayCome acts stopped (did.Closed link) → ClosesStand closed acts → is_member link closed ≡ true
 closed_due closed [] stopped link may stand = absurd may.1
-closed_due closed (Listens n ∷ acts) stopped link may stand = absurd may
-closed_due closed (Dials uplink ∷ acts) stopped link may stand = absurd may
-closed_due closed (Casts peer given ∷ acts) stopped link may stand = absurd may
-closed_due closed (Offers other bytes ∷ acts) stopped link may stand = absurd may
 closed_due closed (Closes other ∷ acts) stopped link may stand = subst (λ k. is_member k closed ≡ true) (sym may) stand.0
+closed_due closed (act ∷ acts) stopped link may stand = absurd may

@@ -2,18 +2,18 @@
 use Rattle.std.proofs.Common.{◌≡◌, ℕ, true, [], ◌∷◌, ◌++◌, subst}
 use Rattle.std.specs.Bool.{⊤}
 use Rattle.std.specs.List.{list_any}
+use Rattle.std.proofs.lemmas.Bool.{or_right}
 use Rattle.aprs_base.specs.Outside.{new_link}
 use Rattle.aprs_base.specs.declared.events.Sent.TheVariants as sent
 use Rattle.aprs_base.specs.declared.events.Happening.{Happening}
 use Rattle.aprs_base.specs.declared.events.Happening.TheVariants as did
 use Rattle.aprs_history.specs.Setting.{Setting}
-use Rattle.aprs_history.specs.Trace.{Trace, Entry, RoundBegan, Dated, Looked, Unjoined, Ticked, Opened, Brought, Said, Roomed, Took, Lost, Ended}
+use Rattle.aprs_history.specs.Trace.{Trace, Entry, Ended}
 use Rattle.aprs_history.specs.declared.verdicts.EndReason.{EndReason}
-use Rattle.aprs_history.specs.declared.verdicts.EndReason.TheVariants.{ByPeer, FoundGone, NoLogin, Silent, Overfull, Full, Unasked, ByStop}
+use Rattle.aprs_history.specs.declared.verdicts.EndReason.TheVariants.{ByPeer, ByStop}
 use Rattle.aprs_history.specs.History.{History, is_stop, is_stopped, trace_of}
 use Rattle.aprs_history.specs.Headline.{EndsBy, LinksEndByRules, is_end_by_peer}
 use Rattle.aprs_history.proofs.EntryLemmas.{MayAdd, any_link, kept_after}
-use Rattle.aprs_history.proofs.NumberLemmas.{or_true}
 
 abbrev IsByRule : Setting → History → Trace → Entry → Type 0
 IsByRule s h t (Ended link reason) = EndsBy s h t link reason
@@ -30,52 +30,23 @@ by_rule_at s h (entry ∷ later) t all = by_rule_at s h later t all.1
 -- ---- a history that goes on
 
 still_stopped : (x : Happening) (h : History) → is_stopped h ≡ true → is_stopped (x ∷ h) ≡ true
-still_stopped (did.Event e) h stopped = or_true (is_stop e) (is_stopped h) stopped
-still_stopped (did.Sent link bytes outcome) h stopped = stopped
-still_stopped (did.Listen n) h stopped = stopped
-still_stopped (did.Closed link) h stopped = stopped
-still_stopped (did.Dialled uplink) h stopped = stopped
-still_stopped (did.Cast peer bytes) h stopped = stopped
+still_stopped (did.Event e) h stopped = or_right (is_stop e) (is_stopped h) stopped
+still_stopped happening h stopped = stopped
 
 module _ (s : Setting) (x : Happening) (h : History) where
   ends_still : (t : Trace) (link : ℕ) (reason : EndReason) → EndsBy s h t link reason → EndsBy s (x ∷ h) t link reason
-  ends_still t link ByPeer ends = or_true (is_end_by_peer link x) (list_any (is_end_by_peer link) h) ends
-  ends_still t link FoundGone ends = ends
-  ends_still t link NoLogin ends = ends
-  ends_still t link Silent ends = ends
-  ends_still t link Overfull ends = ends
-  ends_still t link Full ends = ends
-  ends_still t link Unasked ends = ends
+  ends_still t link ByPeer ends = or_right (is_end_by_peer link x) (list_any (is_end_by_peer link) h) ends
   ends_still t link ByStop ends = still_stopped x h ends
+  ends_still t link reason ends = ends
 
   by_rule_still : (t : Trace) → AllByRule s h t → AllByRule s (x ∷ h) t
   by_rule_still [] all = tt
   by_rule_still (Ended link reason ∷ t) all = (ends_still t link reason all.0, by_rule_still t all.1)
-  by_rule_still (RoundBegan ∷ t) all = (tt, by_rule_still t all.1)
-  by_rule_still (Dated moment ∷ t) all = (tt, by_rule_still t all.1)
-  by_rule_still (Looked ∷ t) all = (tt, by_rule_still t all.1)
-  by_rule_still (Unjoined uplink ∷ t) all = (tt, by_rule_still t all.1)
-  by_rule_still (Ticked moment ∷ t) all = (tt, by_rule_still t all.1)
-  by_rule_still (Opened door admission link from ∷ t) all = (tt, by_rule_still t all.1)
-  by_rule_still (Brought link bytes ∷ t) all = (tt, by_rule_still t all.1)
-  by_rule_still (Said from cut verdict ∷ t) all = (tt, by_rule_still t all.1)
-  by_rule_still (Roomed link ∷ t) all = (tt, by_rule_still t all.1)
-  by_rule_still (Took link offered taken ∷ t) all = (tt, by_rule_still t all.1)
-  by_rule_still (Lost link ∷ t) all = (tt, by_rule_still t all.1)
+  by_rule_still (entry ∷ t) all = (tt, by_rule_still t all.1)
 
 by_rule_added : (s : Setting) (h : History) (t : Trace) (entry : Entry) → MayAdd s h (λ link. ⊤) t entry → AllByRule s h t → AllByRule s h (entry ∷ t)
 by_rule_added s h t (Ended link reason) may all = (may.1, all)
-by_rule_added s h t RoundBegan may all = (tt, all)
-by_rule_added s h t (Dated moment) may all = (tt, all)
-by_rule_added s h t Looked may all = (tt, all)
-by_rule_added s h t (Unjoined uplink) may all = (tt, all)
-by_rule_added s h t (Ticked moment) may all = (tt, all)
-by_rule_added s h t (Opened door admission link from) may all = (tt, all)
-by_rule_added s h t (Brought link bytes) may all = (tt, all)
-by_rule_added s h t (Said from cut verdict) may all = (tt, all)
-by_rule_added s h t (Roomed link) may all = (tt, all)
-by_rule_added s h t (Took link offered taken) may all = (tt, all)
-by_rule_added s h t (Lost link) may all = (tt, all)
+by_rule_added s h t entry may all = (tt, all)
 
 all_by_rule : (s : Setting) (h : History) → AllByRule s h (trace_of s h)
 unfolding trace_of
@@ -85,10 +56,7 @@ all_by_rule s (did.Event e ∷ h) =
     kept_after s h e (λ link. ⊤) (AllByRule s all) (by_rule_added s all) (λ t k stopped before. (stopped, before)) (any_link (new_link e)) (by_rule_still s (did.Event e) h (trace_of s h) (all_by_rule s h))
 all_by_rule s (did.Sent link bytes (sent.Took n) ∷ h) = (tt, by_rule_still s (did.Sent link bytes (sent.Took n)) h (trace_of s h) (all_by_rule s h))
 all_by_rule s (did.Sent link bytes sent.Gone ∷ h) = (tt, by_rule_still s (did.Sent link bytes sent.Gone) h (trace_of s h) (all_by_rule s h))
-all_by_rule s (did.Listen n ∷ h) = by_rule_still s (did.Listen n) h (trace_of s h) (all_by_rule s h)
-all_by_rule s (did.Closed link ∷ h) = by_rule_still s (did.Closed link) h (trace_of s h) (all_by_rule s h)
-all_by_rule s (did.Dialled uplink ∷ h) = by_rule_still s (did.Dialled uplink) h (trace_of s h) (all_by_rule s h)
-all_by_rule s (did.Cast peer bytes ∷ h) = by_rule_still s (did.Cast peer bytes) h (trace_of s h) (all_by_rule s h)
+all_by_rule s (happening ∷ h) = by_rule_still s happening h (trace_of s h) (all_by_rule s h)
 
 pub links_end_by_rules : LinksEndByRules
 links_end_by_rules s h later earlier link reason split = (by_rule_at s h later (Ended link reason ∷ earlier) (subst (AllByRule s h) split (all_by_rule s h))).0

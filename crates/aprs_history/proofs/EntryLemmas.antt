@@ -2,7 +2,7 @@
 use Rattle.std.proofs.Common.{◌≡◌, ℕ, ◌==◌, ◌/◌, ◌||◌, nat_lt, Bool, true, false, List, [], ◌∷◌, refl, sym, ap, ◌∙◌, IfSome, Option, Some, None, Result, Ok, Err, ◌⊎◌, inl, inr, ⊎_elim, eq-eqb, if◌then◌else◌}
 use Rattle.std.specs.Bool.{⊤, IsTrue}
 use Rattle.std.specs.List.{list_any}
-use Rattle.std.proofs.lemmas.Bool.{cases_Bool}
+use Rattle.std.proofs.lemmas.Bool.{cases_Bool, or_parts, or_right}
 use Rattle.aprs_base.specs.Cuts.{cuts_by}
 use Rattle.aprs_base.specs.Outside.{new_link}
 use Rattle.aprs_base.specs.declared.cutting.Cut.{Cut}
@@ -22,42 +22,35 @@ use Rattle.aprs_history.specs.declared.verdicts.Verdict.{Verdict}
 use Rattle.aprs_history.specs.declared.verdicts.Verdict.TheVariants.{Refused}
 use Rattle.aprs_history.specs.Trace.{Trace, Entry, AtListener, ByUplink, RoundBegan, Dated, Looked, Unjoined, Ticked, Opened, Brought, Said, Roomed, Took, Lost, Ended, is_live, is_member, is_unasked, live_links, moment_of, placed, placed_all, stopped_link, turned_links}
 use Rattle.aprs_history.specs.declared.verdicts.EndReason.{EndReason}
-use Rattle.aprs_history.specs.declared.verdicts.EndReason.TheVariants.{FoundGone, ByPeer, NoLogin, Silent, Overfull, Full, Unasked, ByStop}
+use Rattle.aprs_history.specs.declared.verdicts.EndReason.TheVariants.{FoundGone, ByPeer, ByStop}
 use Rattle.aprs_history.specs.Links.{brought_by, gone_links, is_gone, is_late, is_nameless, is_silent, late_links, late_reason}
 use Rattle.aprs_history.specs.Verdicts.{Scene, submitter_of, verdict_of}
 use Rattle.aprs_history.specs.Scenes.{datagram_scene, scene_of}
 use Rattle.aprs_history.specs.Texts.{over_links, text_to}
 use Rattle.aprs_history.specs.History.{History, admission, begin_round, begun, bring, comment_seconds, datagram_cuts, dated, end_all, end_each, end_stopped, ended, ends_round, is_stop, is_stopped, joined_admission, open_events, refused_links, refused_reason, relay, say_all, submit, trace_of, with_event, with_lines, with_tick}
 use Rattle.aprs_history.specs.Headline.{EndsBy, is_end_by_peer}
-use Rattle.aprs_history.proofs.NumberLemmas.{member_first, member_passes, member_placed, or_false, or_true}
+use Rattle.aprs_history.proofs.NumberLemmas.{member_first, member_passes, member_placed}
 
 -- a line of a link is of one that lives
 abbrev pub IsSaidBy : Trace → Source → Type 0
 IsSaidBy t (source.Link link) = is_live t link ≡ true
-IsSaidBy t (source.Submit listener) = ⊤
-IsSaidBy t (source.Peer peer) = ⊤
+IsSaidBy t from = ⊤
 
 -- and is judged by what it meets there
 abbrev pub IsJudged : Setting → Trace → Source → Cut → Verdict → Type 0
 IsJudged s t (source.Link link) cut verdict = verdict ≡ verdict_of (scene_of s t link) cut
-IsJudged s t (source.Submit listener) cut verdict = ⊤
-IsJudged s t (source.Peer peer) cut verdict = ⊤
+IsJudged s t from cut verdict = ⊤
 
 -- what the last event of a history may add before a stop: no outcome of a send, no opening but of such a link, lines of links that live,
 -- and ends by the rules
 abbrev pub MayAdd : Setting → History → (ℕ → Type 0) → Trace → Entry → Type 0
-MayAdd s h Opens t RoundBegan = ⊤
-MayAdd s h Opens t (Ticked moment) = ⊤
 MayAdd s h Opens t (Opened door admission link from) = Opens link
 MayAdd s h Opens t (Brought link bytes) = is_live t link ≡ true
 MayAdd s h Opens t (Said from cut verdict) = IsSaidBy t from × IsJudged s t from cut verdict
-MayAdd s h Opens t (Roomed link) = ⊤
 MayAdd s h Opens t (Took link offered taken) = ⊥
 MayAdd s h Opens t (Lost link) = ⊥
 MayAdd s h Opens t (Ended link reason) = (stopped_link reason link ≡ []) × EndsBy s h t link reason
-MayAdd s h Opens t (Dated moment) = ⊤
-MayAdd s h Opens t Looked = ⊤
-MayAdd s h Opens t (Unjoined uplink) = ⊤
+MayAdd s h Opens t entry = ⊤
 
 -- where any link may be opened
 pub any_link : (new : Option ℕ) → IfSome new (λ link. ⊤)
@@ -69,13 +62,7 @@ any_link (Some link) = tt
 -- an end leaves the rules of the others
 ends_later : (s : Setting) (h : History) (t : Trace) (k j : ℕ) (other reason : EndReason) → EndsBy s h t j reason → EndsBy s h (Ended k other ∷ t) j reason
 ends_later s h t k j other ByPeer ends = ends
-ends_later s h t k j other FoundGone ends = ends
-ends_later s h t k j other NoLogin ends = ends
-ends_later s h t k j other Silent ends = ends
-ends_later s h t k j other Overfull ends = ends
-ends_later s h t k j other Full ends = ends
-ends_later s h t k j other Unasked ends = ends
-ends_later s h t k j other ByStop ends = ends
+ends_later s h t k j other reason ends = ends
 
 -- a reason's rule holds, and it is no stop
 abbrev MayEnd : Setting → History → Trace → ℕ → EndReason → Type 0
@@ -87,7 +74,7 @@ late_ends s h t k late = ⊎_elim (λ is. rw is (refl, is)) (λ not. rw not (ref
 member_of_both : (k : ℕ) (ns ms : List ℕ) → is_member k (placed_all ns ms) ≡ true → is_member k ns ≡ false → is_member k ms ≡ true
 member_of_both k [] ms member other = member
 member_of_both k (n ∷ ns) ms member other =
-    let parts = or_false (n == k) (is_member k ns) other in
+    let parts = or_parts (n == k) (is_member k ns) other in
     let later = member_placed k n ms (member_of_both k ns (placed n ms) member parts.1) in
     sym (ap (λ b. b || is_member k ms) parts.0) ∙ later
 
@@ -106,8 +93,7 @@ refused_ends s h t k member =
 -- a line leaves it so
 said_on : (from : Source) (t : Trace) → IsSaidBy t from → (cut : Cut) (verdict : Verdict) → IsSaidBy (Said from cut verdict ∷ t) from
 said_on (source.Link link) t said cut verdict = said
-said_on (source.Submit listener) t said cut verdict = tt
-said_on (source.Peer peer) t said cut verdict = tt
+said_on from t said cut verdict = tt
 
 -- what each such entry keeps
 module _ (s : Setting) (h : History) (Opens : ℕ → Type 0) (R : Trace → Type 0) (adds : (t : Trace) (entry : Entry) → MayAdd s h Opens t entry → R t → R (entry ∷ t)) where
@@ -123,7 +109,7 @@ module _ (s : Setting) (h : History) (Opens : ℕ → Type 0) (R : Trace → Typ
   kept_each reason [] t ends r = r
   kept_each reason (k ∷ ks) t ends r =
       let later : (j : ℕ) → is_member j ks ≡ true → MayEnd s h (Ended k (reason k) ∷ t) j (reason j) =
-      λ j member. let end = ends j (or_true (k == j) (is_member j ks) member) in (end.0, ends_later s h t k j (reason k) (reason j) end.1) in
+      λ j member. let end = ends j (or_right (k == j) (is_member j ks) member) in (end.0, ends_later s h t k j (reason k) (reason j) end.1) in
       kept_each reason ks (Ended k (reason k) ∷ t) later (adds t (Ended k (reason k)) (ends k (member_first k ks)) r)
 
   kept_if : (b : Bool) (t u : Trace) → (b ≡ true → R t) → R u → R (if b then t else u)
@@ -159,10 +145,7 @@ module _ (s : Setting) (h : History) (Opens : ℕ → Type 0) (R : Trace → Typ
   kept_lines served listener from [] t r = r
   kept_lines (Some kind.Submit) listener from (cut ∷ cuts) t r = kept_submit listener cut cuts (submitter_of s.server cut) t r
   kept_lines (Some kind.Core) listener from (cut ∷ cuts) t r = kept_relay listener cut cuts (peer_from 0 s.peers from) t r
-  kept_lines (Some kind.Full) listener from (cut ∷ cuts) t r = r
-  kept_lines (Some kind.Igate) listener from (cut ∷ cuts) t r = r
-  kept_lines (Some kind.Only) listener from (cut ∷ cuts) t r = r
-  kept_lines (Some kind.Dupe) listener from (cut ∷ cuts) t r = r
+  kept_lines (Some other) listener from (cut ∷ cuts) t r = r
   kept_lines None listener from (cut ∷ cuts) t r = r
 
   pub kept_event : (before : History) (e : Event) (t : Trace) → h ≡ did.Event e ∷ before → IfSome (new_link e) Opens → R t → R (with_event s e t)

@@ -21,8 +21,8 @@ use Rattle.aprs_history.specs.declared.verdicts.Refusal.{Refusal}
 use Rattle.aprs_history.specs.declared.verdicts.Refusal.TheVariants as refusal
 use Rattle.aprs_history.specs.Setting.{Setting}
 use Rattle.aprs_history.specs.declared.verdicts.Admission.{Admission}
-use Rattle.aprs_history.specs.declared.verdicts.Admission.TheVariants.{NoPort, NotAsked, TurnedAway, Served}
-use Rattle.aprs_history.specs.Trace.{Trace, Entry, RoundBegan, Dated, Looked, Unjoined, Ticked, Opened, Brought, Said, Roomed, Took, Lost, Ended, is_closing, is_from, is_live, is_member, closed_links, moment_of, placed}
+use Rattle.aprs_history.specs.declared.verdicts.Admission.TheVariants.{Served}
+use Rattle.aprs_history.specs.Trace.{Trace, Entry, RoundBegan, Dated, Opened, Said, Took, Lost, Ended, is_closing, is_from, is_live, is_member, closed_links, moment_of, placed}
 use Rattle.aprs_history.specs.Links.{is_client, is_submitted, opening_of, session_of, taken_by}
 use Rattle.aprs_history.specs.Messages.{is_asked}
 use Rattle.aprs_history.specs.Scenes.{packet_of}
@@ -102,18 +102,12 @@ module _ (s : Setting) (h : History) (t : Trace) (link : ℕ) where
       )
 
   grown_by : (u : Trace) (entry : Entry) → MayAdd s h (λ k. (link == k) ≡ false) u entry → Grown s t link u → Grown s t link (entry ∷ u)
-  grown_by u RoundBegan may grown = grown
-  grown_by u (Ticked moment) may grown = grown
-  grown_by u Looked may grown = grown
-  grown_by u (Unjoined uplink) may grown = grown
   grown_by u (Opened door admission opened from) may grown = rw may grown
-  grown_by u (Brought from bytes) may grown = grown
   grown_by u (Said from cut verdict) may grown = grown_lines u (taken_by u link) (added_by s u from verdict link) (Said from cut verdict) refl refl grown
   grown_by u (Dated moment) may grown = grown_lines u (taken_by u link) (if is_client u link then comment_line s.server moment ∷ [] else []) (Dated moment) refl refl grown
-  grown_by u (Roomed roomed) may grown = grown
   grown_by u (Took by offered taken) may grown = absurd may
   grown_by u (Lost lost) may grown = absurd may
-  grown_by u (Ended ended reason) may grown = grown
+  grown_by u entry may grown = grown
 
   grown_same : Grown s t link t
   grown_same = ([], sym (append-nil (lines_of s t link)), refl)
@@ -123,22 +117,14 @@ abbrev HasNone : ℕ → Trace → Type 0
 HasNone link t = taken_by t link ≡ 0
 
 none_by : (s : Setting) (h : History) (link : ℕ) (u : Trace) (entry : Entry) → MayAdd s h (λ k. ⊤) u entry → HasNone link u → HasNone link (entry ∷ u)
-none_by s h link u RoundBegan may none = none
-none_by s h link u (Ticked moment) may none = none
-none_by s h link u (Dated moment) may none = none
-none_by s h link u Looked may none = none
-none_by s h link u (Unjoined uplink) may none = none
 none_by s h link u (Opened door admission opened from) may none = of (link == opened)
   where
     of : (b : Bool) → (if b then 0 else taken_by u link) ≡ 0
     of true = refl
     of false = none
-none_by s h link u (Brought from bytes) may none = none
-none_by s h link u (Said from cut verdict) may none = none
-none_by s h link u (Roomed roomed) may none = none
 none_by s h link u (Took by offered taken) may none = absurd may
 none_by s h link u (Lost lost) may none = absurd may
-none_by s h link u (Ended ended reason) may none = none
+none_by s h link u entry may none = none
 
 -- ---- what every run keeps
 
@@ -231,13 +217,7 @@ unfolding trace_of due
 kept s [] run fresh = record { takes = λ link. takes_nothing []; none = λ link above. refl; offers = offers_listens s [] 0 s.listens 0 }
 kept s (did.Event e ∷ h) run fresh = kept_event s h e run fresh (kept s h run.0 fresh.0)
 kept s (did.Sent link bytes outcome ∷ h) run fresh = kept_sent s h link bytes outcome run (kept s h run.0 fresh)
-kept s (did.Listen n ∷ h) run fresh =
-    let before = kept s h run.0 fresh in record { takes = before.takes; none = before.none; offers = offers_next s (trace_of s h) (due s h) (greatest_link h) before.offers }
-kept s (did.Closed link ∷ h) run fresh =
-    let before = kept s h run.0 fresh in record { takes = before.takes; none = before.none; offers = offers_next s (trace_of s h) (due s h) (greatest_link h) before.offers }
-kept s (did.Dialled uplink ∷ h) run fresh =
-    let before = kept s h run.0 fresh in record { takes = before.takes; none = before.none; offers = offers_next s (trace_of s h) (due s h) (greatest_link h) before.offers }
-kept s (did.Cast peer bytes ∷ h) run fresh =
+kept s (happening ∷ h) run fresh =
     let before = kept s h run.0 fresh in record { takes = before.takes; none = before.none; offers = offers_next s (trace_of s h) (due s h) (greatest_link h) before.offers }
 
 pub links_take_prefixes : LinksTakePrefixes
@@ -283,11 +263,9 @@ module _ (s : Setting) (link : ℕ) where
   login_filter_all (Some answer) = reply_alone (filter_reply answer)
 
   first_all : (admission : Admission) → All (IsOfAnother link) (first_lines s admission)
-  first_all NoPort = All-nil (IsOfAnother link)
-  first_all TurnedAway = All-nil (IsOfAnother link)
-  first_all NotAsked = All-nil (IsOfAnother link)
   first_all (Served (Client port)) = line_alone (IsOfAnother link) (first_line s (Client port)) tt
   first_all (Served (Uplink uplink)) = line_alone (IsOfAnother link) (first_line s (Uplink uplink)) tt
+  first_all admission = All-nil (IsOfAnother link)
 
   -- only what comes from another passes such a test
   not_own : (from : Source) (live others : Bool) → (not (is_from link from) && live && others) ≡ true → from ≢ source.Link link
@@ -301,11 +279,7 @@ module _ (s : Setting) (link : ℕ) where
       (λ is. line_alone (IsOfAnother link) (shown packet) (not_own from (is_live t link) (shows_duplicates (opening_of t link) (session_of t link)) is))
   refused_all t from (refusal.Login why) = if_all (IsOfAnother link) (is_from link from) (reply_lines (refusal_reply (refusal.Login why))) (λ is. replies_all (refusal_reply (refusal.Login why)))
   refused_all t from refusal.OwnName = if_all (IsOfAnother link) (is_from link from) (reply_lines (refusal_reply refusal.OwnName)) (λ is. replies_all (refusal_reply refusal.OwnName))
-  refused_all t from refusal.Long = if_all (IsOfAnother link) (is_from link from) [] (λ is. All-nil (IsOfAnother link))
-  refused_all t from refusal.ReadOnly = if_all (IsOfAnother link) (is_from link from) [] (λ is. All-nil (IsOfAnother link))
-  refused_all t from refusal.Stranger = if_all (IsOfAnother link) (is_from link from) [] (λ is. All-nil (IsOfAnother link))
-  refused_all t from (refusal.Packet why) = if_all (IsOfAnother link) (is_from link from) [] (λ is. All-nil (IsOfAnother link))
-  refused_all t from (refusal.Path why) = if_all (IsOfAnother link) (is_from link from) [] (λ is. All-nil (IsOfAnother link))
+  refused_all t from other = if_all (IsOfAnother link) (is_from link from) [] (λ is. All-nil (IsOfAnother link))
 
   added_all : (t : Trace) (from : Source) (verdict : Verdict) → All (IsOfAnother link) (added_by s t from verdict link)
   added_all t from PassedOver = All-nil (IsOfAnother link)
@@ -333,15 +307,7 @@ module _ (s : Setting) (link : ℕ) where
       let comment = comment_line s.server moment in
       lines_all (IsOfAnother link) (taken_by t link) (if is_client t link then comment ∷ [] else []) (text_to s t link)
       (if_all (IsOfAnother link) (is_client t link) (comment ∷ []) (λ is. line_alone (IsOfAnother link) comment tt)) (text_all t)
-  text_all (RoundBegan ∷ t) = text_all t
-  text_all (Looked ∷ t) = text_all t
-  text_all (Unjoined uplink ∷ t) = text_all t
-  text_all (Ticked moment ∷ t) = text_all t
-  text_all (Brought from bytes ∷ t) = text_all t
-  text_all (Roomed roomed ∷ t) = text_all t
-  text_all (Took by offered taken ∷ t) = text_all t
-  text_all (Lost lost ∷ t) = text_all t
-  text_all (Ended ended reason ∷ t) = text_all t
+  text_all (entry ∷ t) = text_all t
 
 pub none_hear_themselves : NoneHearThemselves
 none_hear_themselves s t link = text_all s link t
@@ -374,16 +340,7 @@ has_ended (Ended ended reason ∷ t) link member =
     (cases_Bool (ended == link)))
     (λ stays. ended_before t link (Ended ended reason) refl (has_ended t link (sym (ap (λ b. is_member link (cond b (placed ended (closed_links t)) (closed_links t))) stays) ∙ member)))
     (cases_Bool (is_closing reason))
-has_ended (Dated moment ∷ t) link member = ended_before t link (Dated moment) refl (has_ended t link member)
-has_ended (Ticked moment ∷ t) link member = ended_before t link (Ticked moment) refl (has_ended t link member)
-has_ended (Looked ∷ t) link member = ended_before t link Looked refl (has_ended t link member)
-has_ended (Unjoined uplink ∷ t) link member = ended_before t link (Unjoined uplink) refl (has_ended t link member)
-has_ended (Opened door admission opened from ∷ t) link member = ended_before t link (Opened door admission opened from) refl (has_ended t link member)
-has_ended (Brought from bytes ∷ t) link member = ended_before t link (Brought from bytes) refl (has_ended t link member)
-has_ended (Said from cut verdict ∷ t) link member = ended_before t link (Said from cut verdict) refl (has_ended t link member)
-has_ended (Roomed roomed ∷ t) link member = ended_before t link (Roomed roomed) refl (has_ended t link member)
-has_ended (Took by offered taken ∷ t) link member = ended_before t link (Took by offered taken) refl (has_ended t link member)
-has_ended (Lost lost ∷ t) link member = ended_before t link (Lost lost) refl (has_ended t link member)
+has_ended (entry ∷ t) link member = ended_before t link entry refl (has_ended t link member)
 
 pub run_before : (s : Setting) (later earlier : History) → IsRun s (later ++ earlier) → IsRun s earlier
 run_before s [] earlier run = run

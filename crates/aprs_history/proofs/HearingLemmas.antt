@@ -17,11 +17,11 @@ use Rattle.station_table.proofs.LastSeen.{told_more}
 use Rattle.heard_routing.specs.LastHeard.{heard_by, last_heard}
 use Rattle.heard_routing.specs.LastHeard as routed
 use Rattle.aprs_history.specs.declared.verdicts.Verdict.{Verdict}
-use Rattle.aprs_history.specs.declared.verdicts.Verdict.TheVariants.{PassedOver, Refused, LoggedIn, Filtered, Accepted}
+use Rattle.aprs_history.specs.declared.verdicts.Verdict.TheVariants.{Accepted}
 use Rattle.aprs_history.specs.Setting.{Setting}
 use Rattle.aprs_history.specs.declared.verdicts.Admission.{Admission}
-use Rattle.aprs_history.specs.declared.verdicts.Admission.TheVariants.{NoPort, NotAsked, TurnedAway, Served}
-use Rattle.aprs_history.specs.Trace.{Trace, Door, Entry, AtListener, ByUplink, RoundBegan, Dated, Looked, Unjoined, Ticked, Opened, Brought, Said, Roomed, Took, Lost, Ended, is_from, is_member, is_other, live_links, moment_of, opened_link}
+use Rattle.aprs_history.specs.declared.verdicts.Admission.TheVariants.{Served}
+use Rattle.aprs_history.specs.Trace.{Trace, Door, Entry, AtListener, ByUplink, Opened, Brought, Said, Roomed, Took, Lost, Ended, is_from, is_member, is_other, live_links, moment_of, opened_link}
 use Rattle.aprs_history.specs.declared.verdicts.EndReason.TheVariants.{ByStop}
 use Rattle.aprs_history.specs.Scenes.{accepted_of, packet_of}
 use Rattle.aprs_history.specs.Messages.{heard_after, heard_of}
@@ -69,8 +69,7 @@ Agrees link call t = heard_of t link call ≡ last_heard (accepted_of t) link ca
 -- both say so of a packet's source
 same_from : (link : ℕ) (from : Source) → routed.is_from link from ≡ is_from link from
 same_from link (source.Link other) = refl
-same_from link (source.Submit listener) = refl
-same_from link (source.Peer peer) = refl
+same_from link from = refl
 
 -- one more accepted packet
 heard_more : (t : Trace) (from : Source) (cut : Cut) (verdict : Verdict) (link : ℕ) (call : List ℕ)
@@ -84,18 +83,12 @@ heard_more t from cut (Accepted parts line) link call =
     later : (b : Bool) (before : Option ℕ) → later_or before (if b then Some (moment_of t) else None) ≡ (if b then Some (moment_of t) else before)
     later true before = refl
     later false before = refl
-heard_more t from cut PassedOver link call = ap (λ packets. last_heard packets link call) (append-nil (accepted_of t))
-heard_more t from cut (Refused refusal) link call = ap (λ packets. last_heard packets link call) (append-nil (accepted_of t))
-heard_more t from cut (LoggedIn session answer) link call = ap (λ packets. last_heard packets link call) (append-nil (accepted_of t))
-heard_more t from cut (Filtered answer) link call = ap (λ packets. last_heard packets link call) (append-nil (accepted_of t))
+heard_more t from cut verdict link call = ap (λ packets. last_heard packets link call) (append-nil (accepted_of t))
 
 -- another link hears nothing
 heard_not : (now : ℕ) (from : Source) (verdict : Verdict) (link : ℕ) (call : List ℕ) (before : Option ℕ) → is_from link from ≡ false → heard_after now from verdict link call before ≡ before
 heard_not now from (Accepted parts line) link call before other = rw other refl
-heard_not now from PassedOver link call before other = refl
-heard_not now from (Refused refusal) link call before other = refl
-heard_not now from (LoggedIn session answer) link call before other = refl
-heard_not now from (Filtered answer) link call before other = refl
+heard_not now from verdict link call before other = refl
 
 -- ---- what every trace keeps
 
@@ -130,8 +123,7 @@ hears_same high t entry live accepted heard hears = record {
 -- what is said isn't from a later link
 from_another : (high link : ℕ) (t : Trace) (from : Source) → AreWithin (live_links t) high → high < link → IsSaidBy t from → is_from link from ≡ false
 from_another high link t (source.Link other) live above said = let within = member_within (live_links t) high other live said in differs_above other link (omega arith)
-from_another high link t (source.Submit listener) live above said = refl
-from_another high link t (source.Peer peer) live above said = refl
+from_another high link t from live above said = refl
 
 hears_said : (high : ℕ) (t : Trace) (from : Source) (cut : Cut) (verdict : Verdict) → IsSaidBy t from → Hears high t → Hears high (Said from cut verdict ∷ t)
 hears_said high t from cut verdict said hears = record {
@@ -144,11 +136,6 @@ hears_said high t from cut verdict said hears = record {
 }
 
 hears_by : (s : Setting) (h : History) (high : ℕ) (t : Trace) (entry : Entry) → MayAdd s h (λ link. ⊥) t entry → Hears high t → Hears high (entry ∷ t)
-hears_by s h high t RoundBegan may hears = hears_same high t RoundBegan hears.live refl (λ link call. refl) hears
-hears_by s h high t (Ticked moment) may hears = hears_same high t (Ticked moment) hears.live refl (λ link call. refl) hears
-hears_by s h high t (Dated moment) may hears = hears_same high t (Dated moment) hears.live refl (λ link call. refl) hears
-hears_by s h high t Looked may hears = hears_same high t Looked hears.live refl (λ link call. refl) hears
-hears_by s h high t (Unjoined uplink) may hears = hears_same high t (Unjoined uplink) hears.live refl (λ link call. refl) hears
 hears_by s h high t (Opened door admission link from) may hears = absurd may
 hears_by s h high t (Brought link bytes) may hears = hears_same high t (Brought link bytes) hears.live refl (λ link call. refl) hears
 hears_by s h high t (Said from cut verdict) may hears = hears_said high t from cut verdict may.0 hears
@@ -156,6 +143,7 @@ hears_by s h high t (Roomed link) may hears = hears_same high t (Roomed link) he
 hears_by s h high t (Took link offered taken) may hears = absurd may
 hears_by s h high t (Lost link) may hears = absurd may
 hears_by s h high t (Ended link reason) may hears = hears_same high t (Ended link reason) (within_filtered (is_other link) (live_links t) high hears.live) refl (λ link call. refl) hears
+hears_by s h high t entry may hears = hears_same high t entry hears.live refl (λ link call. refl) hears
 
 hears_opened : (high k : ℕ) (t : Trace) (door : Door) (admission : Admission) (from : Addr) → high < k → Hears high t → Hears (max k high) (Opened door admission k from ∷ t)
 hears_opened high k t door admission from above hears = record {
@@ -165,10 +153,8 @@ hears_opened high k t door admission from above hears = record {
 }
   where
     opened : (admission : Admission) → AreWithin (opened_link admission k) (max k high)
-    opened NoPort = tt
-    opened TurnedAway = tt
-    opened NotAsked = tt
     opened (Served kind) = (omega arith, tt)
+    opened admission = tt
 
     agrees : (link : ℕ) (call : List ℕ) → (if link == k then None else heard_of t link call) ≡ last_heard (accepted_of t) link call
     agrees link call = ⊎_elim
@@ -179,13 +165,11 @@ hears_opened high k t door admission from above hears = record {
 hears_event : (s : Setting) (h : History) (high : ℕ) (e : Event) (t : Trace) → IfSome (new_link e) (λ link. high < link) → Hears high t → Hears (greater_link (new_link e) high) (with_event s e t)
 hears_event s h high (event.Opened listener link from) t fresh hears = hears_opened high link t (AtListener listener) (admission s t listener) from fresh hears
 hears_event s h high (event.Joined uplink link at) t fresh hears = hears_opened high link t (ByUplink uplink) (joined_admission s t uplink link) at fresh hears
-hears_event s h high (event.Tick moment) t fresh hears = let all = did.Event (event.Tick moment) ∷ h in kept_event s all (λ link. ⊥) (Hears high) (hears_by s all high) h (event.Tick moment) t refl tt hears
 hears_event s h high (event.Bytes link bytes) t fresh hears = let all = did.Event (event.Bytes link bytes) ∷ h in kept_event s all (λ link. ⊥) (Hears high) (hears_by s all high) h (event.Bytes link bytes) t refl tt hears
 hears_event s h high (event.Ended link) t fresh hears = let all = did.Event (event.Ended link) ∷ h in kept_event s all (λ link. ⊥) (Hears high) (hears_by s all high) h (event.Ended link) t refl tt hears
 hears_event s h high (event.Room link) t fresh hears = let all = did.Event (event.Room link) ∷ h in kept_event s all (λ link. ⊥) (Hears high) (hears_by s all high) h (event.Room link) t refl tt hears
 hears_event s h high event.Stop t fresh hears = hears
-hears_event s h high (event.Unjoined uplink) t fresh hears = let all = did.Event (event.Unjoined uplink) ∷ h in kept_event s all (λ link. ⊥) (Hears high) (hears_by s all high) h (event.Unjoined uplink) t refl tt hears
-hears_event s h high (event.Datagram listener from bytes) t fresh hears = let all = did.Event (event.Datagram listener from bytes) ∷ h in kept_event s all (λ link. ⊥) (Hears high) (hears_by s all high) h (event.Datagram listener from bytes) t refl tt hears
+hears_event s h high e t fresh hears = let all = did.Event e ∷ h in kept_event s all (λ link. ⊥) (Hears high) (hears_by s all high) h e t refl tt hears
 
 hears : (s : Setting) (h : History) → HasFreshLinks h → Hears (greatest_link h) (trace_of s h)
 unfolding trace_of
@@ -200,10 +184,7 @@ hears s (did.Event e ∷ h) fresh =
 hears s (did.Sent link bytes (sent.Took n) ∷ h) fresh =
     let before = hears s h fresh in hears_same (greatest_link h) (trace_of s h) (Took link (length bytes) n) before.live refl (λ link call. refl) before
 hears s (did.Sent link bytes sent.Gone ∷ h) fresh = let before = hears s h fresh in hears_same (greatest_link h) (trace_of s h) (Lost link) before.live refl (λ link call. refl) before
-hears s (did.Listen n ∷ h) fresh = hears s h fresh
-hears s (did.Closed link ∷ h) fresh = hears s h fresh
-hears s (did.Dialled uplink ∷ h) fresh = hears s h fresh
-hears s (did.Cast peer bytes ∷ h) fresh = hears s h fresh
+hears s (happening ∷ h) fresh = hears s h fresh
 
 pub heard_is_last_accepted : HeardIsLastAccepted
 heard_is_last_accepted s h later t fresh split link call =

@@ -1,12 +1,7 @@
 -- Lists of numbers: members, and numbers that rise.
 use Rattle.std.proofs.Common.{◌≡◌, ℕ, ◌≤◌, ◌<◌, ◌==◌, Bool, true, false, not, ◌||◌, nat_le, List, [], ◌∷◌, ◌++◌, filter, refl, sym, ap, ◌∙◌, arith, ⊎_elim, cond, eq-eqb, if◌then◌else◌}
 use Rattle.std.proofs.lemmas.Bool.{eqb-true, cases_Bool, false_from_ne_true, true≢false}
-use Rattle.aprs_history.specs.Trace.{is_member, is_other, placed}
-
--- numbers that rise, the first above low and the last not above high
-abbrev pub Rises : ℕ → List ℕ → ℕ → Type 0
-Rises low [] high = low ≤ high
-Rises low (n ∷ ns) high = (low < n) × Rises n ns high
+use Rattle.aprs_history.specs.Trace.{Rises, is_member, is_other, placed}
 
 pub rises_within : (low high : ℕ) (ns : List ℕ) → Rises low ns high → low ≤ high
 rises_within low high [] rises = rises
@@ -35,9 +30,6 @@ rises_filtered p low high (n ∷ ns) rises = of (p n) (rises_filtered p n high n
 pub differs_above : (low n : ℕ) → low < n → (n == low) ≡ false
 differs_above low n above = false_from_ne_true _ (λ is. let same : n ≡ low = eqb-true n low is in absurd (omega arith))
 
-pub differs_below : (low n : ℕ) → low < n → (low == n) ≡ false
-differs_below low n above = false_from_ne_true _ (λ is. let same : low ≡ n = eqb-true low n is in absurd (omega arith))
-
 -- numbers above one are others than it
 others_left : (k low high : ℕ) (ns : List ℕ) → k ≤ low → Rises low ns high → filter (is_other k) ns ≡ ns
 others_left k low high [] le rises = refl
@@ -50,14 +42,6 @@ first_left low high k ns rises =
     ap (λ b. cond (not b) (k ∷ filter (is_other k) ns) (filter (is_other k) ns)) (eq-eqb k k refl) ∙ others_left k k high ns (omega arith) rises.1
 
 -- ---- members
-
-pub or_true : (a b : Bool) → b ≡ true → (a || b) ≡ true
-or_true true b is = refl
-or_true false b is = is
-
-pub or_false : (a b : Bool) → (a || b) ≡ false → (a ≡ false) × (b ≡ false)
-or_false true b is = absurd (true≢false is)
-or_false false b is = (refl, is)
 
 pub member_first : (k : ℕ) (ks : List ℕ) → is_member k (k ∷ ks) ≡ true
 member_first k ks = ap (λ b. b || is_member k ks) (eq-eqb k k refl)

@@ -1,9 +1,9 @@
 -- A promise stands exactly where a message made it and nothing since has renewed or ended it.
 use Rattle.std.proofs.Common.{◌≡◌, ℕ, ◌&&◌, Bool, true, false, List, [], ◌∷◌, ◌++◌, refl, sym, ap, ◌∙◌, subst, Option, Some, None, ⊎_elim, if◌then◌else◌}
 use Rattle.std.proofs.lemmas.Bool.{cases_Bool}
-use Rattle.aprs_history.specs.declared.verdicts.Verdict.TheVariants.{PassedOver, Refused, LoggedIn, Filtered, Accepted}
+use Rattle.aprs_history.specs.declared.verdicts.Verdict.TheVariants.{Accepted}
 use Rattle.dupe_window.specs.Keys.{is_text}
-use Rattle.aprs_history.specs.Trace.{Trace, Entry, RoundBegan, Dated, Looked, Unjoined, Ticked, Opened, Brought, Said, Roomed, Took, Lost, Ended, moment_of}
+use Rattle.aprs_history.specs.Trace.{Trace, Entry, Opened, Said, moment_of}
 use Rattle.aprs_history.specs.Scenes.{packet_of}
 use Rattle.aprs_history.specs.Messages.{is_position, promise_after, promise_of, promises}
 use Rattle.aprs_history.specs.MessageRule.{IsPromised, LeavesPromise, PromisesAreOwed, ends_promise, is_routed_message}
@@ -19,21 +19,9 @@ promise_by_entry : (t : Trace) (entry : Entry) (link : ℕ) (sender : List ℕ)
 promise_by_entry t (Said from cut (Accepted parts line)) link sender =
     let packet = packet_of from (moment_of t) parts line in
     said_so (is_text sender parts.source) (promises t packet link) (is_position packet) (moment_of t) (promise_of t link sender)
-promise_by_entry t (Said from cut PassedOver) link sender = refl
-promise_by_entry t (Said from cut (Refused refusal)) link sender = refl
-promise_by_entry t (Said from cut (LoggedIn session answer)) link sender = refl
-promise_by_entry t (Said from cut (Filtered answer)) link sender = refl
+promise_by_entry t (Said from cut verdict) link sender = refl
 promise_by_entry t (Opened door admission opened from) link sender = refl
-promise_by_entry t RoundBegan link sender = refl
-promise_by_entry t (Ticked moment) link sender = refl
-promise_by_entry t (Dated moment) link sender = refl
-promise_by_entry t Looked link sender = refl
-promise_by_entry t (Unjoined uplink) link sender = refl
-promise_by_entry t (Brought from bytes) link sender = refl
-promise_by_entry t (Roomed roomed) link sender = refl
-promise_by_entry t (Took by offered taken) link sender = refl
-promise_by_entry t (Lost lost) link sender = refl
-promise_by_entry t (Ended ended reason) link sender = refl
+promise_by_entry t entry link sender = refl
 
 module _ (link : ℕ) (sender : List ℕ) where
   made : (t : Trace) (entry : Entry) → is_routed_message t entry link sender ≡ true → promise_of (entry ∷ t) link sender ≡ Some (moment_of t)

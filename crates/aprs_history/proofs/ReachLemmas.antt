@@ -4,7 +4,7 @@ use Rattle.std.specs.Bool.{⊤}
 use Rattle.std.specs.List.{All}
 use Rattle.std.proofs.Math.Nat.{mod-lt}
 use Rattle.std.specs.Option.{option_map}
-use Rattle.std.proofs.lemmas.Bool.{eqb-true, ltb-true, true≢false}
+use Rattle.std.proofs.lemmas.Bool.{and_parts, eqb-true, ltb-true, true≢false}
 use Rattle.std.proofs.lemmas.List.Elements.{All-nil, All-weaker}
 use Rattle.aprs_base.specs.Outside.{new_link}
 use Rattle.aprs_base.specs.PacketSeen.{PacketSeen}
@@ -29,7 +29,7 @@ use Rattle.uplinks_peers.specs.declared.uplinks.UpEvent.TheVariants as up
 use Rattle.uplinks_peers.specs.Uplinks.{Row, UplinksSeen, acts_at, close_of, dialling, ended_at, first_row, is_due, is_rested, is_silent, link_of, no_acts, row, uplinks_after}
 use Rattle.uplinks_peers.specs.Uplinks as table
 use Rattle.aprs_history.specs.declared.verdicts.Admission.{Admission}
-use Rattle.aprs_history.specs.declared.verdicts.Admission.TheVariants.{NoPort, NotAsked, TurnedAway, Served}
+use Rattle.aprs_history.specs.declared.verdicts.Admission.TheVariants.{Served}
 use Rattle.aprs_history.specs.declared.verdicts.LinkKind.{LinkKind}
 use Rattle.aprs_history.specs.declared.verdicts.LinkKind.TheVariants.{Client, Uplink}
 use Rattle.aprs_history.specs.declared.verdicts.Refusal.{Refusal}
@@ -38,17 +38,17 @@ use Rattle.aprs_history.specs.declared.verdicts.Session.{Session}
 use Rattle.aprs_history.specs.declared.verdicts.Verdict.{Verdict}
 use Rattle.aprs_history.specs.declared.verdicts.Verdict.TheVariants.{PassedOver, Refused, LoggedIn, Filtered, Accepted}
 use Rattle.aprs_history.specs.Setting.{Peer, Setting}
-use Rattle.aprs_history.specs.Trace.{Trace, AtListener, ByUplink, Door, Entry, RoundBegan, Dated, Looked, Unjoined, Ticked, Opened, Brought, Said, Roomed, Took, Lost, Ended, closed_links, is_from, is_live, moment_of}
+use Rattle.aprs_history.specs.Trace.{Trace, AtListener, ByUplink, Door, Entry, RoundBegan, Dated, Looked, Unjoined, Opened, Brought, Said, Took, Lost, Ended, closed_links, is_from, is_live, moment_of}
 use Rattle.aprs_history.specs.declared.verdicts.EndReason.TheVariants.{ByStop}
 use Rattle.aprs_history.specs.Links.{Opening, is_client, is_client_link, is_client_of, is_submitted, opening_by, opening_of, session_of, taken_by}
-use Rattle.aprs_history.specs.Verdicts.{Carrier, Scene, carried_verdict, is_comment, is_duplicate, packet_verdict, read_and_routed, routed, verdict_of}
+use Rattle.aprs_history.specs.Verdicts.{Carrier, Scene, carried_verdict, is_comment, packet_verdict, read_and_routed, routed, verdict_of}
 use Rattle.aprs_history.specs.Scenes.{packet_of, scene_of, speaker_by, speaker_of}
 use Rattle.aprs_history.specs.Sights.{filter_passes}
 use Rattle.aprs_history.specs.Messages.{is_asked}
 use Rattle.aprs_history.specs.Dials.{CastSeen, cast_by, casts_of, casts_to, dial_of, joined_by, uplinks_of}
-use Rattle.aprs_history.specs.Texts.{Banner, Comment, LineKind, Login, Relayed, Reply, Shown, Text, TextLine, added_by, comment_line, filter_reply, first_line, first_lines, is_dupe_of, is_shown, link_wants, login_filter_reply, login_reply, opening_wants, refusal_reply, refused_lines, relayed, reply_lines, reply_of, shown, shows_duplicates, text_to, wants}
+use Rattle.aprs_history.specs.Texts.{LineKind, Login, Relayed, Text, TextLine, added_by, comment_line, filter_reply, first_line, first_lines, is_dupe_of, is_shown, link_wants, login_filter_reply, login_reply, opening_wants, refusal_reply, refused_lines, relayed, reply_lines, reply_of, shown, shows_duplicates, text_to, wants}
 use Rattle.aprs_history.specs.History.{History, ends_round, is_stopped, open_events, trace_of}
-use Rattle.aprs_history.specs.Acts.{Act, Listens, Dials, Casts, Offers, Closes, MayCome, acts_after, but_first, cast_act, dials, due, listens_from, offer_to, offered_links}
+use Rattle.aprs_history.specs.Acts.{Act, Dials, Casts, Closes, MayCome, acts_after, but_first, cast_act, dials, due, listens_from, offer_to, offered_links}
 use Rattle.aprs_history.specs.Headline.{DialsAreOfUplinks, IsForPeer, IsForUplink, IsLineForUplink, PeersGetSubmissions, UplinksGetSubmissions, WasSubmitted, is_round_start}
 use Rattle.aprs_history.proofs.EntryLemmas.{IsJudged, MayAdd, any_link, kept_after}
 use Rattle.aprs_history.proofs.HeadlineLemmas.{if_all, line_alone, lines_all, run_before}
@@ -145,37 +145,18 @@ carried_unanswered scene by (cut.Line text) is = rw is (of (is_comment text))
 
 -- ---- the text of an uplink
 
-and_last : (a b c : Bool) → (a && b && c) ≡ true → c ≡ true
-and_last true true c is = is
-and_last true false c is = absurd (true≢false (sym is))
-and_last false b c is = absurd (true≢false (sym is))
-
-and_first : (a b : Bool) → (a && b) ≡ true → a ≡ true
-and_first true b is = refl
-and_first false b is = absurd (true≢false (sym is))
-
-and_second : (a b : Bool) → (a && b) ≡ true → b ≡ true
-and_second true b is = is
-and_second false b is = absurd (true≢false (sym is))
-
 line_later : (s : Setting) (t : Trace) (entry : Entry) (kind : LineKind) (line : List ℕ) → IsLineForUplink s t kind line → IsLineForUplink s (entry ∷ t) kind line
 line_later s t entry Login line is = is
 line_later s t entry (Relayed packet) line is = (is.0, later_submitted t entry packet is.1)
-line_later s t entry Banner line is = absurd is
-line_later s t entry Reply line is = absurd is
-line_later s t entry Comment line is = absurd is
-line_later s t entry (Shown packet) line is = absurd is
+line_later s t entry kind line is = absurd is
 
 module _ (s : Setting) (link : ℕ) where
   lines_later : (t : Trace) (entry : Entry) (lines : List TextLine) → All (IsForUplink s t) lines → All (IsForUplink s (entry ∷ t)) lines
   lines_later t entry lines all = All-weaker (IsForUplink s t) (IsForUplink s (entry ∷ t)) (λ text is. line_later s t entry text.kind text.line is) lines all
 
   first_all : (t : Trace) (admission : Admission) (from : Addr) (moment : ℕ) → is_uplink (opening_by admission from moment) ≡ true → All (IsForUplink s t) (first_lines s admission)
-  first_all t NoPort from moment is = absurd (true≢false (sym is))
-  first_all t TurnedAway from moment is = absurd (true≢false (sym is))
-  first_all t NotAsked from moment is = absurd (true≢false (sym is))
-  first_all t (Served (Client port)) from moment is = absurd (true≢false (sym is))
   first_all t (Served (Uplink uplink)) from moment is = line_alone (IsForUplink s t) (first_line s (Uplink uplink)) refl
+  first_all t admission from moment is = absurd (true≢false (sym is))
 
   -- its own lines have no reply
   own_unanswered : (t : Trace) (from : Source) (said : Cut) (verdict : Verdict) → is_uplink (opening_of t link) ≡ true → IsJudged s t from said verdict → is_from link from ≡ true → IsUnanswered verdict
@@ -183,8 +164,7 @@ module _ (s : Setting) (link : ℕ) where
       let same : link ≡ other = eqb-true link other is in
       let speaks = uplink_speaks (opening_of t link) (session_of t link) up in
       subst IsUnanswered (sym (judged ∙ ap (λ k. verdict_of (scene_of s t k) said) (sym same))) (carried_unanswered (scene_of s t link) speaks.0 said speaks.1)
-  own_unanswered t (source.Submit listener) said verdict up judged is = absurd (true≢false (sym is))
-  own_unanswered t (source.Peer peer) said verdict up judged is = absurd (true≢false (sym is))
+  own_unanswered t from said verdict up judged is = absurd (true≢false (sym is))
 
   module _ (t : Trace) (from : Source) (said : Cut) (up : is_uplink (opening_of t link) ≡ true) where
     refused_all : (why : Refusal) → IsJudged s t from said (Refused why) → All (IsForUplink s (Said from said (Refused why) ∷ t)) (refused_lines t from why link)
@@ -193,7 +173,7 @@ module _ (s : Setting) (link : ℕ) where
         let u = Said from said (Refused (refusal.Duplicate parts line)) ∷ t in
         if_all (IsForUplink s u) (is_shown t from link) (shown packet ∷ [])
         (λ is.
-        let shows = and_last (not (is_from link from)) (is_live t link) (shows_duplicates (opening_of t link) (session_of t link)) is in
+        let shows = (and_parts (not (is_from link from) && is_live t link) (shows_duplicates (opening_of t link) (session_of t link)) is).1 in
         absurd (true≢false (sym shows ∙ uplink_shows (opening_of t link) (session_of t link) up)))
     refused_all (refusal.Login why) judged =
         let verdict = Refused (refusal.Login why) in
@@ -201,11 +181,7 @@ module _ (s : Setting) (link : ℕ) where
     refused_all refusal.OwnName judged =
         let verdict = Refused refusal.OwnName in
         if_all (IsForUplink s (Said from said verdict ∷ t)) (is_from link from) (reply_lines (refusal_reply refusal.OwnName)) (λ is. absurd (own_unanswered t from said verdict up judged is))
-    refused_all refusal.Long judged = let u = Said from said (Refused refusal.Long) ∷ t in if_all (IsForUplink s u) (is_from link from) [] (λ is. All-nil (IsForUplink s u))
-    refused_all refusal.ReadOnly judged = let u = Said from said (Refused refusal.ReadOnly) ∷ t in if_all (IsForUplink s u) (is_from link from) [] (λ is. All-nil (IsForUplink s u))
-    refused_all refusal.Stranger judged = let u = Said from said (Refused refusal.Stranger) ∷ t in if_all (IsForUplink s u) (is_from link from) [] (λ is. All-nil (IsForUplink s u))
-    refused_all (refusal.Packet why) judged = let u = Said from said (Refused (refusal.Packet why)) ∷ t in if_all (IsForUplink s u) (is_from link from) [] (λ is. All-nil (IsForUplink s u))
-    refused_all (refusal.Path why) judged = let u = Said from said (Refused (refusal.Path why)) ∷ t in if_all (IsForUplink s u) (is_from link from) [] (λ is. All-nil (IsForUplink s u))
+    refused_all other judged = let u = Said from said (Refused other) ∷ t in if_all (IsForUplink s u) (is_from link from) [] (λ is. All-nil (IsForUplink s u))
 
     added_all : (verdict : Verdict) → IsJudged s t from said verdict → All (IsForUplink s (Said from said verdict ∷ t)) (added_by s t from verdict link)
     added_all PassedOver judged = All-nil (IsForUplink s (Said from said PassedOver ∷ t))
@@ -224,7 +200,7 @@ module _ (s : Setting) (link : ℕ) where
         let asked = filter_passes t packet link || is_asked t packet link in
         if_all (IsForUplink s u) (wants t packet link) (relayed packet ∷ [])
         (λ is.
-        let wanted = and_last (not (is_from link from)) (is_live t link) (opening_wants (opening_of t link) named (is_submitted t from) asked) is in
+        let wanted = (and_parts (not (is_from link from) && is_live t link) (opening_wants (opening_of t link) named (is_submitted t from) asked) is).1 in
         let submitted = sym (uplink_wants (opening_of t link) named (is_submitted t from) asked up) ∙ wanted in
         line_alone (IsForUplink s u) (relayed packet) (refl, now_submitted t from said parts line submitted))
 
@@ -256,22 +232,16 @@ module _ (s : Setting) (link : ℕ) where
       let comment = comment_line s.server moment in
       lines_all (IsForUplink s u) (taken_by t link) (if is_client t link then comment ∷ [] else []) (text_to s t link)
       (if_all (IsForUplink s u) (is_client t link) (comment ∷ [])
-      (λ is. absurd (true≢false (sym (and_second (is_live t link) (is_client_link (opening_of t link)) is) ∙ uplink_is_no_client (opening_of t link) up))))
+      (λ is. absurd (true≢false (sym (and_parts (is_live t link) (is_client_link (opening_of t link)) is).1 ∙ uplink_is_no_client (opening_of t link) up))))
       (lines_later t (Dated moment) (text_to s t link).lines (kept up))
 
   kept_by : (h : History) (t : Trace) (entry : Entry) → MayAdd s h (λ k. ⊤) t entry → Kept t → Kept (entry ∷ t)
-  kept_by h t RoundBegan may kept = kept_same t RoundBegan refl refl kept
-  kept_by h t (Ticked moment) may kept = kept_same t (Ticked moment) refl refl kept
   kept_by h t (Opened door admission opened from) may kept = kept_opened t door admission opened from kept
-  kept_by h t (Brought from bytes) may kept = kept_same t (Brought from bytes) refl refl kept
   kept_by h t (Said from said verdict) may kept = kept_said t from said verdict may.1 kept
-  kept_by h t (Roomed roomed) may kept = kept_same t (Roomed roomed) refl refl kept
   kept_by h t (Took by offered taken) may kept = absurd may
   kept_by h t (Lost lost) may kept = absurd may
-  kept_by h t (Ended ended reason) may kept = kept_same t (Ended ended reason) refl refl kept
   kept_by h t (Dated moment) may kept = kept_dated t moment kept
-  kept_by h t Looked may kept = kept_same t Looked refl refl kept
-  kept_by h t (Unjoined uplink) may kept = kept_same t (Unjoined uplink) refl refl kept
+  kept_by h t entry may kept = kept_same t entry refl refl kept
 
   kept : (h : History) → Kept (trace_of s h)
   unfolding trace_of
@@ -280,10 +250,7 @@ module _ (s : Setting) (link : ℕ) where
       kept_after s h e (λ k. ⊤) Kept (kept_by (did.Event e ∷ h)) (λ t k stopped before. kept_same t (Ended k ByStop) refl refl before) (any_link (new_link e)) (kept h) up
   kept (did.Sent to bytes (sent.Took n) ∷ h) up = kept_same (trace_of s h) (Took to (length bytes) n) refl refl (kept h) up
   kept (did.Sent to bytes sent.Gone ∷ h) up = kept_same (trace_of s h) (Lost to) refl refl (kept h) up
-  kept (did.Listen n ∷ h) up = kept h up
-  kept (did.Closed closed ∷ h) up = kept h up
-  kept (did.Dialled uplink ∷ h) up = kept h up
-  kept (did.Cast peer bytes ∷ h) up = kept h up
+  kept (happening ∷ h) up = kept h up
 
 pub uplinks_get_submissions : UplinksGetSubmissions
 uplinks_get_submissions s h link uplink at moment opening = kept s link h (ap is_uplink opening)
@@ -323,10 +290,7 @@ peers_said t peers from said (Accepted parts line) true is =
     peers_each (length peers) (Said from said (Accepted parts line) ∷ t) 0 peers line (omega arith)
     (record { packet = packet_of from (moment_of t) parts line; its = refl; submitted = now_submitted t from said parts line is; same_round = refl })
 peers_said t peers from said (Accepted parts line) false is = tt
-peers_said t peers from said PassedOver submitted is = tt
-peers_said t peers from said (Refused why) submitted is = tt
-peers_said t peers from said (LoggedIn session answer) submitted is = tt
-peers_said t peers from said (Filtered answer) submitted is = tt
+peers_said t peers from said verdict submitted is = tt
 
 for_peers : (s : Setting) (t : Trace) → AreForPeers (length s.peers) t (casts_of s t)
 for_peers s [] = tt
@@ -335,16 +299,7 @@ for_peers s (Said from said verdict ∷ t) =
     let entry = Said from said verdict in
     peers_both (length s.peers) (entry ∷ t) (casts_of s t) (cast_by s.peers (is_submitted t from) verdict) (peers_later (length s.peers) t entry (casts_of s t) refl (for_peers s t))
     (peers_said t s.peers from said verdict (is_submitted t from) refl)
-for_peers s (Ticked moment ∷ t) = peers_later (length s.peers) t (Ticked moment) (casts_of s t) refl (for_peers s t)
-for_peers s (Opened door admission opened from ∷ t) = peers_later (length s.peers) t (Opened door admission opened from) (casts_of s t) refl (for_peers s t)
-for_peers s (Brought from bytes ∷ t) = peers_later (length s.peers) t (Brought from bytes) (casts_of s t) refl (for_peers s t)
-for_peers s (Roomed roomed ∷ t) = peers_later (length s.peers) t (Roomed roomed) (casts_of s t) refl (for_peers s t)
-for_peers s (Took by offered taken ∷ t) = peers_later (length s.peers) t (Took by offered taken) (casts_of s t) refl (for_peers s t)
-for_peers s (Lost lost ∷ t) = peers_later (length s.peers) t (Lost lost) (casts_of s t) refl (for_peers s t)
-for_peers s (Ended ended reason ∷ t) = peers_later (length s.peers) t (Ended ended reason) (casts_of s t) refl (for_peers s t)
-for_peers s (Dated moment ∷ t) = peers_later (length s.peers) t (Dated moment) (casts_of s t) refl (for_peers s t)
-for_peers s (Looked ∷ t) = peers_later (length s.peers) t Looked (casts_of s t) refl (for_peers s t)
-for_peers s (Unjoined uplink ∷ t) = peers_later (length s.peers) t (Unjoined uplink) (casts_of s t) refl (for_peers s t)
+for_peers s (entry ∷ t) = peers_later (length s.peers) t entry (casts_of s t) refl (for_peers s t)
 
 -- ---- dials
 
@@ -369,9 +324,7 @@ uplinks_step : (n : ℕ) (happened : UpEvent) (now : ℕ) (seen : UplinksSeen) �
 uplinks_step n up.Tick now seen are =
     uplinks_row n seen (table.rows up.Tick now seen) are (are, ((are.0, λ above. subst (λ count. (seen.next + 1) % count < n) (sym are.0) (mod-lt (seen.next + 1) above)), tt))
 uplinks_step n (up.Joined uplink link) now seen are = uplinks_row n seen (table.rows (up.Joined uplink link) now seen) are (are, (are, tt))
-uplinks_step n (up.Unjoined uplink) now seen are = uplinks_row n seen (table.rows (up.Unjoined uplink) now seen) are (are, tt)
-uplinks_step n (up.Heard link) now seen are = uplinks_row n seen (table.rows (up.Heard link) now seen) are (are, tt)
-uplinks_step n (up.Ended link) now seen are = uplinks_row n seen (table.rows (up.Ended link) now seen) are (are, tt)
+uplinks_step n step now seen are = uplinks_row n seen (table.rows step now seen) are (are, tt)
 
 uplinks_joined : (n : ℕ) (door : Door) (link now : ℕ) (seen : UplinksSeen) → AreUplinks n seen → AreUplinks n (joined_by door link now seen)
 uplinks_joined n (AtListener listener) link now seen are = are
@@ -384,13 +337,7 @@ uplinks_within s (Opened door admission link from ∷ t) = uplinks_joined (lengt
 uplinks_within s (Unjoined uplink ∷ t) = uplinks_step (length s.uplinks) (up.Unjoined uplink) (moment_of t) (uplinks_of s t) (uplinks_within s t)
 uplinks_within s (Brought link bytes ∷ t) = uplinks_step (length s.uplinks) (up.Heard link) (moment_of t) (uplinks_of s t) (uplinks_within s t)
 uplinks_within s (Ended link reason ∷ t) = uplinks_step (length s.uplinks) (up.Ended link) (moment_of t) (uplinks_of s t) (uplinks_within s t)
-uplinks_within s (RoundBegan ∷ t) = uplinks_within s t
-uplinks_within s (Ticked moment ∷ t) = uplinks_within s t
-uplinks_within s (Said from said verdict ∷ t) = uplinks_within s t
-uplinks_within s (Roomed link ∷ t) = uplinks_within s t
-uplinks_within s (Took link offered taken ∷ t) = uplinks_within s t
-uplinks_within s (Lost link ∷ t) = uplinks_within s t
-uplinks_within s (Dated moment ∷ t) = uplinks_within s t
+uplinks_within s (entry ∷ t) = uplinks_within s t
 
 no_dial : (uplink : ℕ) → None ≡ Some uplink → ⊥
 no_dial uplink e = cc
@@ -403,7 +350,7 @@ tick_dials n now seen uplink are is = of (is_silent seen.timeout now seen.joined
     of true due e is = absurd (no_dial uplink is)
     of false false e is = absurd (no_dial uplink is)
     of false true e is =
-        let some : 0 < seen.count = ltb-true 0 seen.count (and_first (nat_lt 0 seen.count) (is_none seen.dialled && (is_none seen.joined && is_rested now seen.tried)) e) in
+        let some : 0 < seen.count = ltb-true 0 seen.count (and_parts (nat_lt 0 seen.count) (is_none seen.dialled && (is_none seen.joined && is_rested now seen.tried)) e).0 in
         let same : seen.next ≡ uplink = cc in
         subst (λ k. k < n) same (are.1 (subst (λ count. 0 < count) are.0 some))
 
@@ -411,16 +358,7 @@ pub dial_within : (s : Setting) (t : Trace) (uplink : ℕ) → dial_of s t ≡ S
 dial_within s [] uplink is = absurd (no_dial uplink is)
 dial_within s (RoundBegan ∷ t) uplink is = absurd (no_dial uplink is)
 dial_within s (Looked ∷ t) uplink is = tick_dials (length s.uplinks) (moment_of t) (uplinks_of s t) uplink (uplinks_within s t) is
-dial_within s (Opened door admission link from ∷ t) uplink is = dial_within s t uplink is
-dial_within s (Unjoined other ∷ t) uplink is = dial_within s t uplink is
-dial_within s (Brought link bytes ∷ t) uplink is = dial_within s t uplink is
-dial_within s (Ended link reason ∷ t) uplink is = dial_within s t uplink is
-dial_within s (Ticked moment ∷ t) uplink is = dial_within s t uplink is
-dial_within s (Said from said verdict ∷ t) uplink is = dial_within s t uplink is
-dial_within s (Roomed link ∷ t) uplink is = dial_within s t uplink is
-dial_within s (Took link offered taken ∷ t) uplink is = dial_within s t uplink is
-dial_within s (Lost link ∷ t) uplink is = dial_within s t uplink is
-dial_within s (Dated moment ∷ t) uplink is = dial_within s t uplink is
+dial_within s (entry ∷ t) uplink is = dial_within s t uplink is
 
 -- ---- dials and casts that are due
 
@@ -432,27 +370,21 @@ abbrev ReachStands : Setting → Trace → List Act → Type 0
 ReachStands s t [] = ⊤
 ReachStands s t (Dials uplink ∷ acts) = (uplink < length s.uplinks) × ReachStands s t acts
 ReachStands s t (Casts peer bytes ∷ acts) = ((peer < length s.peers) × IsDatagram t bytes) × ReachStands s t acts
-ReachStands s t (Listens n ∷ acts) = ReachStands s t acts
-ReachStands s t (Offers link bytes ∷ acts) = ReachStands s t acts
-ReachStands s t (Closes link ∷ acts) = ReachStands s t acts
+ReachStands s t (act ∷ acts) = ReachStands s t acts
 
 module _ (s : Setting) (t : Trace) where
   reach_next : (acts : List Act) → ReachStands s t acts → ReachStands s t (but_first acts)
   reach_next [] stand = stand
   reach_next (Dials uplink ∷ acts) stand = stand.1
   reach_next (Casts peer bytes ∷ acts) stand = stand.1
-  reach_next (Listens n ∷ acts) stand = stand
-  reach_next (Offers link bytes ∷ acts) stand = stand
-  reach_next (Closes link ∷ acts) stand = stand
+  reach_next (act ∷ acts) stand = stand
 
   reach_later : (entry : Entry) (acts : List Act) → is_round_start entry ≡ false → ReachStands s t acts → ReachStands s (entry ∷ t) acts
   reach_later entry [] same stand = tt
   reach_later entry (Dials uplink ∷ acts) same stand = (stand.0, reach_later entry acts same stand.1)
   reach_later entry (Casts peer bytes ∷ acts) same stand =
       let datagram = stand.0.1 in ((stand.0.0, (datagram.0, datagram.1, peer_later t entry datagram.0 same datagram.2)), reach_later entry acts same stand.1)
-  reach_later entry (Listens n ∷ acts) same stand = reach_later entry acts same stand
-  reach_later entry (Offers link bytes ∷ acts) same stand = reach_later entry acts same stand
-  reach_later entry (Closes link ∷ acts) same stand = reach_later entry acts same stand
+  reach_later entry (act ∷ acts) same stand = reach_later entry acts same stand
 
   reach_listens : (n : ℕ) (listens : List ListenSpec) → ReachStands s t (listens_from n listens)
   reach_listens n [] = tt
@@ -488,27 +420,18 @@ reach_stands s (did.Event e ∷ h) = reach_after s (trace_of s (did.Event e ∷ 
 reach_stands s (did.Sent link bytes (sent.Took n) ∷ h) =
     let t = trace_of s h in reach_later s t (Took link (length bytes) n) (but_first (due s h)) refl (reach_next s t (due s h) (reach_stands s h))
 reach_stands s (did.Sent link bytes sent.Gone ∷ h) = let t = trace_of s h in reach_later s t (Lost link) (but_first (due s h)) refl (reach_next s t (due s h) (reach_stands s h))
-reach_stands s (did.Listen n ∷ h) = reach_next s (trace_of s h) (due s h) (reach_stands s h)
-reach_stands s (did.Closed link ∷ h) = reach_next s (trace_of s h) (due s h) (reach_stands s h)
-reach_stands s (did.Dialled uplink ∷ h) = reach_next s (trace_of s h) (due s h) (reach_stands s h)
-reach_stands s (did.Cast peer bytes ∷ h) = reach_next s (trace_of s h) (due s h) (reach_stands s h)
+reach_stands s (happening ∷ h) = reach_next s (trace_of s h) (due s h) (reach_stands s h)
 
 module _ (s : Setting) (t : Trace) where
   cast_due : (acts : List Act) (stopped : Bool) (peer : ℕ) (bytes : List ℕ) → MayCome acts stopped (did.Cast peer bytes) → ReachStands s t acts → (peer < length s.peers) × IsDatagram t bytes
   cast_due [] stopped peer bytes may stand = absurd may.1
   cast_due (Casts to given ∷ acts) stopped peer bytes may stand = (subst (λ k. k < length s.peers) (sym may.0) stand.0.0, subst (IsDatagram t) (sym may.1) stand.0.1)
-  cast_due (Listens n ∷ acts) stopped peer bytes may stand = absurd may
-  cast_due (Dials uplink ∷ acts) stopped peer bytes may stand = absurd may
-  cast_due (Offers link given ∷ acts) stopped peer bytes may stand = absurd may
-  cast_due (Closes link ∷ acts) stopped peer bytes may stand = absurd may
+  cast_due (act ∷ acts) stopped peer bytes may stand = absurd may
 
   dialled_due : (acts : List Act) (stopped : Bool) (uplink : ℕ) → MayCome acts stopped (did.Dialled uplink) → ReachStands s t acts → uplink < length s.uplinks
   dialled_due [] stopped uplink may stand = absurd may.1
   dialled_due (Dials other ∷ acts) stopped uplink may stand = subst (λ k. k < length s.uplinks) (sym may) stand.0
-  dialled_due (Listens n ∷ acts) stopped uplink may stand = absurd may
-  dialled_due (Casts to given ∷ acts) stopped uplink may stand = absurd may
-  dialled_due (Offers link given ∷ acts) stopped uplink may stand = absurd may
-  dialled_due (Closes link ∷ acts) stopped uplink may stand = absurd may
+  dialled_due (act ∷ acts) stopped uplink may stand = absurd may
 
 pub peers_get_submissions : PeersGetSubmissions
 peers_get_submissions s later earlier peer bytes run =

@@ -57,11 +57,7 @@ unfoldable pub due : Setting → History → List Act
 due setting [] = listens_from 0 setting.listens
 due setting (did.Event e ∷ earlier) =
     if ends_round (open_events earlier) e then acts_after setting (trace_of setting (did.Event e ∷ earlier)) else []
-due setting (did.Sent link bytes outcome ∷ earlier) = but_first (due setting earlier)
-due setting (did.Listen n ∷ earlier) = but_first (due setting earlier)
-due setting (did.Closed link ∷ earlier) = but_first (due setting earlier)
-due setting (did.Dialled uplink ∷ earlier) = but_first (due setting earlier)
-due setting (did.Cast peer bytes ∷ earlier) = but_first (due setting earlier)
+due setting (happening ∷ earlier) = but_first (due setting earlier)
 
 -- a happening is what an act asks for
 abbrev pub Fulfils : Act → Happening → Type 0

@@ -1,5 +1,5 @@
 -- What a history counts: packets that are accepted, duplicates, what else is refused, and the packet lines in the texts of links.
-use Rattle.std.specs.Prelude.{ℕ, ◌+◌, ◌-◌, ◌^◌, Bool, true, false, nat_lt, List, [], ◌∷◌, length, filter, min, Option, Some, None}
+use Rattle.std.specs.Prelude.{ℕ, ◌+◌, ◌-◌, ◌^◌, Bool, true, false, List, [], ◌∷◌, length, filter, min, Option, Some, None}
 use Rattle.aprs_base.specs.declared.totals.Totals.{Totals}
 use Rattle.aprs_base.specs.declared.events.Happening.TheVariants as did
 use Rattle.aprs_base.specs.declared.events.Sent.TheVariants as sent
@@ -8,10 +8,10 @@ use Rattle.aprs_history.specs.declared.verdicts.FilterAnswer.TheVariants.{Active
 use Rattle.aprs_history.specs.declared.verdicts.Refusal.{Refusal}
 use Rattle.aprs_history.specs.declared.verdicts.Refusal.TheVariants as refusal
 use Rattle.aprs_history.specs.declared.verdicts.Verdict.{Verdict}
-use Rattle.aprs_history.specs.declared.verdicts.Verdict.TheVariants.{PassedOver, Refused, LoggedIn, Filtered, Accepted}
+use Rattle.aprs_history.specs.declared.verdicts.Verdict.TheVariants.{Refused, LoggedIn, Filtered, Accepted}
 use Rattle.aprs_history.specs.Setting.{Setting}
 use Rattle.aprs_history.specs.Trace.{Trace, Entry, Said, live_links}
-use Rattle.aprs_history.specs.Texts.{Text, TextLine, LineKind, Banner, Login, Reply, Comment, Relayed, Shown, text_to}
+use Rattle.aprs_history.specs.Texts.{Text, TextLine, LineKind, Relayed, Shown, text_to}
 use Rattle.aprs_history.specs.History.{History}
 
 -- ---- verdicts
@@ -23,22 +23,16 @@ verdicts_in (Said from cut verdict ∷ earlier) = verdict ∷ verdicts_in earlie
 verdicts_in (entry ∷ earlier) = verdicts_in earlier
 
 abbrev pub is_accepted : Verdict → Bool
-is_accepted PassedOver = false
-is_accepted (Refused why) = false
-is_accepted (LoggedIn session answer) = false
-is_accepted (Filtered answer) = false
 is_accepted (Accepted parts line) = true
+is_accepted verdict = false
 
 abbrev pub is_duplicate_refusal : Refusal → Bool
 is_duplicate_refusal (refusal.Duplicate parts line) = true
 is_duplicate_refusal why = false
 
 abbrev pub is_duplicate : Verdict → Bool
-is_duplicate PassedOver = false
 is_duplicate (Refused why) = is_duplicate_refusal why
-is_duplicate (LoggedIn session answer) = false
-is_duplicate (Filtered answer) = false
-is_duplicate (Accepted parts line) = false
+is_duplicate verdict = false
 
 abbrev pub is_denied : FilterAnswer → Bool
 is_denied (Active terms reply) = false
@@ -54,11 +48,10 @@ is_login_denied (Some answer) = is_denied answer
 
 -- refused for any other reason: a line, a datagram, or a filter, also that of a login
 abbrev pub is_refused : Verdict → Bool
-is_refused PassedOver = false
 is_refused (Refused why) = is_other_refusal why
 is_refused (LoggedIn session answer) = is_login_denied answer
 is_refused (Filtered answer) = is_denied answer
-is_refused (Accepted parts line) = false
+is_refused verdict = false
 
 -- how many verdicts are so
 abbrev pub counted : (Verdict → Bool) → Trace → ℕ
@@ -67,12 +60,9 @@ counted test trace = length (filter test (verdicts_in trace))
 -- ---- packet lines in the texts of links
 
 abbrev pub is_packet_kind : LineKind → Bool
-is_packet_kind Banner = false
-is_packet_kind Login = false
-is_packet_kind Reply = false
-is_packet_kind Comment = false
 is_packet_kind (Relayed packet) = true
 is_packet_kind (Shown packet) = true
+is_packet_kind kind = false
 
 abbrev pub is_packet_line : TextLine → Bool
 is_packet_line text = is_packet_kind text.kind

@@ -3,7 +3,7 @@ use Rattle.std.specs.Prelude.{ℕ, ◌+◌, Bool, List, [], ◌∷◌, ◌++◌,
 use Rattle.uplinks_peers.specs.declared.uplinks.UpEvent.TheVariants as up
 use Rattle.uplinks_peers.specs.Uplinks.{UplinksSeen, acts_at, untried, uplinks_after}
 use Rattle.aprs_history.specs.declared.verdicts.Verdict.{Verdict}
-use Rattle.aprs_history.specs.declared.verdicts.Verdict.TheVariants.{PassedOver, Refused, LoggedIn, Filtered, Accepted}
+use Rattle.aprs_history.specs.declared.verdicts.Verdict.TheVariants.{Accepted}
 use Rattle.aprs_history.specs.Setting.{Peer, Setting}
 use Rattle.aprs_history.specs.Trace.{Trace, AtListener, ByUplink, Door, RoundBegan, Opened, Brought, Said, Ended, Looked, Unjoined, moment_of}
 use Rattle.aprs_history.specs.Links.{is_submitted}
@@ -42,10 +42,7 @@ casts_to n (peer ∷ peers) line = record { peer = n; line = line } ∷ casts_to
 -- an accepted packet is for the peers where it was submitted here
 abbrev pub cast_by : List Peer → (submitted : Bool) → Verdict → List CastSeen
 cast_by peers submitted (Accepted parts line) = if submitted then casts_to 0 peers line else []
-cast_by peers submitted PassedOver = []
-cast_by peers submitted (Refused refusal) = []
-cast_by peers submitted (LoggedIn session answer) = []
-cast_by peers submitted (Filtered answer) = []
+cast_by peers submitted verdict = []
 
 -- the lines that the last round has for the peers, in order
 abbrev pub casts_of : Setting → Trace → List CastSeen

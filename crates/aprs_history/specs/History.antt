@@ -36,21 +36,10 @@ use Rattle.aprs_history.specs.Texts.{over_links}
 abbrev pub History : Type 0
 History = List Happening
 
--- the same in the order in which it happened
-abbrev pub in_order : History → List Happening
-in_order [] = []
-in_order (x ∷ earlier) = in_order earlier ++ x ∷ []
-
 abbrev pub is_round_event : Event → Bool
 is_round_event (event.Tick moment) = true
 is_round_event event.Stop = true
-is_round_event (event.Opened listener link from) = false
-is_round_event (event.Joined uplink link at) = false
-is_round_event (event.Unjoined uplink) = false
-is_round_event (event.Bytes link bytes) = false
-is_round_event (event.Ended link) = false
-is_round_event (event.Room link) = false
-is_round_event (event.Datagram listener from bytes) = false
+is_round_event e = false
 
 -- whether an event ends its round, after so many in it: a Tick, a Stop, or the 512th
 abbrev pub ends_round : ℕ → Event → Bool
@@ -64,14 +53,7 @@ open_events (x ∷ earlier) = open_events earlier
 
 abbrev pub is_stop : Event → Bool
 is_stop event.Stop = true
-is_stop (event.Tick moment) = false
-is_stop (event.Opened listener link from) = false
-is_stop (event.Joined uplink link at) = false
-is_stop (event.Unjoined uplink) = false
-is_stop (event.Bytes link bytes) = false
-is_stop (event.Ended link) = false
-is_stop (event.Room link) = false
-is_stop (event.Datagram listener from bytes) = false
+is_stop e = false
 
 -- whether Stop has come
 abbrev pub is_stopped : History → Bool
@@ -216,7 +198,4 @@ trace_of setting [] = []
 trace_of setting (did.Event e ∷ earlier) =
     ended setting (ends_round (open_events earlier) e) e (with_event setting e (begun (open_events earlier) (trace_of setting earlier)))
 trace_of setting (did.Sent link bytes outcome ∷ earlier) = sent_entry link bytes outcome ∷ trace_of setting earlier
-trace_of setting (did.Listen n ∷ earlier) = trace_of setting earlier
-trace_of setting (did.Closed link ∷ earlier) = trace_of setting earlier
-trace_of setting (did.Dialled uplink ∷ earlier) = trace_of setting earlier
-trace_of setting (did.Cast peer bytes ∷ earlier) = trace_of setting earlier
+trace_of setting (happening ∷ earlier) = trace_of setting earlier

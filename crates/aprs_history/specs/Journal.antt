@@ -15,7 +15,7 @@ use Rattle.q_construct.specs.declared.drops.QDrop.{QDrop}
 use Rattle.q_construct.specs.declared.drops.QDrop.TheVariants as drop_for
 use Rattle.uplinks_peers.specs.Uplinks.{is_dialled}
 use Rattle.aprs_history.specs.declared.verdicts.Admission.{Admission}
-use Rattle.aprs_history.specs.declared.verdicts.Admission.TheVariants.{NoPort, NotAsked, TurnedAway, Served}
+use Rattle.aprs_history.specs.declared.verdicts.Admission.TheVariants.{NoPort}
 use Rattle.aprs_history.specs.declared.verdicts.EndReason.{EndReason}
 use Rattle.aprs_history.specs.declared.verdicts.EndReason.TheVariants.{ByPeer, FoundGone, NoLogin, Silent, Overfull, Full, Unasked, ByStop}
 use Rattle.aprs_history.specs.declared.verdicts.FilterAnswer.{FilterAnswer}
@@ -24,7 +24,7 @@ use Rattle.aprs_history.specs.declared.verdicts.Refusal.{Refusal}
 use Rattle.aprs_history.specs.declared.verdicts.Refusal.TheVariants as refusal
 use Rattle.aprs_history.specs.declared.verdicts.Session.{Session}
 use Rattle.aprs_history.specs.declared.verdicts.Verdict.{Verdict}
-use Rattle.aprs_history.specs.declared.verdicts.Verdict.TheVariants.{PassedOver, Refused, LoggedIn, Filtered, Accepted}
+use Rattle.aprs_history.specs.declared.verdicts.Verdict.TheVariants.{Refused, LoggedIn, Filtered}
 use Rattle.aprs_history.specs.Setting.{Setting}
 use Rattle.aprs_history.specs.Trace.{Trace, Entry, Door, AtListener, ByUplink, RoundBegan, Opened, Said, Ended, Unjoined, moment_of}
 use Rattle.aprs_history.specs.Dials.{uplinks_of}
@@ -70,16 +70,11 @@ path_name drop_for.Long = codes "too-long"
 
 -- the drops that tell of a loop
 abbrev pub is_loop : QDrop → Bool
-is_loop drop_for.Unverified = false
-is_loop drop_for.NoGate = false
-is_loop drop_for.ThirdParty = false
-is_loop drop_for.Query = false
-is_loop drop_for.QAZ = false
 is_loop drop_for.NamesServer = true
 is_loop (drop_for.Twice call) = true
 is_loop (drop_for.OtherLogin call) = true
 is_loop drop_for.LoginNotLast = true
-is_loop drop_for.Long = false
+is_loop other = false
 
 abbrev pub refused_line : (label : List ℕ) → (moment : ℕ) → (name : List ℕ) → JournalLineSeen
 refused_line label moment name = line_of kind.Refusal moment (codes "refused " ++ (label ++ (codes " " ++ name)))
@@ -146,19 +141,16 @@ given_lines label moment (Some answer) = answer_lines label moment answer
 
 -- what was said has a line where it is refused, and where it is a login; then comes that of the login's filter
 abbrev pub verdict_lines : (label : List ℕ) → (moment : ℕ) → Verdict → List JournalLineSeen
-verdict_lines label moment PassedOver = []
 verdict_lines label moment (Refused refusal) = refusal_line label moment refusal ∷ []
 verdict_lines label moment (LoggedIn session answer) = login_line label moment session ∷ given_lines label moment answer
 verdict_lines label moment (Filtered answer) = answer_lines label moment answer
-verdict_lines label moment (Accepted parts line) = []
+verdict_lines label moment verdict = []
 
 -- a link has a line as it comes, also where it is turned away or nobody had asked for it; a listener that isn't one for
 -- clients has none
 abbrev pub opening_lines : Door → Admission → (moment link : ℕ) → List JournalLineSeen
 opening_lines (AtListener listener) NoPort moment link = []
-opening_lines (AtListener listener) TurnedAway moment link = open_line moment link listener ∷ []
-opening_lines (AtListener listener) NotAsked moment link = open_line moment link listener ∷ []
-opening_lines (AtListener listener) (Served kind) moment link = open_line moment link listener ∷ []
+opening_lines (AtListener listener) admission moment link = open_line moment link listener ∷ []
 opening_lines (ByUplink uplink) admission moment link = join_line moment link uplink ∷ []
 
 -- a dial that came to nothing has a line where that uplink was being dialled

@@ -8,9 +8,9 @@ use Rattle.aprs_history.specs.declared.verdicts.FilterAnswer.{FilterAnswer}
 use Rattle.aprs_history.specs.declared.verdicts.FilterAnswer.TheVariants.{Active, Denied}
 use Rattle.aprs_history.specs.declared.verdicts.Session.{Session}
 use Rattle.aprs_history.specs.declared.verdicts.Verdict.{Verdict}
-use Rattle.aprs_history.specs.declared.verdicts.Verdict.TheVariants.{PassedOver, Refused, LoggedIn, Filtered, Accepted}
+use Rattle.aprs_history.specs.declared.verdicts.Verdict.TheVariants.{LoggedIn, Filtered}
 use Rattle.aprs_history.specs.declared.verdicts.Admission.{Admission}
-use Rattle.aprs_history.specs.declared.verdicts.Admission.TheVariants.{NoPort, NotAsked, TurnedAway, Served}
+use Rattle.aprs_history.specs.declared.verdicts.Admission.TheVariants.{Served}
 use Rattle.aprs_history.specs.declared.verdicts.LinkKind.{LinkKind}
 use Rattle.aprs_history.specs.declared.verdicts.LinkKind.TheVariants.{Client, Uplink}
 use Rattle.aprs_history.specs.Setting.{Setting, is_filter_kind}
@@ -25,10 +25,8 @@ pub record Opening : Type 0 where
   pub moment : ℕ
 
 abbrev pub opening_by : Admission → Addr → ℕ → Option Opening
-opening_by NoPort from moment = None
-opening_by TurnedAway from moment = None
-opening_by NotAsked from moment = None
 opening_by (Served kind) from moment = Some (record { kind = kind; from = from; moment = moment })
+opening_by admission from moment = None
 
 abbrev pub opening_of : Trace → ℕ → Option Opening
 opening_of [] link = None
@@ -83,10 +81,7 @@ brought_by (entry ∷ earlier) link = brought_by earlier link
 
 abbrev pub session_after : Verdict → Option Session → Option Session
 session_after (LoggedIn session answer) before = Some session
-session_after PassedOver before = before
-session_after (Refused refusal) before = before
-session_after (Filtered answer) before = before
-session_after (Accepted parts line) before = before
+session_after verdict before = before
 
 -- the last accepted login
 abbrev pub session_of : Trace → ℕ → Option Session
@@ -104,9 +99,7 @@ abbrev pub filter_after : Verdict → List TermSeen → List TermSeen
 filter_after (LoggedIn session None) before = before
 filter_after (LoggedIn session (Some answer)) before = filter_by answer before
 filter_after (Filtered answer) before = filter_by answer before
-filter_after PassedOver before = before
-filter_after (Refused refusal) before = before
-filter_after (Accepted parts line) before = before
+filter_after verdict before = before
 
 -- the last filter that was accepted, or else the empty one
 abbrev pub filter_of : Trace → ℕ → List TermSeen

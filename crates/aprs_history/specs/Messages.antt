@@ -9,7 +9,7 @@ use Rattle.heard_routing.specs.Heard.{heard_age, is_recent, promise_age}
 use Rattle.dupe_window.specs.Keys.{is_text}
 use Rattle.aprs_history.specs.declared.verdicts.Session.{Session}
 use Rattle.aprs_history.specs.declared.verdicts.Verdict.{Verdict}
-use Rattle.aprs_history.specs.declared.verdicts.Verdict.TheVariants.{PassedOver, Refused, LoggedIn, Filtered, Accepted}
+use Rattle.aprs_history.specs.declared.verdicts.Verdict.TheVariants.{Accepted}
 use Rattle.aprs_history.specs.Trace.{Trace, Opened, Said, is_from, is_live, moment_of}
 use Rattle.aprs_history.specs.Links.{has_filters, opening_of, session_of}
 use Rattle.aprs_history.specs.Scenes.{packet_of}
@@ -24,10 +24,7 @@ is_position packet = has_class packet.body.class position_bit
 
 abbrev pub heard_after : ℕ → Source → Verdict → ℕ → List ℕ → Option ℕ → Option ℕ
 heard_after now from (Accepted parts line) link call before = if is_from link from && is_text call parts.source then Some now else before
-heard_after now from PassedOver link call before = before
-heard_after now from (Refused refusal) link call before = before
-heard_after now from (LoggedIn session answer) link call before = before
-heard_after now from (Filtered answer) link call before = before
+heard_after now from verdict link call before = before
 
 -- when a packet of that source was last accepted from a link
 abbrev pub heard_of : Trace → ℕ → List ℕ → Option ℕ
@@ -66,10 +63,7 @@ abbrev pub promise_by : Trace → Source → Verdict → ℕ → List ℕ → Op
 promise_by earlier from (Accepted parts line) link sender before =
     let packet = packet_of from (moment_of earlier) parts line in
     if is_text sender parts.source then promise_after (promises earlier packet link) (is_position packet) (moment_of earlier) before else before
-promise_by earlier from PassedOver link sender before = before
-promise_by earlier from (Refused refusal) link sender before = before
-promise_by earlier from (LoggedIn session answer) link sender before = before
-promise_by earlier from (Filtered answer) link sender before = before
+promise_by earlier from verdict link sender before = before
 
 -- when a message of that sender last went to a link by hearing, with no position of the sender since
 abbrev pub promise_of : Trace → ℕ → List ℕ → Option ℕ

@@ -14,7 +14,7 @@ use Rattle.aprs_history.specs.declared.verdicts.LinkKind.{LinkKind}
 use Rattle.aprs_history.specs.declared.verdicts.LinkKind.TheVariants.{Client, Uplink}
 use Rattle.aprs_history.specs.declared.verdicts.Session.{Session}
 use Rattle.aprs_history.specs.declared.verdicts.Verdict.{Verdict}
-use Rattle.aprs_history.specs.declared.verdicts.Verdict.TheVariants.{PassedOver, Refused, LoggedIn, Filtered, Accepted}
+use Rattle.aprs_history.specs.declared.verdicts.Verdict.TheVariants.{Accepted}
 use Rattle.aprs_history.specs.Trace.{Trace, Said, live_links, is_other, moment_of}
 use Rattle.aprs_history.specs.Links.{Opening, opening_of, session_of}
 use Rattle.aprs_history.specs.Verdicts.{Carrier, Scene, Speaker, Visitor, is_duplicate}
@@ -26,11 +26,8 @@ packet_of from moment parts line =
 
 -- the packet that a verdict accepts
 abbrev pub accepted_by : Source → ℕ → Verdict → List PacketSeen
-accepted_by from moment PassedOver = []
-accepted_by from moment (Refused refusal) = []
-accepted_by from moment (LoggedIn session answer) = []
-accepted_by from moment (Filtered answer) = []
 accepted_by from moment (Accepted parts line) = packet_of from moment parts line ∷ []
+accepted_by from moment verdict = []
 
 -- the accepted packets, in order
 abbrev pub accepted_of : Trace → List PacketSeen

@@ -34,39 +34,25 @@ kind_at setting listener = kind_of_spec (slice_get setting.listens listener)
 
 -- the kinds of port to which clients connect; datagrams come to the others
 abbrev pub is_client_kind : PortKind → Bool
-is_client_kind kind.Full = true
-is_client_kind kind.Igate = true
-is_client_kind kind.Only = true
-is_client_kind kind.Dupe = true
 is_client_kind kind.Submit = false
 is_client_kind kind.Core = false
+is_client_kind other = true
 
 -- the kinds of port whose links have a filter
 abbrev pub is_filter_kind : PortKind → Bool
-is_filter_kind kind.Full = false
 is_filter_kind kind.Igate = true
 is_filter_kind kind.Only = true
-is_filter_kind kind.Dupe = false
-is_filter_kind kind.Submit = false
-is_filter_kind kind.Core = false
+is_filter_kind other = false
 
 -- the kind of port that only serves clients
 abbrev pub is_only_kind : PortKind → Bool
-is_only_kind kind.Full = false
-is_only_kind kind.Igate = false
 is_only_kind kind.Only = true
-is_only_kind kind.Dupe = false
-is_only_kind kind.Submit = false
-is_only_kind kind.Core = false
+is_only_kind other = false
 
 -- the kind of port that only shows refused duplicates
 abbrev pub is_dupe_kind : PortKind → Bool
-is_dupe_kind kind.Full = false
-is_dupe_kind kind.Igate = false
-is_dupe_kind kind.Only = false
 is_dupe_kind kind.Dupe = true
-is_dupe_kind kind.Submit = false
-is_dupe_kind kind.Core = false
+is_dupe_kind other = false
 
 abbrev pub is_same_addr : Addr → Addr → Bool
 is_same_addr a b = pointwise ◌==◌ a.ip b.ip && a.port == b.port

@@ -22,7 +22,7 @@ use Rattle.aprs_history.specs.declared.verdicts.Refusal.TheVariants as refusal
 use Rattle.aprs_history.specs.declared.verdicts.Verdict.{Verdict}
 use Rattle.aprs_history.specs.declared.verdicts.Verdict.TheVariants.{PassedOver, Refused, LoggedIn, Filtered, Accepted}
 use Rattle.aprs_history.specs.declared.verdicts.Admission.{Admission}
-use Rattle.aprs_history.specs.declared.verdicts.Admission.TheVariants.{NoPort, NotAsked, TurnedAway, Served}
+use Rattle.aprs_history.specs.declared.verdicts.Admission.TheVariants.{Served}
 use Rattle.aprs_history.specs.Trace.{Trace, Opened, Said, Dated, is_from, is_live, live_links, moment_of}
 use Rattle.aprs_history.specs.Links.{Opening, is_client, is_submitted, opening_of, session_of, taken_by}
 use Rattle.aprs_history.specs.Scenes.{packet_of}
@@ -54,12 +54,7 @@ refused_login word = codes "# login refused, " ++ word
 abbrev pub refusal_reply : Refusal → Option (List ℕ)
 refusal_reply (refusal.Login why) = Some (refused_login (fault_word why))
 refusal_reply refusal.OwnName = Some (refused_login (codes "own name"))
-refusal_reply refusal.Long = None
-refusal_reply refusal.ReadOnly = None
-refusal_reply refusal.Stranger = None
-refusal_reply (refusal.Packet why) = None
-refusal_reply (refusal.Path why) = None
-refusal_reply (refusal.Duplicate parts line) = None
+refusal_reply other = None
 
 -- what is told of a filter that is refused
 abbrev pub refused_filter : List ℕ → List ℕ
@@ -131,19 +126,15 @@ first_line setting (Client port) = record { kind = Banner; line = banner }
 first_line setting (Uplink uplink) = record { kind = Login; line = uplink_login setting }
 
 abbrev pub first_lines : Setting → Admission → List TextLine
-first_lines setting NoPort = []
-first_lines setting TurnedAway = []
-first_lines setting NotAsked = []
 first_lines setting (Served link) = first_line setting link ∷ []
+first_lines setting admission = []
 
 -- whether a port of that kind sends an accepted packet of another link, as the link's filter or the message rule asks for it or not
 abbrev pub port_wants : PortKind → (asked : Bool) → Bool
 port_wants kind.Full asked = true
 port_wants kind.Igate asked = asked
 port_wants kind.Only asked = asked
-port_wants kind.Dupe asked = false
-port_wants kind.Submit asked = false
-port_wants kind.Core asked = false
+port_wants other asked = false
 
 -- a client's port must want it, and the client must have logged in; an uplink is sent what was submitted here
 abbrev pub link_wants : LinkKind → (named submitted asked : Bool) → Bool

@@ -1,14 +1,14 @@
 -- The trace of a history: what happened to each link, with the verdict on each line, the newest first.
-use Rattle.std.specs.Prelude.{ℕ, ◌==◌, Bool, true, false, not, nat_le, List, [], ◌∷◌, ◌++◌, filter, max, min, if◌then◌else◌}
+use Rattle.std.specs.Prelude.{ℕ, ◌==◌, ◌<◌, ◌≤◌, Bool, true, false, not, nat_le, List, [], ◌∷◌, ◌++◌, filter, max, min, if◌then◌else◌}
 use Rattle.std.specs.List.{list_any}
 use Rattle.aprs_base.specs.declared.texts.Addr.{Addr}
 use Rattle.aprs_base.specs.declared.cutting.Cut.{Cut}
 use Rattle.aprs_base.specs.declared.packets.Source.{Source}
 use Rattle.aprs_base.specs.declared.packets.Source.TheVariants as source
 use Rattle.aprs_history.specs.declared.verdicts.Admission.{Admission}
-use Rattle.aprs_history.specs.declared.verdicts.Admission.TheVariants.{NoPort, NotAsked, Served, TurnedAway}
+use Rattle.aprs_history.specs.declared.verdicts.Admission.TheVariants.{NotAsked, Served, TurnedAway}
 use Rattle.aprs_history.specs.declared.verdicts.EndReason.{EndReason}
-use Rattle.aprs_history.specs.declared.verdicts.EndReason.TheVariants.{ByPeer, FoundGone, NoLogin, Silent, Overfull, Full, Unasked, ByStop}
+use Rattle.aprs_history.specs.declared.verdicts.EndReason.TheVariants.{ByPeer, FoundGone, ByStop}
 use Rattle.aprs_history.specs.declared.verdicts.Verdict.{Verdict}
 
 -- where a link comes from: it was opened at a listener, or an uplink has joined
@@ -53,14 +53,11 @@ is_other link other = not (other == link)
 -- whether a line is that link's
 abbrev pub is_from : ℕ → Source → Bool
 is_from link (source.Link number) = link == number
-is_from link (source.Submit listener) = false
-is_from link (source.Peer peer) = false
+is_from link from = false
 
 abbrev pub opened_link : Admission → ℕ → List ℕ
-opened_link NoPort link = []
-opened_link TurnedAway link = []
-opened_link NotAsked link = []
 opened_link (Served kind) link = link ∷ []
+opened_link admission link = []
 
 -- the links that live, in the order of their opening, which is that of their numbers
 abbrev pub live_links : Trace → List ℕ
@@ -76,14 +73,8 @@ abbrev pub is_live : Trace → ℕ → Bool
 is_live trace link = is_member link (live_links trace)
 
 abbrev pub stopped_link : EndReason → ℕ → List ℕ
-stopped_link ByPeer link = []
-stopped_link FoundGone link = []
-stopped_link NoLogin link = []
-stopped_link Silent link = []
-stopped_link Overfull link = []
-stopped_link Full link = []
-stopped_link Unasked link = []
 stopped_link ByStop link = link ∷ []
+stopped_link reason link = []
 
 -- the links that a stop ended, in order
 abbrev pub stopped_links : Trace → List ℕ
@@ -99,12 +90,12 @@ served_links trace = stopped_links trace ++ live_links trace
 abbrev pub is_closing : EndReason → Bool
 is_closing ByPeer = false
 is_closing FoundGone = false
-is_closing NoLogin = true
-is_closing Silent = true
-is_closing Overfull = true
-is_closing Full = true
-is_closing Unasked = true
-is_closing ByStop = true
+is_closing reason = true
+
+-- numbers that rise, the first above low and the last not above high
+abbrev pub Rises : ℕ → List ℕ → ℕ → Type 0
+Rises low [] high = low ≤ high
+Rises low (n ∷ ns) high = (low < n) × Rises n ns high
 
 -- a number in its place among rising ones
 abbrev pub placed : ℕ → List ℕ → List ℕ
@@ -123,10 +114,9 @@ closed_links (Ended link reason ∷ earlier) = if is_closing reason then placed 
 closed_links (entry ∷ earlier) = closed_links earlier
 
 abbrev pub turned_link : Admission → ℕ → List ℕ
-turned_link NoPort link = []
 turned_link TurnedAway link = link ∷ []
 turned_link NotAsked link = link ∷ []
-turned_link (Served kind) link = []
+turned_link admission link = []
 
 -- the links that were turned away in this round or that nobody had asked for, in order
 abbrev pub turned_links : Trace → List ℕ
@@ -136,10 +126,8 @@ turned_links (Opened door admission link from ∷ earlier) = turned_links earlie
 turned_links (entry ∷ earlier) = turned_links earlier
 
 abbrev pub is_stray : Admission → Bool
-is_stray NoPort = false
-is_stray TurnedAway = false
 is_stray NotAsked = true
-is_stray (Served kind) = false
+is_stray admission = false
 
 -- nobody had asked for the link
 abbrev pub is_unasked : Trace → ℕ → Bool

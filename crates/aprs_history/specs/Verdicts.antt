@@ -60,10 +60,9 @@ active_reply terms = codes "# filter " ++ (canonical terms ++ codes " active")
 -- what becomes of a filter that reads so; no text reads as want of memory
 abbrev pub answer_by : Result (List TermSeen) FilterError → FilterAnswer
 answer_by (Ok terms) = Active terms (active_reply terms)
-answer_by (Err error.Long) = Denied filter_fault.Long
 answer_by (Err (error.Term n)) = Denied (filter_fault.Term n)
 answer_by (Err (error.TooMany letter)) = Denied (filter_fault.TooMany letter)
-answer_by (Err error.Memory) = Denied filter_fault.Long
+answer_by (Err other) = Denied filter_fault.Long
 
 -- what becomes of a filter's text, on a port with filters or without
 abbrev pub answer_of : Bool → List ℕ → FilterAnswer

@@ -1,24 +1,14 @@
 -- A table has exactly what links heard at most three hours before, as time goes on.
 use Rattle.std.proofs.Common.{◌≡◌, ℕ, ◌-◌, ◌≤◌, Bool, true, false, cond, not, ◌&&◌, ◌==◌, List, [], ◌∷◌, ◌++◌, Option, Some, None, Result, Ok, Err, OnOk, refl, sym, ap, ◌∙◌, subst, arith}
-use Rattle.std.specs.declared.random_state.RandomState.{RandomState}
-use Rattle.std.proofs.lemmas.Bool.{leb-false}
+use Rattle.std.proofs.lemmas.Bool.{and_parts, leb-false}
 use Rattle.aprs_base.specs.PacketSeen.{PacketSeen}
 use Rattle.filter_eval.specs.Passes.{is_text}
 use Rattle.station_table.specs.Last.{later_or}
-use Rattle.heard_routing.specs.Entries.{HasEachOnce, moment_at}
-use Rattle.heard_routing.specs.Heard.{HeardSeen, heard_age, heard_at, is_recent, nothing, noted, recent, without_link}
-use Rattle.heard_routing.specs.LastHeard.{AgreesAt, HasExactly, IsFromElsewhere, IsHeard, but_not, heard_by, last_heard, still}
-use Rattle.heard_routing.proofs.HeardLemmas.{and_first, and_second, kept_of, last_more, none_of, not_told, noted_later, noted_others, still_again, told_by}
+use Rattle.heard_routing.specs.Entries.{HasEachOnce}
+use Rattle.heard_routing.specs.Heard.{HeardSeen, heard_age, is_recent, noted, recent, without_link}
+use Rattle.heard_routing.specs.LastHeard.{HasExactly, IsHeard, but_not, heard_by, last_heard, still}
+use Rattle.heard_routing.proofs.HeardLemmas.{kept_of, last_more, none_of, noted_later, noted_others, still_again, told_by}
 use Rattle.heard_routing.proofs.LookLemmas.{heard_recent}
-
-pub exactly_agrees : (now : ℕ) (lives : ℕ → Bool) (table : HeardSeen) (packets : List PacketSeen) → HasExactly now lives table packets → AgreesAt now lives table packets
-exactly_agrees now lives table packets exactly = let here : now ≤ now = omega arith in record {
-  heard = λ link living call. ap (still heard_age now) (exactly.heard link living call) ∙ still_again heard_age now now (last_heard packets link call) here;
-  others = exactly.others;
-}
-
-pub new_exactly : (now : ℕ) (lives : ℕ → Bool) (hasher : RandomState) → HasExactly now lives (nothing hasher) []
-new_exactly now lives hasher = record { heard = λ link here call. refl; others = λ link there call. refl }
 
 -- ---- one more packet
 
@@ -54,43 +44,14 @@ note_goes_on_exactly (Ok x) lives old new packets packet link call now is heard 
     subst (λ table. HasExactly now lives table (packets ++ packet ∷ [])) (sym is) (note_exactly lives old packets packet link call now heard living exactly)
 note_goes_on_exactly (Err e) lives old new packets packet link call now is heard living exactly = tt
 
--- a packet of no living link, of which nothing is noted
-pub elsewhere_exactly : (now : ℕ) (lives : ℕ → Bool) (table : HeardSeen) (packets : List PacketSeen) (packet : PacketSeen) → IsFromElsewhere lives packet → HasExactly now lives table packets
-    → HasExactly now lives table (packets ++ packet ∷ [])
-elsewhere_exactly now lives table packets packet elsewhere exactly = record {
-  heard = λ link here call. exactly.heard link here call ∙ ap (still heard_age now) (sym (not_told packets packet link call (elsewhere link here)));
-  others = exactly.others;
-}
-
 -- ---- links that come and go
-
--- more links live, of which no packet came
-pub opened_exactly : (now : ℕ) (lives more : ℕ → Bool) (table : HeardSeen) (packets : List PacketSeen)
-    → ((link : ℕ) → more link ≡ true → lives link ≡ false → (call : List ℕ) → last_heard packets link call ≡ None) → ((link : ℕ) → more link ≡ false → lives link ≡ false)
-    → HasExactly now lives table packets → HasExactly now more table packets
-opened_exactly now lives more table packets fresh fewer exactly = record {
-  heard = λ link here call. by link here call (lives link) refl;
-  others = λ link there call. exactly.others link (fewer link there) call;
-}
-  where
-    by : (link : ℕ) → more link ≡ true → (call : List ℕ) → (b : Bool) → lives link ≡ b → heard_at table link call ≡ still heard_age now (last_heard packets link call)
-    by link here call true is = exactly.heard link is call
-    by link here call false is = exactly.others link is call ∙ ap (still heard_age now) (sym (fresh link here is call))
 
 pub forget_exactly : (now : ℕ) (lives : ℕ → Bool) (table : HeardSeen) (packets : List PacketSeen) (gone : ℕ) → HasExactly now lives table packets
     → HasExactly now (but_not gone lives) (without_link gone table) packets
 forget_exactly now lives table packets gone exactly = record {
   heard = λ link here call.
-      kept_of table gone link call (and_first (not (gone == link)) (lives link) here) ∙ exactly.heard link (and_second (not (gone == link)) (lives link) here) call;
+      kept_of table gone link call (and_parts (not (gone == link)) (lives link) here).0 ∙ exactly.heard link (and_parts (not (gone == link)) (lives link) here).1 call;
   others = λ link there call. none_of lives table gone link call there (λ is. exactly.others link is call);
-}
-
--- promises aside, as they come and go
-pub same_heard_exactly : (now : ℕ) (lives : ℕ → Bool) (table other : HeardSeen) (packets : List PacketSeen) → other.heard ≡ table.heard → HasExactly now lives table packets
-    → HasExactly now lives other packets
-same_heard_exactly now lives table other packets same exactly = record {
-  heard = λ link here call. ap (λ groups. moment_at groups link call) same ∙ exactly.heard link here call;
-  others = λ link there call. ap (λ groups. moment_at groups link call) same ∙ exactly.others link there call;
 }
 
 -- ---- as time goes by

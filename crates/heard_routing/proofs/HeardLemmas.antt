@@ -1,26 +1,15 @@
 -- A table of heard stations keeps when links last heard calls.
 use Rattle.std.proofs.Common.{◌≡◌, ℕ, ◌-◌, ◌<◌, ◌≤◌, Bool, true, false, cond, filter, not, ◌&&◌, ◌==◌, List, [], ◌∷◌, ◌++◌, Option, Some, None, Result, Ok, Err, OnOk, refl, sym, ap, ◌∙◌, subst, arith, true≢false, is_some}
-use Rattle.std.specs.List.{All, AllByRecursion}
 use Rattle.std.specs.Map.{keys_of}
-use Rattle.std.specs.declared.random_state.RandomState.{RandomState}
-use Rattle.std.proofs.lemmas.Bool.{eqb-true, leb-true, leb-false}
-use Rattle.std.proofs.lemmas.List.Elements.{recursion_from_All}
+use Rattle.std.proofs.lemmas.Bool.{and_parts, eqb-true, leb-true, leb-false}
 use Rattle.aprs_base.specs.PacketSeen.{PacketSeen}
 use Rattle.filter_eval.specs.Passes.{is_some_and, is_text}
 use Rattle.station_table.specs.Last.{later_or}
 use Rattle.station_table.proofs.LastSeen.{told_more}
-use Rattle.heard_routing.specs.Entries.{Entry, Group, HasEachOnce, links_of, moment_at}
-use Rattle.heard_routing.specs.Heard.{HeardSeen, IsRisingListOf, courtesies, heard_age, heard_at, is_receiver, is_recent, is_recent_entry, links_with, nothing, noted, promise_age, receivers, recent, recent_groups, without_link}
-use Rattle.heard_routing.specs.LastHeard.{Agrees, AgreesAt, IsFromElsewhere, IsHeard, but_not, heard_by, is_from, is_hearer, last_heard, still}
+use Rattle.heard_routing.specs.Entries.{Entry, Group, HasEachOnce, links_of}
+use Rattle.heard_routing.specs.Heard.{HeardSeen, IsRisingListOf, courtesies, heard_age, heard_at, is_receiver, is_recent, is_recent_entry, links_with, noted, promise_age, receivers, recent, recent_groups, without_link}
+use Rattle.heard_routing.specs.LastHeard.{Agrees, AgreesAt, IsHeard, but_not, heard_by, is_from, is_hearer, last_heard, still}
 use Rattle.heard_routing.proofs.LookLemmas.{heard_noted, heard_recent, heard_without_link, links_recent}
-
-pub and_first : (a b : Bool) → a && b ≡ true → a ≡ true
-and_first true b is = refl
-and_first false b is = is
-
-pub and_second : (a b : Bool) → a && b ≡ true → b ≡ true
-and_second true b is = is
-and_second false b is = absurd (true≢false (sym is))
 
 -- ---- one more packet
 
@@ -65,12 +54,6 @@ noted_others lives table link call moment here other there text none =
 
 -- ---- a table and packets
 
-pub new_agrees : (lives : ℕ → Bool) (hasher : RandomState) → Agrees lives (nothing hasher) []
-new_agrees lives hasher = record { heard = λ link here call. refl; others = λ link there call. refl }
-
-pub agrees_at : (now : ℕ) (lives : ℕ → Bool) (table : HeardSeen) (packets : List PacketSeen) → Agrees lives table packets → AgreesAt now lives table packets
-agrees_at now lives table packets agrees = record { heard = λ link here call. ap (still heard_age now) (agrees.heard link here call); others = agrees.others }
-
 -- a packet of a living link, noted
 pub note_agrees : (lives : ℕ → Bool) (table : HeardSeen) (packets : List PacketSeen) (packet : PacketSeen) (link : ℕ) (call : List ℕ) (moment : ℕ)
     → IsHeard packet link call moment → lives link ≡ true → Agrees lives table packets → Agrees lives (noted link call moment table) (packets ++ packet ∷ [])
@@ -103,60 +86,7 @@ note_goes_on_at (Ok x) now lives old new packets packet link call moment is hear
     subst (λ table. AgreesAt now lives table (packets ++ packet ∷ [])) (sym is) (note_agrees_at now lives old packets packet link call moment heard living agrees)
 note_goes_on_at (Err e) now lives old new packets packet link call moment is heard living agrees = tt
 
--- a packet of no living link, of which nothing is noted
-pub not_told : (packets : List PacketSeen) (packet : PacketSeen) (link : ℕ) (call : List ℕ) → is_from link packet.from ≡ false → last_heard (packets ++ packet ∷ []) link call ≡ last_heard packets link call
-not_told packets packet link call is =
-    last_more packets packet link call ∙ ap (λ b. later_or (last_heard packets link call) (cond (b && is_text call packet.parts.source) (Some packet.moment) None)) is
-
-pub elsewhere_agrees : (lives : ℕ → Bool) (table : HeardSeen) (packets : List PacketSeen) (packet : PacketSeen) → IsFromElsewhere lives packet → Agrees lives table packets
-    → Agrees lives table (packets ++ packet ∷ [])
-elsewhere_agrees lives table packets packet elsewhere agrees = record {
-  heard = λ link here call. agrees.heard link here call ∙ sym (not_told packets packet link call (elsewhere link here));
-  others = agrees.others;
-}
-
-pub elsewhere_agrees_at : (now : ℕ) (lives : ℕ → Bool) (table : HeardSeen) (packets : List PacketSeen) (packet : PacketSeen) → IsFromElsewhere lives packet → AgreesAt now lives table packets
-    → AgreesAt now lives table (packets ++ packet ∷ [])
-elsewhere_agrees_at now lives table packets packet elsewhere agrees = record {
-  heard = λ link here call. agrees.heard link here call ∙ ap (still heard_age now) (sym (not_told packets packet link call (elsewhere link here)));
-  others = agrees.others;
-}
-
 -- ---- links that come and go
-
-silent_by : (packets : List PacketSeen) (link : ℕ) (call : List ℕ) → AllByRecursion (λ packet. is_from link packet.from ≡ false) packets → last_heard packets link call ≡ None
-silent_by [] link call all = refl
-silent_by (packet ∷ packets) link call all =
-    ap (later_or (heard_by link call packet)) (silent_by packets link call all.1) ∙ ap (λ b. cond (b && is_text call packet.parts.source) (Some packet.moment) None) all.0
-
--- a link of which no packet came has heard nothing
-pub silent : (packets : List PacketSeen) (link : ℕ) (call : List ℕ) → All (λ packet. is_from link packet.from ≡ false) packets → last_heard packets link call ≡ None
-silent packets link call all = silent_by packets link call (recursion_from_All (λ packet. is_from link packet.from ≡ false) packets all)
-
--- more links live, of which no packet came
-pub opened_agrees : (lives more : ℕ → Bool) (table : HeardSeen) (packets : List PacketSeen)
-    → ((link : ℕ) → more link ≡ true → lives link ≡ false → (call : List ℕ) → last_heard packets link call ≡ None) → ((link : ℕ) → more link ≡ false → lives link ≡ false)
-    → Agrees lives table packets → Agrees more table packets
-opened_agrees lives more table packets fresh fewer agrees = record {
-  heard = λ link here call. by link here call (lives link) refl;
-  others = λ link there call. agrees.others link (fewer link there) call;
-}
-  where
-    by : (link : ℕ) → more link ≡ true → (call : List ℕ) → (b : Bool) → lives link ≡ b → heard_at table link call ≡ last_heard packets link call
-    by link here call true is = agrees.heard link is call
-    by link here call false is = agrees.others link is call ∙ sym (fresh link here is call)
-
-pub opened_agrees_at : (now : ℕ) (lives more : ℕ → Bool) (table : HeardSeen) (packets : List PacketSeen)
-    → ((link : ℕ) → more link ≡ true → lives link ≡ false → (call : List ℕ) → last_heard packets link call ≡ None) → ((link : ℕ) → more link ≡ false → lives link ≡ false)
-    → AgreesAt now lives table packets → AgreesAt now more table packets
-opened_agrees_at now lives more table packets fresh fewer agrees = record {
-  heard = λ link here call. by link here call (lives link) refl;
-  others = λ link there call. agrees.others link (fewer link there) call;
-}
-  where
-    by : (link : ℕ) → more link ≡ true → (call : List ℕ) → (b : Bool) → lives link ≡ b → still heard_age now (heard_at table link call) ≡ still heard_age now (last_heard packets link call)
-    by link here call true is = agrees.heard link is call
-    by link here call false is = ap (still heard_age now) (agrees.others link is call ∙ sym (fresh link here is call))
 
 pub kept_of : (table : HeardSeen) (gone link : ℕ) (call : List ℕ) → not (gone == link) ≡ true → heard_at (without_link gone table) link call ≡ heard_at table link call
 kept_of table gone link call is = heard_without_link table gone link call ∙ ap (λ b. cond b (heard_at table link call) None) is
@@ -172,7 +102,7 @@ none_of lives table gone link call there none = heard_without_link table gone li
 pub forget_agrees : (lives : ℕ → Bool) (table : HeardSeen) (packets : List PacketSeen) (gone : ℕ) → Agrees lives table packets → Agrees (but_not gone lives) (without_link gone table) packets
 forget_agrees lives table packets gone agrees = record {
   heard = λ link here call.
-      kept_of table gone link call (and_first (not (gone == link)) (lives link) here) ∙ agrees.heard link (and_second (not (gone == link)) (lives link) here) call;
+      kept_of table gone link call (and_parts (not (gone == link)) (lives link) here).0 ∙ agrees.heard link (and_parts (not (gone == link)) (lives link) here).1 call;
   others = λ link there call. none_of lives table gone link call there (λ is. agrees.others link is call);
 }
 
@@ -180,22 +110,8 @@ pub forget_agrees_at : (now : ℕ) (lives : ℕ → Bool) (table : HeardSeen) (p
     → AgreesAt now (but_not gone lives) (without_link gone table) packets
 forget_agrees_at now lives table packets gone agrees = record {
   heard = λ link here call.
-      ap (still heard_age now) (kept_of table gone link call (and_first (not (gone == link)) (lives link) here)) ∙ agrees.heard link (and_second (not (gone == link)) (lives link) here) call;
+      ap (still heard_age now) (kept_of table gone link call (and_parts (not (gone == link)) (lives link) here).0) ∙ agrees.heard link (and_parts (not (gone == link)) (lives link) here).1 call;
   others = λ link there call. none_of lives table gone link call there (λ is. agrees.others link is call);
-}
-
--- promises aside, as they come and go
-pub same_heard_agrees : (lives : ℕ → Bool) (table other : HeardSeen) (packets : List PacketSeen) → other.heard ≡ table.heard → Agrees lives table packets → Agrees lives other packets
-same_heard_agrees lives table other packets same agrees = record {
-  heard = λ link here call. ap (λ groups. moment_at groups link call) same ∙ agrees.heard link here call;
-  others = λ link there call. ap (λ groups. moment_at groups link call) same ∙ agrees.others link there call;
-}
-
-pub same_heard_agrees_at : (now : ℕ) (lives : ℕ → Bool) (table other : HeardSeen) (packets : List PacketSeen) → other.heard ≡ table.heard → AgreesAt now lives table packets
-    → AgreesAt now lives other packets
-same_heard_agrees_at now lives table other packets same agrees = record {
-  heard = λ link here call. ap (λ groups. still heard_age now (moment_at groups link call)) same ∙ agrees.heard link here call;
-  others = λ link there call. ap (λ groups. moment_at groups link call) same ∙ agrees.others link there call;
 }
 
 -- ---- as time goes by
@@ -216,15 +132,6 @@ still_again age before now (Some moment) h = by (is_recent age before moment) (i
     by true c is now_is = refl
     by false true is now_is = absurd (true≢false (sym (recent_before age before now moment h now_is) ∙ is))
     by false false is now_is = ap (λ b. cond b (Some moment) None) (sym now_is)
-
--- what agreed at an earlier moment
-pub agrees_later : (before now : ℕ) (lives : ℕ → Bool) (table : HeardSeen) (packets : List PacketSeen) → before ≤ now → AgreesAt before lives table packets → AgreesAt now lives table packets
-agrees_later before now lives table packets h agrees = record {
-  heard = λ link living call.
-      sym (still_again heard_age before now (heard_at table link call) h) ∙ ap (still heard_age now) (agrees.heard link living call)
-      ∙ still_again heard_age before now (last_heard packets link call) h;
-  others = agrees.others;
-}
 
 -- what is removed could not be given any more
 still_given : (age now later : ℕ) (links : List Entry) → now ≤ later

@@ -229,11 +229,7 @@ lookup_joined test (x ∷ xs) ys = by (test x.0) (lookup_joined test xs ys)
 one_of_three : (low same high : Bool) (x y : Option ℕ) → (same ≡ true → low ≡ false) → (same ≡ true → high ≡ false) → (low ≡ true → high ≡ false) → (low ≡ false → same ≡ false → high ≡ true)
     → option_or (cond low x None) (cond same y (cond high x None)) ≡ cond same y x
 one_of_three true true high x y a b c d = absurd (true≢false (a refl))
-one_of_three true false high x y a b c d = rw (c refl) (or_none x)
-  where
-    or_none : (o : Option ℕ) → option_or o None ≡ o
-    or_none None = refl
-    or_none (Some n) = refl
+one_of_three true false high x y a b c d = rw (c refl) (elim x as (λ o. option_or o None ≡ o) [ None ↦ refl | Some n ↦ refl ])
 one_of_three false true high x y a b c d = refl
 one_of_three false false high x y a b c d = rw (d refl refl) refl
 

@@ -3,6 +3,7 @@ use Rattle.std.proofs.Common.{◌≡◌, ℕ, Bool, true, false, cond, not, ◌&
 use Rattle.std.specs.Cmp.Lexicographic.{same_text}
 use Rattle.std.specs.List.{AllByRecursion, IsDistinct, list_all, list_any}
 use Rattle.std.specs.Map.{keys_of, lookup, set_value}
+use Rattle.std.proofs.Math.Bool.{and-false}
 use Rattle.std.proofs.lemmas.Bool.{and_parts, eqb-true, lt-ltb}
 use Rattle.std.proofs.lemmas.Cmp.{nat_eq_equiv, nat_list_eq_equiv}
 use Rattle.std.proofs.lemmas.List.Folds.{list_any-append}
@@ -17,7 +18,7 @@ use Rattle.heard_routing.specs.Heard.{has_links, is_recent_entry, is_recent_grou
 use Rattle.heard_routing.specs.LastHeard.{still}
 use Rattle.heard_routing.specs.Listed.{Listing, ListsAll, ListsExactly, Unlists, UnlistsEach, calls_of, has_call, is_listed, still_listed, with_listing, without_each, without_one}
 use Rattle.heard_routing.proofs.LinkLemmas.{lookup_without, nothing_removed}
-use Rattle.heard_routing.proofs.LookLemmas.{and_false, links_written, moment_emptied, moment_recent, moment_set, moment_without}
+use Rattle.heard_routing.proofs.LookLemmas.{links_written, moment_emptied, moment_recent, moment_set, moment_without}
 use Rattle.heard_routing.proofs.TableLemmas.{written_there}
 
 -- ---- one more call
@@ -130,7 +131,7 @@ listed_cleared call listed after groups new taken is exact =
   where
     by : (other : ℕ) (text : List ℕ) (b : Bool) → is_text call text ≡ b → (not (has_call groups other call && b) && has_call groups other text) ≡ is_some (cond (not b) (moment_at groups other text) None)
     by other text true is = ap (λ t. not (has_call groups other call && true) && has_call groups other t) (sym (same_text call text (sym is))) ∙ never (has_call groups other call)
-    by other text false is = ap (λ b. not b && has_call groups other text) (and_false (has_call groups other call))
+    by other text false is = ap (λ b. not b && has_call groups other text) (and-false (has_call groups other call))
 
 if_still : (age now : ℕ) (o : Option ℕ) → is_some (still age now o) ≡ true → is_some o ≡ true
 if_still age now None has = has

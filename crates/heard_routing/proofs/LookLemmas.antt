@@ -3,6 +3,7 @@ use Rattle.std.proofs.Common.{◌≡◌, ℕ, Bool, true, false, cond, not, ◌&
 use Rattle.std.specs.Cmp.Lexicographic.{same_text}
 use Rattle.std.specs.Map.{lookup, set_value}
 use Rattle.std.specs.Option.{option_map}
+use Rattle.std.proofs.Math.Bool.{and-false, and-true}
 use Rattle.std.proofs.lemmas.Bool.{lt-ltb}
 use Rattle.std.proofs.lemmas.Cmp.{nat_eq_equiv, nat_list_eq_equiv}
 use Rattle.std.proofs.lemmas.Map.Entries.{lookup-filter-values, option_filter}
@@ -17,14 +18,6 @@ use Rattle.heard_routing.proofs.LinkLemmas.{distinct_links, lookup_with, lookup_
 
 -- ---- what is set
 
-and_true : (a : Bool) → (a && true) ≡ a
-and_true true = refl
-and_true false = refl
-
-pub and_false : (a : Bool) → (a && false) ≡ false
-and_false true = refl
-and_false false = refl
-
 pub moment_set : (groups : List Group) (link other : ℕ) (call text : List ℕ) (moment : ℕ)
     → moment_at (with_moment link call moment groups) other text ≡ cond (other == link && is_text text call) (Some moment) (moment_at groups other text)
 moment_set groups link other call text moment =
@@ -36,8 +29,8 @@ moment_set groups link other call text moment =
         let same : text ≡ call = same_text text call (sym is) in
         lookup_with link moment other (links_of call groups)
         ∙ ap (λ t. cond (other == link) (Some moment) (moment_at groups other t)) (sym same)
-        ∙ ap (λ b. cond b (Some moment) (moment_at groups other text)) (sym (and_true (other == link)))
-    by false is = ap (λ b. cond b (Some moment) (moment_at groups other text)) (sym (and_false (other == link)))
+        ∙ ap (λ b. cond b (Some moment) (moment_at groups other text)) (sym (and-true (other == link)))
+    by false is = ap (λ b. cond b (Some moment) (moment_at groups other text)) (sym (and-false (other == link)))
 
 -- a link and a call that are set have the new moment, and all others what they had
 pub heard_noted : (table : HeardSeen) (link other : ℕ) (call text : List ℕ) (moment : ℕ)

@@ -9,8 +9,7 @@ use Rattle.heard_routing.specs.Heard.{HeardSeen, heard_age, heard_at, is_recent}
 
 abbrev pub is_from : ℕ → Source → Bool
 is_from link (source.Link other) = link == other
-is_from link (source.Submit listener) = false
-is_from link (source.Peer peer) = false
+is_from link from = false
 
 -- when a packet came from this link with this call for its source
 abbrev pub heard_by : ℕ → List ℕ → PacketSeen → Option ℕ
@@ -30,10 +29,6 @@ pub record IsHeard (packet : PacketSeen) (link : ℕ) (call : List ℕ) (moment 
   pub from_link : packet.from ≡ source.Link link
   pub of_call : packet.parts.source ≡ call
   pub at_moment : packet.moment ≡ moment
-
--- a packet that came from none of the living links
-abbrev pub IsFromElsewhere : (ℕ → Bool) → PacketSeen → Type 0
-IsFromElsewhere lives packet = (link : ℕ) → lives link ≡ true → is_from link packet.from ≡ false
 
 -- A table has when the living links last heard each call, as far as that is at most three hours old. It has nothing of
 -- other links.

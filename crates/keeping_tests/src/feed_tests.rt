@@ -1,6 +1,8 @@
 //! Links that are fed, by hand.
+ghost use Rattle.std.specs.Prelude.{◌≤◌};
+
 use aprs_base::{Line, Memory, OpenGate};
-use link_feeds::Feeds;
+use link_feeds::{Crew, Feeds};
 use std::alloc::Global;
 use std::process::Abort;
 use std::sync::Arc;
@@ -60,6 +62,17 @@ fn tell(feeds: &mut Feeds, place: usize, line: Arc<Line>) {
     }
 }
 
+/// What came is matched by so many workers.
+fn settle(rt: &HostRuntime, feeds: &mut Feeds, workers: u32) -> Result<(), Memory>
+    requires { (1 ≤ workers) × (workers ≤ 64) }
+{
+    feeds.settle(&Crew {
+        rt,
+        workers,
+        gate: &OpenGate,
+    })
+}
+
 /// These links leave.
 fn drop_these(feeds: &mut Feeds, numbers: &[u32]) {
     if feeds.is_settled() {
@@ -84,13 +97,13 @@ fn takes_its_first_line_and_what_comes(rt: HostRuntime) -> Result<(), Fail> {
             link: 3,
             line: line(&rt, alloc, b"two")?,
         })?;
-        feeds.settle(&rt, workers, &OpenGate)?;
+        settle(&rt, &mut feeds, workers)?;
         assert!(rt; has(&feeds, 0, b"# a\r\nall\r\ntwo\r\n"));
         assert!(rt; has(&feeds, 1, b"# b\r\none\r\nall\r\n"));
         assert!(rt; has(&feeds, 2, b"user T2TEST\r\n"));
         take(&mut feeds, 0, 7);
         assert!(rt; has(&feeds, 0, b"l\r\ntwo\r\n"));
-        feeds.settle(&rt, workers, &OpenGate)?;
+        settle(&rt, &mut feeds, workers)?;
         assert!(rt; has(&feeds, 1, b"# b\r\none\r\nall\r\n"));
     }
     Ok(())
@@ -106,13 +119,13 @@ fn is_over_where_a_thousand_lines_wait(rt: HostRuntime) -> Result<(), Fail> {
             line: line(&rt, alloc, b"x")?,
         })?;
     }
-    feeds.settle(&rt, 4, &OpenGate)?;
+    settle(&rt, &mut feeds, 4)?;
     assert!(rt; are_over(&feeds, alloc, &[])?);
     feeds.bring(Item::Text {
         link: 3,
         line: line(&rt, alloc, b"y")?,
     })?;
-    feeds.settle(&rt, 4, &OpenGate)?;
+    settle(&rt, &mut feeds, 4)?;
     assert!(rt; are_over(&feeds, alloc, &[3])?);
     Ok(())
 }

@@ -1,12 +1,12 @@
 -- What comes to links, matched at once or later.
-use Rattle.std.proofs.Common.{◌≡◌, ℕ, ◌+◌, ◌-◌, ◌^◌, ◌<◌, ◌≤◌, true, false, List, [], ◌∷◌, ◌++◌, length, map, refl, sym, ap, ◌∙◌, subst, take, drop, take_all, append-nil, arith, slice_set, slice_get, get_or, Some, min, nat_le, ⊎_elim}
+use Rattle.std.proofs.Common.{◌≡◌, ℕ, ◌+◌, ◌-◌, ◌^◌, ◌<◌, true, false, List, [], ◌∷◌, ◌++◌, length, map, refl, sym, ap, ◌∙◌, subst, take, drop, take_all, append-nil, arith, slice_set, slice_get, get_or, Some, min}
 use Rattle.std.specs.List.{sum_by}
-use Rattle.std.proofs.Math.Nat.{min-eq_left, min-eq_right}
 use Rattle.std.proofs.lemmas.Option.{get_or_from_slice_get}
 use Rattle.std.proofs.lemmas.List.Sums.{sum_by_more}
 use Rattle.std.specs.List.{All}
-use Rattle.std.proofs.lemmas.Bool.{cases_Bool, leb-true, leb-false, true≢false}
-use Rattle.std.proofs.lemmas.List.{drop_all, drop_more, length-map, map-append}
+use Rattle.std.proofs.lemmas.Bool.{true≢false}
+use Rattle.std.proofs.lemmas.List.{drop_all, drop_more, length-map, map-append, map-id}
+use Rattle.std.proofs.lemmas.Simd.{map-map}
 use Rattle.std.proofs.lemmas.List.Elements.{All-append, All-cons, All-nil}
 use Rattle.std.proofs.lemmas.List.Sums.{fold-append}
 use Rattle.link_queue.specs.Queues.{QueueSeen, without_bytes}
@@ -14,7 +14,6 @@ use Rattle.worker_match.specs.Items.{item_seen, items_seen}
 use Rattle.worker_match.specs.declared.items.Item.{Item}
 use Rattle.worker_match.specs.Seen.{LinkSeen, ItemSeen}
 use Rattle.worker_match.specs.Walk.{IsOrdered, after, walked}
-use Rattle.worker_match.proofs.WalkLemmas.{get_mapped}
 use Rattle.link_feeds.specs.Feeds.{FeedsSeen, is_nothing, met_by, put_in, put_of, seen_after, with_taken}
 
 -- all items that came are in order, and so are they with one more
@@ -30,10 +29,7 @@ not_nothing [] item = refl
 not_nothing (first ∷ items) item = refl
 
 walked_more : (items : List ItemSeen) (item : ItemSeen) (links : List LinkSeen) → map (walked (items ++ item ∷ [])) links ≡ met_by item (map (walked items) links)
-walked_more items item [] = refl
-walked_more items item (link ∷ links) =
-    ap (λ first. first ∷ map (walked (items ++ item ∷ [])) links) (fold-append after link items (item ∷ []))
-    ∙ ap (λ rest. after (walked items link) item ∷ rest) (walked_more items item links)
+walked_more items item links = (λ i. map (λ link. fold-append after link items (item ∷ []) i) links) ∙ sym (map-map (λ link. after link item) (walked items) links)
 
 -- one thing more comes to links
 pub brought : (items : List Item) (item : Item) (links : List LinkSeen)
@@ -51,14 +47,9 @@ walk_more items i x link new total lt at is so_far =
     ∙ sym (ap (λ left. walked (items_seen left) link) (drop_more items i x lt))
     ∙ so_far
 
--- where nothing came links stay
-pub unwalked : (links : List LinkSeen) → map (walked []) links ≡ links
-unwalked [] = refl
-unwalked (link ∷ links) = ap (λ rest. link ∷ rest) (unwalked links)
-
 -- what came is matched
 pub matched : (items : List ItemSeen) (links : List LinkSeen) → seen_after (map (walked items) links) [] ≡ record { links = map (walked items) links; settled = true }
-matched items links = ap (λ (met : List LinkSeen). record { links = met; settled = true }) (unwalked (map (walked items) links))
+matched items links = ap (λ (met : List LinkSeen). record { links = met; settled = true }) (map-id (map (walked items) links))
 
 -- a vector whose elements were all written holds what was written
 pub all_written : {X : Type 0} (size : ℕ) (new old : List X) → length new ≡ length old → size ≡ length old → take size (new ++ drop (length new) old) ≡ new
@@ -78,7 +69,7 @@ matched_all items states seen is size new old came left same at whole met none =
 
 -- where all that came is matched, links are as they stand
 pub standing : (items : List ItemSeen) (links : List LinkSeen) → is_nothing items ≡ true → map (walked items) links ≡ links
-standing [] links nothing = unwalked links
+standing [] links nothing = map-id links
 standing (item ∷ items) links nothing = absurd (true≢false (sym nothing))
 
 -- a link whose queue some bytes were taken of
@@ -118,15 +109,7 @@ module _ (items : List ItemSeen) (states : List LinkSeen) (seen : FeedsSeen) (is
 
 -- a sum that stays at a counter's last value
 pub capped : (a b m : ℕ) → min (min a m + b) m ≡ min (a + b) m
-capped a b m =
-    ⊎_elim
-    (λ (le : nat_le a m ≡ true). ap (λ n. min (n + b) m) (min-eq_left (leb-true a m le)))
-    (λ (gt : nat_le a m ≡ false).
-    let above : m ≤ a = let lt = leb-false a m gt in omega arith in
-    ap (λ n. min (n + b) m) (min-eq_right above)
-    ∙ min-eq_right (let here : m ≤ m + b = omega arith in here)
-    ∙ sym (min-eq_right (let here : m ≤ a + b = omega arith in here)))
-    (cases_Bool (nat_le a m))
+capped a b m = omega arith
 
 pub put_more : (links : List LinkSeen) (i : ℕ) (d : LinkSeen) (sum put new : ℕ) → i < length links → sum ≡ put_in (take i links) → put ≡ put_of (get_or links i d) → new ≡ min (sum + put) (2 ^ 64 - 1)
     → new ≡ put_in (take (i + 1) links)
@@ -134,7 +117,3 @@ put_more links i d sum put new lt so_far at is =
     is ∙ ap (λ n. min (n + put) (2 ^ 64 - 1)) so_far ∙ capped (sum_by put_of (take i links)) put (2 ^ 64 - 1)
     ∙ ap (λ n. min (sum_by put_of (take i links) + n) (2 ^ 64 - 1)) at
     ∙ ap (λ n. min n (2 ^ 64 - 1)) (sym (sum_by_more put_of links i d lt))
-
--- what is left of a list that a loop changes from the front is as it was
-pub at_old : (f : LinkSeen → LinkSeen) (xs ys : List LinkSeen) (i : ℕ) (d : LinkSeen) → i < length xs → ys ≡ map f (take i xs) ++ drop i xs → get_or ys i d ≡ get_or xs i d
-at_old f xs ys i d lt is = ap (λ zs. get_or zs i d) is ∙ get_mapped f xs i d lt

@@ -22,6 +22,14 @@ use worker_match::{Feed, Item, LinkState, spread};
 /// A part with fewer meetings of a link and an item costs more than it saves.
 const MEETINGS: usize = 4096;
 
+/// Who matches what came: at most so many workers, 1 to 64, each part of the links through the gate.
+#[derive(Drop)]
+pub struct Crew<'a, R, G> {
+    pub rt: &'a R,
+    pub workers: u32,
+    pub gate: &'a G,
+}
+
 /// The links, in the order in which they came, and what came to them since it was last matched. They are seen as what came
 /// leaves them, matched or not.
 #[derive(Drop)]
@@ -122,28 +130,26 @@ impl Feeds {
         Ok(())
     }
 
-    /// What came is matched with the links by at most so many workers, 1 to 64, each part of the links through the gate. Links
-    /// that have come since count as things that came. After `Memory` nothing is said of the links.
+    /// What came is matched with the links by the crew. Links that have come since count as things that came. After `Memory`
+    /// nothing is said of the links.
     pub fn settle<R: Threads + Sync, G: Gate + Sync>(
         &mut self,
-        rt: &R,
-        workers: u32,
-        gate: &G,
+        crew: &Crew<R, G>,
     ) -> Result<(), Memory>
-        requires { (1 ≤ workers) × (workers ≤ 64) }
+        requires { (1 ≤ crew.now.workers) × (crew.now.workers ≤ 64) }
         ensures { OnOk result (self.new ≡ record self.old { settled = true }) }
     {
         let things = self.items.len().saturating_add(self.news);
         if things == 0 {
             return Ok(());
         }
-        let parts = parts_for(self.states.len(), things, workers);
+        let parts = parts_for(self.states.len(), things, crew.workers);
         spread(
-            rt,
+            crew.rt,
             self.states.as_mut_slice(),
             self.items.as_slice(),
             parts,
-            gate,
+            crew.gate,
         )?;
         self.items.clear();
         self.news = 0;

@@ -5,4 +5,4 @@ mod feeds;
 mod places;
 mod states;
 
-pub use feeds::Feeds;
+pub use feeds::{Crew, Feeds};

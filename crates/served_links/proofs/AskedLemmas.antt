@@ -1,7 +1,7 @@
 -- The links that the message rule asks for, as a list of their numbers.
-use Rattle.std.proofs.Common.{◌≡◌, ℕ, zero, suc, ◌+◌, slice_index, subst, ◌<◌, ◌≤◌, ◌==◌, ◌||◌, Bool, true, false, List, [], ◌∷◌, length, filter, get_or, refl, sym, ap, ◌∙◌, arith, le_refl, Option, Some, None, ⊎_elim, cond, eq-eqb}
+use Rattle.std.proofs.Common.{◌≡◌, ℕ, zero, suc, ◌+◌, slice_index, subst, ◌<◌, ◌≤◌, ◌==◌, ◌||◌, Bool, false, List, [], ◌∷◌, length, filter, get_or, refl, sym, ap, ◌∙◌, arith, le_refl, Option, Some, None, ⊎_elim, cond, eq-eqb}
 use Rattle.std.specs.List.Sorted.{IsStrictlyIncreasing}
-use Rattle.std.proofs.lemmas.Bool.{cases_Bool, eqb-true, false_from_ne_true}
+use Rattle.std.proofs.lemmas.Bool.{cases_Bool, ne_eqb}
 use Rattle.aprs_base.specs.PacketSeen.{PacketSeen}
 use Rattle.aprs_history.specs.declared.verdicts.Session.{Session}
 use Rattle.aprs_history.specs.Messages.{is_message, is_to_login}
@@ -23,13 +23,6 @@ none_asked packet (link ∷ links) other =
     let unasked : is_asked_at packet [] [] link ≡ false = ap (λ b. b || is_among link.link [] || is_among link.link []) (unlogged packet link.session other) ∙ refl in
     ap (λ b. cond b (link ∷ rest) rest) unasked ∙ none_asked packet links other
 
-pub empty_list : (xs : List ℕ) → (length xs == 0) ≡ true → xs ≡ []
-empty_list [] none = refl
-empty_list (x ∷ xs) none = let zero_long : length (x ∷ xs) ≡ 0 = eqb-true (length (x ∷ xs)) 0 none in absurd (omega arith)
-
-differs : (a b : ℕ) → (a ≡ b → ⊥) → (a == b) ≡ false
-differs a b ne = false_from_ne_true _ (λ is. ne (eqb-true a b is))
-
 module _ (p : LinkSeen → Bool) where
   abbrev passing : List LinkSeen → List ℕ
   passing links = numbers (filter p links)
@@ -39,7 +32,7 @@ module _ (p : LinkSeen → Bool) where
   absent low high [] n rises le = refl
   absent low high (x ∷ links) n rises le =
       let first = rises.0 in
-      let other : (n == x.link) ≡ false = differs n x.link (λ is. omega arith) in
+      let other : (n == x.link) ≡ false = ne_eqb n x.link (λ is. omega arith) in
       let later = absent x.link high links n rises.1 (omega arith) in
       ⊎_elim
       (λ passes. ap (λ b. is_among n (numbers (cond b (x ∷ filter p links) (filter p links)))) passes ∙ ap (λ b. b || is_among n (passing links)) other ∙ later)
@@ -61,7 +54,7 @@ module _ (p : LinkSeen → Bool) where
   listed_at low high (x ∷ links) (suc place) d l rises lt at =
       let later = above x.link high links place d rises.1 (omega arith) in
       let same = ap (λ (l : LinkSeen). l.link) at in
-      let other : (l.link == x.link) ≡ false = differs l.link x.link (λ is. omega arith) in
+      let other : (l.link == x.link) ≡ false = ne_eqb l.link x.link (λ is. omega arith) in
       let rest = listed_at x.link high links place d l rises.1 (omega arith) at in
       ⊎_elim
       (λ passes. ap (λ b. is_among l.link (numbers (cond b (x ∷ filter p links) (filter p links)))) passes ∙ ap (λ b. b || is_among l.link (passing links)) other ∙ rest)

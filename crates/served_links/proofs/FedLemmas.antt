@@ -1,6 +1,7 @@
 -- What comes to a link, by what it is fed.
 use Rattle.std.proofs.Common.{◌≡◌, ℕ, Bool, true, false, not, ◌&&◌, ◌||◌, ◌==◌, List, [], ◌∷◌, length, map, refl, sym, ap, ◌∙◌, Option, Some, None, ⊎_elim, is_some, arith, if◌then◌else◌, eq-eqb, Result, Ok, Err, IfOk}
 use Rattle.std.specs.List.{list_any, zip}
+use Rattle.std.proofs.Math.Bool.{and-false}
 use Rattle.std.proofs.lemmas.Bool.{cases_Bool}
 use Rattle.aprs_base.specs.PacketSeen.{PacketSeen}
 use Rattle.aprs_base.specs.declared.packets.Source.{Source}
@@ -35,27 +36,13 @@ if_ok (Err e) f p = p
 
 from_same : (link : ℕ) (from : Source) → walk.is_from link from ≡ is_from link from
 from_same link (source.Link number) = refl
-from_same link (source.Submit listener) = refl
-from_same link (source.Peer peer) = refl
+from_same link from = refl
 
 -- ---- places
 
 named_same : (call : List ℕ) (w : What) → names call w ≡ is_some_and (λ named. is_text named call) (named_call w)
 named_same call (what.Friend named km) = refl
-named_same call (what.ClassNear mask named km) = refl
-named_same call (what.Range lat lon km) = refl
-named_same call (what.Prefix texts) = refl
-named_same call (what.Buddy texts) = refl
-named_same call (what.Object texts) = refl
-named_same call (what.Class mask) = refl
-named_same call (what.Symbol pri alt over) = refl
-named_same call (what.Digi texts) = refl
-named_same call (what.Entry texts) = refl
-named_same call (what.Group texts) = refl
-named_same call (what.Dest texts) = refl
-named_same call (what.Mine km) = refl
-named_same call (what.Area north west south east) = refl
-named_same call (what.Construct letters gates) = refl
+named_same call other = refl
 
 friends_same : (call : List ℕ) (seen : Seen) (terms : List TermSeen) (friends : List (Option Seen)) → length friends ≡ length terms
     → friends_seen call seen terms friends ≡ map (friend_seen call seen) (zip terms friends)
@@ -260,17 +247,13 @@ module _ (h : LinkSeen) where
           ⊎_elim
           (λ (over : s.over ≡ true).
           ap (λ (x : worker.LinkSeen). x.put) (closed_by (Came offer) over)
-          ∙ ap (λ b. if b then one_more s.put else s.put) (sym (and_false wanted) ∙ ap (λ b. wanted && b) (fits_not_after link over)))
+          ∙ ap (λ b. if b then one_more s.put else s.put) (sym (and-false wanted) ∙ ap (λ b. wanted && b) (fits_not_after link over)))
           (λ (open' : s.over ≡ false).
           ap (λ (x : worker.LinkSeen). x.put) (opened_by (Came offer) open')
           ∙ put_seen offer.packet.parts.source (told_by offer) (walk.with_packet offer s)
           ∙ ap (λ b. (if b then walk.with_copy offer.packet.line s else s).put) (is open')
           ∙ put_copy wanted open')
           (cases_Bool s.over)
-        where
-          and_false : (b : Bool) → (b && false) ≡ false
-          and_false true = refl
-          and_false false = refl
 
     -- ---- an accepted packet
     module _ (packet : PacketSeen) (source : SourcePlace) (hearers owed extra : List ℕ) (asks : list_any (λ other. s.link == other) extra ≡ is_asked_at packet hearers owed link) where
@@ -280,11 +263,7 @@ module _ (h : LinkSeen) where
       kinds_same : (kind : LinkKind) (session : Option Session) → feed_wants (feed_of kind session) offer s ≡ link_wants kind (is_some session) source.submitted (is_chosen offer s)
       kinds_same (Client kind) None = refl
       kinds_same (Client port.Full) (Some session) = refl
-      kinds_same (Client port.Igate) (Some session) = refl
-      kinds_same (Client port.Only) (Some session) = refl
-      kinds_same (Client port.Dupe) (Some session) = refl
-      kinds_same (Client port.Submit) (Some session) = refl
-      kinds_same (Client port.Core) (Some session) = refl
+      kinds_same (Client kind) (Some session) = refl
       kinds_same (Uplink uplink) session = refl
 
       feeds_same : (opening : Option Opening) (session : Option Session) → feed_wants (opening_feed opening session) offer s ≡ opening_wants opening (is_some session) source.submitted (is_chosen offer s)
@@ -314,18 +293,9 @@ module _ (h : LinkSeen) where
       refused = refused_of packet
 
       refused_kinds : (kind : LinkKind) (session : Option Session) → feed_wants (feed_of kind session) refused s ≡ (is_dupe_of kind && is_some session)
-      refused_kinds (Client port.Full) None = refl
-      refused_kinds (Client port.Igate) None = refl
-      refused_kinds (Client port.Only) None = refl
-      refused_kinds (Client port.Dupe) None = refl
-      refused_kinds (Client port.Submit) None = refl
-      refused_kinds (Client port.Core) None = refl
+      refused_kinds (Client kind) None = sym (and-false (is_dupe_of (Client kind)))
       refused_kinds (Client port.Full) (Some session) = refl
-      refused_kinds (Client port.Igate) (Some session) = refl
-      refused_kinds (Client port.Only) (Some session) = refl
-      refused_kinds (Client port.Dupe) (Some session) = refl
-      refused_kinds (Client port.Submit) (Some session) = refl
-      refused_kinds (Client port.Core) (Some session) = refl
+      refused_kinds (Client kind) (Some session) = refl
       refused_kinds (Uplink uplink) session = refl
 
       refused_feeds : (opening : Option Opening) (session : Option Session) → feed_wants (opening_feed opening session) refused s ≡ shows_duplicates opening session

@@ -1,11 +1,14 @@
 -- A step at the link of one number, among links whose numbers rise.
-use Rattle.std.proofs.Common.{◌≡◌, ℕ, zero, suc, ◌+◌, ◌≤◌, ◌<◌, Bool, true, false, List, [], ◌∷◌, length, get_or, map, refl, sym, ap, ◌∙◌, subst, arith, eq-eqb, Some, None, slice_set, ⊎_elim, cond, nat_lt, ◌||◌, ◌++◌, filter, le_refl}
+use Rattle.std.proofs.lemmas.Simd.{map-map}
+use Rattle.std.proofs.lemmas.List.{map-append}
+use Rattle.aprs_history.proofs.NumberLemmas.{rises_lower, rises_pushed}
+use Rattle.std.proofs.Common.{◌≡◌, ℕ, zero, suc, ◌+◌, ◌≤◌, ◌<◌, Bool, true, false, List, [], ◌∷◌, length, get_or, map, refl, sym, ap, ◌∙◌, subst, arith, eq-eqb, Some, None, slice_set, ⊎_elim, cond, nat_lt, ◌||◌, ◌++◌, filter}
 use Rattle.std.specs.List.{position, position_or_len, list_any}
 use Rattle.std.proofs.lemmas.Bool.{ltb-true, ltb-false, cases_Bool, false_from_ne_true, eqb-true, true≢false}
 use Rattle.std.proofs.lemmas.List.Sums.{passes_at_first, fails_before_first}
 use Rattle.std.proofs.lemmas.List.Folds.{list_any_none}
 use Rattle.aprs_history.specs.Stands.{LinkSeen}
-use Rattle.served_links.specs.Links.{Rises, has_that, picked_at, has_number, numbers}
+use Rattle.served_links.specs.Links.{Rises, has_that, picked_at, has_number, numbers, number_of}
 use Rattle.served_links.specs.Changes.{at_link}
 
 -- numbers that differ
@@ -122,39 +125,23 @@ module _ {X : Type 0} (pick : LinkSeen → X) (none : X) (number : ℕ) where
 
 -- ---- numbers go on rising
 
-pub rises_to : (low high higher : ℕ) (ns : List ℕ) → Rises low ns high → high ≤ higher → Rises low ns higher
-rises_to low high higher [] rises le = let here : low ≤ high = rises in omega arith
-rises_to low high higher (n ∷ ns) rises le = (rises.0, rises_to n high higher ns rises.1 le)
-
-rises_lower : (lower low high : ℕ) (ns : List ℕ) → Rises low ns high → lower ≤ low → Rises lower ns high
-rises_lower lower low high [] rises le = let here : low ≤ high = rises in omega arith
-rises_lower lower low high (n ∷ ns) rises le = (let here = rises.0 in omega arith, rises.1)
-
 pub rises_filter : (p : LinkSeen → Bool) (low high : ℕ) (links : List LinkSeen) → Rises low (numbers links) high → Rises low (numbers (filter p links)) high
 rises_filter p low high [] rises = rises
-rises_filter p low high (x ∷ links) rises =
-    let later = rises_filter p x.link high links rises.1 in
-    let first : low < x.link = rises.0 in
-    ⊎_elim
-    (λ kept. subst (λ b. Rises low (numbers (cond b (x ∷ filter p links) (filter p links))) high) (sym kept) (first, later))
-    (λ left. subst (λ b. Rises low (numbers (cond b (x ∷ filter p links) (filter p links))) high) (sym left) (rises_lower low x.link high (numbers (filter p links)) later (omega arith)))
-    (cases_Bool (p x))
+rises_filter p low high (x ∷ links) rises = by (p x) (rises_filter p x.link high links rises.1)
+  where
+    by : (b : Bool) → Rises x.link (numbers (filter p links)) high → Rises low (numbers (cond b (x ∷ filter p links) (filter p links))) high
+    by true later = (rises.0, later)
+    by false later = let first : low < x.link = rises.0 in rises_lower low x.link high (numbers (filter p links)) (omega arith) later
 
 pub rises_push : (low high : ℕ) (links : List LinkSeen) (new : LinkSeen) → Rises low (numbers links) high → high < new.link → Rises low (numbers (links ++ new ∷ [])) new.link
-rises_push low high [] new rises lt = let here : low ≤ high = rises in (omega arith, le_refl new.link)
-rises_push low high (x ∷ links) new rises lt = (rises.0, rises_push x.link high links new rises.1 lt)
+rises_push low high links new rises lt = subst (λ ns. Rises low ns new.link) (sym (map-append number_of links (new ∷ []))) (rises_pushed low high new.link (numbers links) lt rises)
 
 -- a step that keeps the number keeps all numbers
 pub numbers_kept : (f : LinkSeen → LinkSeen) → ((link : LinkSeen) → (f link).link ≡ link.link) → (links : List LinkSeen) → numbers (map f links) ≡ numbers links
-numbers_kept f same [] = refl
-numbers_kept f same (x ∷ links) = rw (same x, numbers_kept f same links) refl
+numbers_kept f same links = map-map number_of f links ∙ (λ k. map (λ link. same link k) links)
 
 pub at_keeps : (number : ℕ) (step : LinkSeen → LinkSeen) → ((link : LinkSeen) → (step link).link ≡ link.link) → (link : LinkSeen) → (at_link number step link).link ≡ link.link
-at_keeps number step same link =
-    ⊎_elim
-    (λ here. ap (λ b. (cond b (step link) link).link) here ∙ same link)
-    (λ other. ap (λ b. (cond b (step link) link).link) other)
-    (cases_Bool (has_that number link))
+at_keeps number step same link = elim (has_that number link) as (λ b. (cond b (step link) link).link ≡ link.link) [ true ↦ same link | false ↦ refl ]
 
 -- links that a step at one number leaves rise as before
 pub rises_at : (number : ℕ) (step : LinkSeen → LinkSeen) → ((link : LinkSeen) → (step link).link ≡ link.link) → (high : ℕ) (links new : List LinkSeen)

@@ -2,7 +2,7 @@
 use Rattle.std.proofs.Common.{◌≡◌, ℕ, zero, suc, ◌+◌, ◌-◌, ◌^◌, ◌≤◌, ◌<◌, ◌==◌, ◌||◌, Bool, true, false, not, List, [], ◌∷◌, ◌++◌, length, map, filter, get_or, slice_get, slice_set, min, refl, sym, ap, ◌∙◌, subst, arith, cond, take, take_all, append-nil, ⊎_elim, Some, if◌then◌else◌}
 use Rattle.std.specs.List.{All, flat_map, list_any, position, position_or_len, sum_by}
 use Rattle.std.proofs.lemmas.Bool.{cases_Bool}
-use Rattle.std.proofs.lemmas.List.{map-append}
+use Rattle.std.proofs.lemmas.List.{length-map, map-append}
 use Rattle.std.proofs.lemmas.List.Elements.{filter_more}
 use Rattle.std.proofs.lemmas.List.Sums.{sum_by-append, sum_by-cons}
 use Rattle.std.proofs.lemmas.Option.{get_or_from_slice_get, slice_get-get_or}
@@ -41,11 +41,6 @@ joined_at (x ∷ hs) [] i h s all lt at there = absurd all
 joined_at (x ∷ hs) (y ∷ ss) zero h s all lt at there = ap (λ a. joined a s) at ∙ ap (joined x) there
 joined_at (x ∷ hs) (y ∷ ss) (suc i) h s all lt at there = joined_at hs ss i h s all.1 (omega arith) at there
 
-joined_many : (hs : List LinkSeen) (ss : List worker.LinkSeen) → AllMatch hs ss → length (joined_all hs ss) ≡ length hs
-joined_many [] ss all = refl
-joined_many (h ∷ hs) [] all = absurd all
-joined_many (h ∷ hs) (s ∷ ss) all = let rest = joined_many hs ss all.1 in omega (arith, rest)
-
 -- what a link is fed is there
 pub state_at : (ss : List worker.LinkSeen) (i : ℕ) → i < length ss → (s : worker.LinkSeen) × (slice_get ss i ≡ Some s) × (s ≡ get_or ss i s)
 state_at [] i lt = absurd (omega arith)
@@ -55,61 +50,45 @@ state_at (s ∷ ss) i lt =
 
 -- ---- what hangs on what is kept of the sessions alone
 
+-- what is made of the links one after another
+folded : {X : Type 0} (F : List LinkSeen → X) (more : LinkSeen → X → X) → ((l : LinkSeen) (ls : List LinkSeen) → F (l ∷ ls) ≡ more l (F ls))
+    → ((h : LinkSeen) (s : worker.LinkSeen) (x : X) → more (joined h s) x ≡ more h x) → (hs : List LinkSeen) (ss : List worker.LinkSeen) → AllMatch hs ss → F (joined_all hs ss) ≡ F hs
+folded F more each same [] ss all = refl
+folded F more each same (h ∷ hs) [] all = absurd all
+folded F more each same (h ∷ hs) (s ∷ ss) all =
+    each (joined h s) (joined_all hs ss) ∙ same h s (F (joined_all hs ss)) ∙ ap (more h) (folded F more each same hs ss all.1) ∙ sym (each h hs)
+
+joined_many : (hs : List LinkSeen) (ss : List worker.LinkSeen) → AllMatch hs ss → length (joined_all hs ss) ≡ length hs
+joined_many = folded length (λ l n. suc n) (λ l ls. refl) (λ h s n. refl)
+
 module _ {X : Type 0} (f : LinkSeen → X) (same : (h : LinkSeen) (s : worker.LinkSeen) → f (joined h s) ≡ f h) where
   pub map_same : (hs : List LinkSeen) (ss : List worker.LinkSeen) → AllMatch hs ss → map f (joined_all hs ss) ≡ map f hs
-  map_same [] ss all = refl
-  map_same (h ∷ hs) [] all = absurd all
-  map_same (h ∷ hs) (s ∷ ss) all = rw (same h s, map_same hs ss all.1) refl
+  map_same = folded (map f) (λ l xs. f l ∷ xs) (λ l ls. refl) (λ h s xs. ap (λ x. x ∷ xs) (same h s))
 
   pub picked_same : (none : X) (number : ℕ) (hs : List LinkSeen) (ss : List worker.LinkSeen) → AllMatch hs ss → picked_at f none number (joined_all hs ss) ≡ picked_at f none number hs
-  picked_same none number [] ss all = refl
-  picked_same none number (h ∷ hs) [] all = absurd all
-  picked_same none number (h ∷ hs) (s ∷ ss) all = rw (same h s, picked_same none number hs ss all.1) refl
+  picked_same none number =
+      folded (picked_at f none number) (λ l x. if has_that number l then f l else x) (λ l ls. refl) (λ h s x. ap (λ y. if has_that number h then y else x) (same h s))
 
   pub passing_same : (p : LinkSeen → Bool) → ((h : LinkSeen) (s : worker.LinkSeen) → p (joined h s) ≡ p h) → (hs : List LinkSeen) (ss : List worker.LinkSeen) → AllMatch hs ss
       → map f (filter p (joined_all hs ss)) ≡ map f (filter p hs)
-  passing_same p alike [] ss all = refl
-  passing_same p alike (h ∷ hs) [] all = absurd all
-  passing_same p alike (h ∷ hs) (s ∷ ss) all =
-      let rest = passing_same p alike hs ss all.1 in
-      ap (λ b. map f (cond b (joined h s ∷ filter p (joined_all hs ss)) (filter p (joined_all hs ss)))) (alike h s)
-      ∙ ⊎_elim
-      (λ (is : p h ≡ true). rw is (ap (λ x. x ∷ map f (filter p (joined_all hs ss))) (same h s) ∙ ap (λ xs. f h ∷ xs) rest))
-      (λ (other : p h ≡ false). rw other rest)
-      (cases_Bool (p h))
+  passing_same p alike = folded (λ ls. map f (filter p ls)) (λ l xs. cond (p l) (f l ∷ xs) xs)
+      (λ l ls. elim (p l) as (λ b. map f (cond b (l ∷ filter p ls) (filter p ls)) ≡ cond b (f l ∷ map f (filter p ls)) (map f (filter p ls))) [ true ↦ refl | false ↦ refl ])
+      (λ h s xs. ap (λ b. cond b (f (joined h s) ∷ xs) xs) (alike h s) ∙ ap (λ x. cond (p h) (x ∷ xs) xs) (same h s))
 
 pub flat_same : {X : Type 0} (f : LinkSeen → List X) → ((h : LinkSeen) (s : worker.LinkSeen) → f (joined h s) ≡ f h) → (hs : List LinkSeen) (ss : List worker.LinkSeen) → AllMatch hs ss
     → flat_map f (joined_all hs ss) ≡ flat_map f hs
-flat_same f same [] ss all = refl
-flat_same f same (h ∷ hs) [] all = absurd all
-flat_same f same (h ∷ hs) (s ∷ ss) all = ap (λ xs. xs ++ flat_map f (joined_all hs ss)) (same h s) ∙ ap (λ xs. f h ++ xs) (flat_same f same hs ss all.1)
+flat_same f same = folded (flat_map f) (λ l xs. f l ++ xs) (λ l ls. refl) (λ h s xs. ap (λ ys. ys ++ xs) (same h s))
 
 module _ (p : LinkSeen → Bool) (same : (h : LinkSeen) (s : worker.LinkSeen) → p (joined h s) ≡ p h) where
   pub any_same : (hs : List LinkSeen) (ss : List worker.LinkSeen) → AllMatch hs ss → list_any p (joined_all hs ss) ≡ list_any p hs
-  any_same [] ss all = refl
-  any_same (h ∷ hs) [] all = absurd all
-  any_same (h ∷ hs) (s ∷ ss) all = ap (λ b. b || list_any p (joined_all hs ss)) (same h s) ∙ ap (λ b. p h || b) (any_same hs ss all.1)
+  any_same = folded (list_any p) (λ l b. p l || b) (λ l ls. refl) (λ h s b. ap (λ a. a || b) (same h s))
 
   pub count_same : (hs : List LinkSeen) (ss : List worker.LinkSeen) → AllMatch hs ss → length (filter p (joined_all hs ss)) ≡ length (filter p hs)
-  count_same [] ss all = refl
-  count_same (h ∷ hs) [] all = absurd all
-  count_same (h ∷ hs) (s ∷ ss) all =
-      let rest = count_same hs ss all.1 in
-      ap (λ b. length (cond b (joined h s ∷ filter p (joined_all hs ss)) (filter p (joined_all hs ss)))) (same h s)
-      ∙ ⊎_elim
-      (λ (is : p h ≡ true). rw is (omega (arith, rest)))
-      (λ (other : p h ≡ false). rw other rest)
-      (cases_Bool (p h))
+  count_same hs ss all =
+      sym (length-map (filter p (joined_all hs ss)) number_of) ∙ ap length (passing_same number_of (λ h s. refl) p same hs ss all) ∙ length-map (filter p hs) number_of
 
   place_same : (hs : List LinkSeen) (ss : List worker.LinkSeen) → AllMatch hs ss → position_or_len p (joined_all hs ss) ≡ position_or_len p hs
-  place_same [] ss all = refl
-  place_same (h ∷ hs) [] all = absurd all
-  place_same (h ∷ hs) (s ∷ ss) all =
-      let rest = place_same hs ss all.1 in
-      ⊎_elim
-      (λ (is : p h ≡ true). let here : p (joined h s) ≡ true = same h s ∙ is in rw (here, is) refl)
-      (λ (other : p h ≡ false). let here : p (joined h s) ≡ false = same h s ∙ other in rw (here, other) (ap (λ n. 1 + n) rest))
-      (cases_Bool (p h))
+  place_same = folded (position_or_len p) (λ l n. cond (not (p l)) (1 + n) 0) (λ l ls. refl) (λ h s n. ap (λ b. cond (not b) (1 + n) 0) (same h s))
 
   pub position_same : (hs : List LinkSeen) (ss : List worker.LinkSeen) → AllMatch hs ss → position p (joined_all hs ss) ≡ position p hs
   position_same hs ss all =
@@ -200,13 +179,7 @@ module _ (g : worker.LinkSeen → worker.LinkSeen) where
       where
         -- a sum whose later part is known up to a counter's last value
         more_first : (a sum before n : ℕ) → min sum (2 ^ 64 - 1) ≡ min (before + n) (2 ^ 64 - 1) → min (a + sum) (2 ^ 64 - 1) ≡ min (a + (before + n)) (2 ^ 64 - 1)
-        more_first a sum before n is =
-            let top = 2 ^ 64 - 1 in
-            ap (λ m. min m top) (let here : a + sum ≡ sum + a = omega arith in here)
-            ∙ sym (capped sum a top)
-            ∙ ap (λ m. min (m + a) top) is
-            ∙ capped (before + n) a top
-            ∙ ap (λ m. min m top) (let here : before + n + a ≡ a + (before + n) = omega arith in here)
+        more_first a sum before n is = omega (arith, is)
 
     -- how many lines are put
     pub put_changed : (takes : LinkSeen → Bool) → ((h : LinkSeen) (s : worker.LinkSeen) → Q h → Matches h s → (g s).put ≡ (if takes (joined h s) then one_more s.put else s.put))
@@ -339,8 +312,7 @@ put_set ss i t same = ap (λ n. min n (2 ^ 64 - 1)) (sums ss i same)
 
 pub submitted_same : (from : Source) (hs : List LinkSeen) (ss : List worker.LinkSeen) → AllMatch hs ss → submitted_from from (joined_all hs ss) ≡ submitted_from from hs
 submitted_same (source.Link number) hs ss all = picked_same client_kept (λ h s. refl) false number hs ss all
-submitted_same (source.Submit listener) hs ss all = refl
-submitted_same (source.Peer peer) hs ss all = refl
+submitted_same from hs ss all = refl
 
 pub over_same : (hs : List LinkSeen) (ss : List worker.LinkSeen) → AllMatch hs ss → map link_of (filter is_over ss) ≡ numbers (filter is_overfull (joined_all hs ss))
 over_same [] [] all = refl
@@ -396,5 +368,4 @@ brought_matches h g s is m =
 
 pub others_same : (from : Source) (hs : List LinkSeen) (ss : List worker.LinkSeen) → AllMatch hs ss → others_from from (joined_all hs ss) ≡ others_from from hs
 others_same (source.Link number) hs ss all = flat_same (other_login number) (λ h s. refl) hs ss all
-others_same (source.Submit listener) hs ss all = flat_same login_kept (λ h s. refl) hs ss all
-others_same (source.Peer peer) hs ss all = flat_same login_kept (λ h s. refl) hs ss all
+others_same from hs ss all = flat_same login_kept (λ h s. refl) hs ss all

@@ -1,9 +1,10 @@
 -- What comes to the links that are served, and what it leaves of them.
-use Rattle.std.proofs.Common.{◌≡◌, ◌==◌, ℕ, ◌^◌, ◌<◌, ◌+◌, ◌-◌, Bool, true, false, List, [], ◌∷◌, ◌++◌, length, map, min, filter, get_or, slice_get, slice_set, refl, sym, ap, ◌∙◌, subst, arith, Option, Some, None, Result, Ok, Err, OnOk, OnErr, ⊎_elim, zero, suc, not, ◌||◌, ◌&&◌, cond, if◌then◌else◌}
+use Rattle.std.proofs.Common.{◌≡◌, ℕ, ◌^◌, ◌<◌, ◌+◌, ◌-◌, Bool, true, false, List, [], ◌∷◌, ◌++◌, length, map, min, filter, get_or, slice_get, slice_set, refl, sym, ap, ◌∙◌, subst, arith, Option, Some, None, Result, Ok, Err, OnOk, OnErr, ⊎_elim, zero, suc, not, ◌||◌, ◌&&◌, cond, if◌then◌else◌}
 use Rattle.std.specs.Bool.{⊤}
 use Rattle.std.specs.List.{All, list_any, position}
 use Rattle.std.proofs.Math.Seq.{map-set_same}
-use Rattle.std.proofs.lemmas.Bool.{cases_Bool, eqb-true, true≢false}
+use Rattle.std.proofs.Math.Bool.{and-false}
+use Rattle.std.proofs.lemmas.Bool.{cases_Bool, true≢false}
 use Rattle.std.proofs.lemmas.List.{length-map}
 use Rattle.std.proofs.lemmas.Option.{get_or_from_slice_get}
 use Rattle.aprs_base.specs.PacketSeen.{PacketSeen}
@@ -14,7 +15,6 @@ use Rattle.aprs_history.specs.Stands.{LinkSeen}
 use Rattle.aprs_history.specs.Trace.{is_from}
 use Rattle.filter_eval.specs.Passes.{fresh}
 use Rattle.filter_eval.specs.declared.seen.Seen.{Seen}
-use Rattle.link_feeds.proofs.FeedLemmas.{capped}
 use Rattle.link_feeds.specs.Feeds.{FeedsSeen, counted, forgotten, is_other, met_by, new_feed, put_in, told, with_login, with_taken, with_terms}
 use Rattle.filter_lang.specs.Terms.{TermSeen}
 use Rattle.heard_routing.specs.Heard.{is_among}
@@ -29,10 +29,12 @@ use Rattle.served_links.specs.Links.{Rises, has_that, is_none_of, number_of, num
 use Rattle.served_links.specs.Changes.{at_link, at_moment, has_room, is_asked_at, is_shown_at, takes_packet, takes_shown, with_date, with_packet, with_shown, with_text}
 use Rattle.served_links.specs.Halves.{more}
 use Rattle.served_links.specs.declared.link.SourcePlace.{SourcePlace}
+use Rattle.served_links.specs.declared.served.Served.TheInside.{Inside}
+use Rattle.aprs_history.proofs.NumberLemmas.{rises_higher}
 use Rattle.served_links.proofs.AskedLemmas.{listed_at}
 use Rattle.served_links.proofs.FedLemmas.{date_same, date_uncounted, heard_counted, heard_same, shown_counted, shown_same, told_matches, told_same, told_uncounted}
-use Rattle.served_links.proofs.LinkLemmas.{changed_by, changed_nowhere, picked_found, picked_none, position_some, rises_filter, rises_push, rises_to}
-use Rattle.served_links.proofs.ServedLemmas.{any_half, as_many, counted_all, counted_match, joined_at, joined_left, joined_push, match_at, match_left, match_push, match_set, none_put, numbers_same, position_same, put_changed, put_kept, put_left, put_push, put_set, rises_same, state_at, state_set, states_changed, states_match}
+use Rattle.served_links.proofs.LinkLemmas.{changed_by, changed_nowhere, picked_found, picked_none, position_some, rises_filter, rises_push, rises_at}
+use Rattle.served_links.proofs.ServedLemmas.{any_half, as_many, counted_all, counted_match, joined_at, joined_left, joined_push, match_at, match_left, match_push, match_set, none_put, numbers_same, position_same, put_changed, put_kept, put_left, put_push, put_set, rises_same, state_at, state_set, states_changed, states_match, halves_changed, halves_match}
 
 abbrev pub links_of : ServedSeen → List LinkSeen
 links_of served = served.links
@@ -43,9 +45,14 @@ settled_of served = served.settled
 abbrev pub rests_of : ServedSeen → Bool
 rests_of served = served.rests
 
+-- what is found of the sessions that are kept is found of the links as they are seen
+pub asked : {X : Type 0} (inside : Inside) {now : ServedSeen} {searched : List LinkSeen} → served_seen inside.halves.items inside.feeds inside.queued inside.rests ≡ now → searched ≡ inside.halves.items
+    → (f : List LinkSeen → X) → f (joined_all inside.halves.items inside.feeds.links) ≡ f inside.halves.items → f searched ≡ f now.links
+asked inside view same f alike = ap f same ∙ sym alike ∙ ap (λ (served : ServedSeen). f served.links) view
+
 -- no link is left
-pub none_served : AreHalves [] (record { links = []; settled = true })
-none_served = record { match = tt; rising = omega arith }
+none_left : (hs : List LinkSeen) (left : FeedsSeen) → (hs ≡ []) × (left ≡ record { links = []; settled = true }) → AreHalves hs left
+none_left hs left gone = subst (λ ls. AreHalves ls left) (sym gone.0) (subst (AreHalves []) (sym gone.1) (record { match = tt; rising = omega arith }))
 
 -- a step of what the links are, which puts no packet line
 pub seen_changed : (hs new_hs : List LinkSeen) (feeds new : FeedsSeen) (queued : ℕ) (rests : Bool) (now : ServedSeen) (links : List LinkSeen) → served_seen hs feeds queued rests ≡ now
@@ -60,82 +67,71 @@ seen_changed hs new_hs feeds new queued rests now links is changed put settled =
 
 -- as many more were put
 pub more_later : (n put queued : ℕ) → more (more n put) queued ≡ more n (more put queued)
-more_later n put queued =
-    let top = 2 ^ 64 - 1 in
-    let first : min (queued + min (put + n) top) top ≡ min (queued + (put + n)) top = ap (λ m. min m top) (let here : queued + min (put + n) top ≡ min (put + n) top + queued = omega arith in here) ∙ capped (put + n) queued top ∙ ap (λ m. min m top) (let here : put + n + queued ≡ queued + (put + n) = omega arith in here) in
-    first ∙ ap (λ m. min m top) (let here : queued + (put + n) ≡ queued + put + n = omega arith in here) ∙ sym (capped (queued + put) n top)
+more_later n put queued = omega arith
 
 pub none_later : (queued put : ℕ) → more 0 (more put queued) ≡ more put queued
-none_later queued put = sym (more_later 0 put queued) ∙ ap (λ n. more n queued) (let here : more 0 put ≡ min put (2 ^ 64 - 1) = ap (λ n. min n (2 ^ 64 - 1)) (let same : put + 0 ≡ put = omega arith in same) in here) ∙ more_small put queued
-  where
-    more_small : (put queued : ℕ) → more (min put (2 ^ 64 - 1)) queued ≡ more put queued
-    more_small put queued =
-        let top = 2 ^ 64 - 1 in
-        ap (λ m. min m top) (let here : queued + min put top ≡ min put top + queued = omega arith in here) ∙ capped put queued top ∙ ap (λ m. min m top) (let here : put + queued ≡ queued + put = omega arith in here)
+none_later queued put = omega arith
 
 pub none_more : (hs : List LinkSeen) (feeds : FeedsSeen) (queued : ℕ) (rests : Bool) (now : ServedSeen) → served_seen hs feeds queued rests ≡ now → more 0 now.queued ≡ now.queued
 none_more hs feeds queued rests now view =
     let is = ap (λ (s : ServedSeen). s.queued) view in ap (more 0) (sym is) ∙ none_later queued (put_in feeds.links) ∙ is
 
 -- after want of memory no link is left
-pub met_are : {E : Type 0} (r : Result ⊤ E) (hs left_hs : List LinkSeen) (feeds left : FeedsSeen) (item : worker.ItemSeen) → AreHalves hs feeds
-    → ((h : LinkSeen) (s : worker.LinkSeen) → Matches h s → Matches h (after s item)) → OnOk r (left_hs ≡ hs) → OnOk r (left.links ≡ met_by item feeds.links)
-    → OnErr r ((left_hs ≡ []) × (left ≡ record { links = []; settled = true })) → AreHalves left_hs left
-met_are (Ok done) hs left_hs feeds left item are kept same met gone =
-    subst (λ ls. AreHalves ls left) (sym same) (record {
-      match = subst (AllMatch hs) (sym met) (states_match (λ s. after s item) kept hs feeds.links are.match);
-      rising = are.rising;
-    })
-met_are (Err e) hs left_hs feeds left item are kept same met gone = subst (λ ls. AreHalves ls left) (sym gone.0) (subst (AreHalves []) (sym gone.1) none_served)
+pub met_are : {E : Type 0} (r : Result ⊤ E) (inside : Inside) (left_hs : List LinkSeen) (left : FeedsSeen) (item : worker.ItemSeen) → AreHalves inside.halves.items inside.feeds
+    → ((h : LinkSeen) (s : worker.LinkSeen) → Matches h s → Matches h (after s item)) → OnOk r (left_hs ≡ inside.halves.items) → OnOk r (left.links ≡ met_by item inside.feeds.links)
+    → OnOk r (left.settled ≡ inside.rests) → OnErr r ((left_hs ≡ []) × (left ≡ record { links = []; settled = true })) → AreHalves left_hs left × (inside.rests ≡ true → left.settled ≡ true)
+met_are (Ok done) inside left_hs left item are kept same met settled gone = (
+  subst (λ ls. AreHalves ls left) (sym same) (record {
+    match = subst (AllMatch inside.halves.items) (sym met) (states_match (λ s. after s item) kept inside.halves.items inside.feeds.links are.match);
+    rising = are.rising;
+  }),
+  λ rest. settled ∙ rest,
+)
+met_are (Err e) inside left_hs left item are kept same met settled gone = (none_left left_hs left gone, λ rest. ap (λ (f : FeedsSeen). f.settled) gone.1)
 
-pub met_rest : {E : Type 0} (r : Result ⊤ E) (rests : Bool) (left_hs : List LinkSeen) (left : FeedsSeen) → OnOk r (left.settled ≡ rests) → OnErr r ((left_hs ≡ []) × (left ≡ record { links = []; settled = true }))
-    → rests ≡ true → left.settled ≡ true
-met_rest (Ok done) rests left_hs left settled gone rest = settled ∙ rest
-met_rest (Err e) rests left_hs left settled gone rest = ap (λ (f : FeedsSeen). f.settled) gone.1
+pub met_rises : {E : Type 0} (r : Result ⊤ E) (inside : Inside) (left_hs : List LinkSeen) (left : FeedsSeen) {now : ServedSeen} → served_seen inside.halves.items inside.feeds inside.queued inside.rests ≡ now
+    → AreHalves inside.halves.items inside.feeds → AreHalves left_hs left → OnOk r (left_hs ≡ inside.halves.items) → OnErr r ((left_hs ≡ []) × (left ≡ record { links = []; settled = true }))
+    → (high : ℕ) → Rises 0 (numbers now.links) high → Rises 0 (numbers (joined_all left_hs left.links)) high
+met_rises (Ok done) inside left_hs left view are left_are same gone high rises =
+    subst (λ ns. Rises 0 ns high) (sym (numbers_same left_hs left.links left_are.match ∙ asked inside view same numbers (numbers_same inside.halves.items inside.feeds.links are.match))) rises
+met_rises (Err e) inside left_hs left view are left_are same gone high rises = subst (λ ls. Rises 0 (numbers (joined_all ls left.links)) high) (sym gone.0) (omega arith)
 
-pub met_rises : {E : Type 0} (r : Result ⊤ E) (hs left_hs now : List LinkSeen) (feeds left : FeedsSeen) → AreHalves hs feeds → AreHalves left_hs left → OnOk r (left_hs ≡ hs) → OnErr r ((left_hs ≡ []) × (left ≡ record { links = []; settled = true }))
-    → joined_all hs feeds.links ≡ now → (high : ℕ) → Rises 0 (numbers now) high → Rises 0 (numbers (joined_all left_hs left.links)) high
-met_rises (Ok done) hs left_hs now feeds left are left_are same gone is high rises =
-    subst (λ ns. Rises 0 ns high)
-    (sym (numbers_same left_hs left.links left_are.match ∙ ap numbers same ∙ sym (numbers_same hs feeds.links are.match) ∙ ap numbers is))
-    rises
-met_rises (Err e) hs left_hs now feeds left are left_are same gone is high rises =
-    subst (λ ls. Rises 0 (numbers (joined_all ls left.links)) high) (sym gone.0) (omega arith)
-
-pub met_seen : {E : Type 0} (r : Result ⊤ E) (step : LinkSeen → LinkSeen) (count : ServedSeen → ℕ) (hs left_hs : List LinkSeen) (feeds left : FeedsSeen) (item : worker.ItemSeen) (queued : ℕ) (rests : Bool) (now : ServedSeen)
-    → joined_all hs (met_by item feeds.links) ≡ map step (joined_all hs feeds.links) → more (put_in (met_by item feeds.links)) queued ≡ count (served_seen hs feeds queued rests)
-    → OnOk r (left_hs ≡ hs) → OnOk r (left.links ≡ met_by item feeds.links) → OnOk r (left.settled ≡ rests)
-    → served_seen hs feeds queued rests ≡ now → OnOk r (served_seen left_hs left queued rests ≡ record now { links = map step now.links; queued = count now; settled = now.rests })
-met_seen (Ok done) step count hs left_hs feeds left item queued rests now stepped counts same met settled is =
-    ap (λ ls. served_seen ls left queued rests) same
-    ∙ ap (λ (ls : List worker.LinkSeen). record { links = joined_all hs ls; queued = more (put_in ls) queued; settled = left.settled; rests = rests }) met
-    ∙ ap (λ b. record { links = joined_all hs (met_by item feeds.links); queued = more (put_in (met_by item feeds.links)) queued; settled = b; rests = rests }) settled
-    ∙ ap (λ (ls : List LinkSeen). record { links = ls; queued = more (put_in (met_by item feeds.links)) queued; settled = rests; rests = rests }) stepped
-    ∙ ap (λ m. record { links = map step (joined_all hs feeds.links); queued = m; settled = rests; rests = rests }) counts
+pub met_seen : {E : Type 0} (r : Result ⊤ E) (step : LinkSeen → LinkSeen) (count : ServedSeen → ℕ) (inside : Inside) (left_hs : List LinkSeen) (left : FeedsSeen) (item : worker.ItemSeen) {now : ServedSeen}
+    → joined_all inside.halves.items (met_by item inside.feeds.links) ≡ map step (joined_all inside.halves.items inside.feeds.links)
+    → more (put_in (met_by item inside.feeds.links)) inside.queued ≡ count (served_seen inside.halves.items inside.feeds inside.queued inside.rests)
+    → OnOk r (left_hs ≡ inside.halves.items) → OnOk r (left.links ≡ met_by item inside.feeds.links) → OnOk r (left.settled ≡ inside.rests)
+    → served_seen inside.halves.items inside.feeds inside.queued inside.rests ≡ now
+    → OnOk r (served_seen left_hs left inside.queued inside.rests ≡ record now { links = map step now.links; queued = count now; settled = now.rests })
+met_seen (Ok done) step count inside left_hs left item stepped counts same met settled is =
+    let met_links = met_by item inside.feeds.links in
+    ap (λ ls. served_seen ls left inside.queued inside.rests) same
+    ∙ ap (λ (ls : List worker.LinkSeen). record { links = joined_all inside.halves.items ls; queued = more (put_in ls) inside.queued; settled = left.settled; rests = inside.rests }) met
+    ∙ ap (λ b. record { links = joined_all inside.halves.items met_links; queued = more (put_in met_links) inside.queued; settled = b; rests = inside.rests }) settled
+    ∙ ap (λ (ls : List LinkSeen). record { links = ls; queued = more (put_in met_links) inside.queued; settled = inside.rests; rests = inside.rests }) stepped
+    ∙ ap (λ m. record { links = map step (joined_all inside.halves.items inside.feeds.links); queued = m; settled = inside.rests; rests = inside.rests }) counts
     ∙ ap (λ (s : ServedSeen). record s { links = map step s.links; queued = count s; settled = s.rests }) is
-met_seen (Err e) step count hs left_hs feeds left item queued rests now stepped counts same met settled is = tt
+met_seen (Err e) step count inside left_hs left item stepped counts same met settled is = tt
 
 -- all that came is matched
-pub settled_are : {E : Type 0} (r : Result ⊤ E) (hs left_hs : List LinkSeen) (feeds left : FeedsSeen) → AreHalves hs feeds → OnOk r (left_hs ≡ hs) → OnOk r (left ≡ record feeds { settled = true })
-    → OnErr r ((left_hs ≡ []) × (left ≡ record { links = []; settled = true })) → AreHalves left_hs left × (left.settled ≡ true)
-settled_are (Ok done) hs left_hs feeds left are same is gone =
-    (subst (λ ls. AreHalves ls left) (sym same) (subst (AreHalves hs) (sym is) (record { match = are.match; rising = are.rising })), ap (λ (f : FeedsSeen). f.settled) is)
-settled_are (Err e) hs left_hs feeds left are same is gone = (subst (λ ls. AreHalves ls left) (sym gone.0) (subst (AreHalves []) (sym gone.1) none_served), ap (λ (f : FeedsSeen). f.settled) gone.1)
+pub settled_are : {E : Type 0} (r : Result ⊤ E) (inside : Inside) (left_hs : List LinkSeen) (left : FeedsSeen) → AreHalves inside.halves.items inside.feeds → OnOk r (left_hs ≡ inside.halves.items)
+    → OnOk r (left ≡ record inside.feeds { settled = true }) → OnErr r ((left_hs ≡ []) × (left ≡ record { links = []; settled = true })) → AreHalves left_hs left × (inside.rests ≡ true → left.settled ≡ true)
+settled_are (Ok done) inside left_hs left are same is gone = (
+  subst (λ ls. AreHalves ls left) (sym same) (subst (AreHalves inside.halves.items) (sym is) (record { match = are.match; rising = are.rising })),
+  λ rest. ap (λ (f : FeedsSeen). f.settled) is,
+)
+settled_are (Err e) inside left_hs left are same is gone = (none_left left_hs left gone, λ rest. ap (λ (f : FeedsSeen). f.settled) gone.1)
 
-pub settled_seen : {E : Type 0} (r : Result ⊤ E) (hs left_hs : List LinkSeen) (feeds left : FeedsSeen) (queued : ℕ) (rests : Bool) (now : ServedSeen) → OnOk r (left_hs ≡ hs) → OnOk r (left ≡ record feeds { settled = true })
-    → served_seen hs feeds queued rests ≡ now → OnOk r (served_seen left_hs left queued rests ≡ record now { settled = true })
-settled_seen (Ok done) hs left_hs feeds left queued rests now same is view =
-    ap (λ ls. served_seen ls left queued rests) same ∙ ap (λ f. served_seen hs f queued rests) is ∙ ap (λ (s : ServedSeen). record s { settled = true }) view
-settled_seen (Err e) hs left_hs feeds left queued rests now same is view = tt
+pub settled_seen : {E : Type 0} (r : Result ⊤ E) (inside : Inside) (left_hs : List LinkSeen) (left : FeedsSeen) {now : ServedSeen} → OnOk r (left_hs ≡ inside.halves.items)
+    → OnOk r (left ≡ record inside.feeds { settled = true }) → served_seen inside.halves.items inside.feeds inside.queued inside.rests ≡ now
+    → OnOk r (served_seen left_hs left inside.queued inside.rests ≡ record now { settled = true })
+settled_seen (Ok done) inside left_hs left same is view =
+    ap (λ ls. served_seen ls left inside.queued inside.rests) same ∙ ap (λ f. served_seen inside.halves.items f inside.queued inside.rests) is ∙ ap (λ (s : ServedSeen). record s { settled = true }) view
+settled_seen (Err e) inside left_hs left same is view = tt
 
 -- a duplicate that is shown to nobody
 module _ (from : Source) (line : List ℕ) where
-  and_false : (b : Bool) → (b && false) ≡ false
-  and_false true = refl
-  and_false false = refl
-
   unshown : (l : LinkSeen) → shows_kept l ≡ false → is_shown_at from l ≡ false
-  unshown l hides = ap (λ b. not (is_from l.link from) && b) hides ∙ and_false (not (is_from l.link from))
+  unshown l hides = ap (λ b. not (is_from l.link from) && b) hides ∙ and-false (not (is_from l.link from))
 
   pub none_shown : (links : List LinkSeen) → list_any shows_kept links ≡ false → links ≡ map (with_shown from line) links
   none_shown [] none = refl
@@ -202,10 +198,6 @@ left_seen ns hs left_hs feeds counts left put queued total rests now are halves 
     ∙ ap (λ n. record { links = filter (is_none_of ns) (joined_all hs feeds.links); queued = n; settled = feeds.settled; rests = rests }) (ap (more 0) is_total ∙ none_later queued (put_in feeds.links))
     ∙ ap (λ (s : ServedSeen). record s { links = filter (is_none_of ns) s.links }) view
 
-pub none_there : (ns : List ℕ) → (length ns == 0) ≡ true → ns ≡ []
-none_there [] none = refl
-none_there (n ∷ ns) none = let is : length (n ∷ ns) ≡ 0 = eqb-true (length (n ∷ ns)) 0 none in absurd (omega (arith, is))
-
 -- where no number is named none leaves
 pub none_leaves : (links : List LinkSeen) → filter (is_none_of []) links ≡ links
 none_leaves [] = refl
@@ -218,7 +210,7 @@ more_are hs left_hs feeds left h s high are new rises above small halves is =
     subst (λ ls. AreHalves ls left) (sym halves)
     (subst (AreHalves (hs ++ h ∷ [])) (sym is) (record {
       match = match_push hs feeds.links h s are.match new;
-      rising = rises_to 0 h.link (2 ^ 32) (numbers (hs ++ h ∷ [])) (rises_push 0 high hs h (subst (λ ns. Rises 0 ns high) (numbers_same hs feeds.links are.match) rises) above) (omega arith);
+      rising = rises_higher 0 h.link (2 ^ 32) (numbers (hs ++ h ∷ [])) (omega arith) (rises_push 0 high hs h (subst (λ ns. Rises 0 ns high) (numbers_same hs feeds.links are.match) rises) above);
     }))
 
 pub more_links : (hs left_hs now : List LinkSeen) (feeds left : FeedsSeen) (h link : LinkSeen) (s : worker.LinkSeen) → AreHalves hs feeds → left_hs ≡ hs ++ h ∷ [] → left ≡ record feeds { links = feeds.links ++ s ∷ [] }
@@ -302,14 +294,17 @@ module _ (number : ℕ) (hs searched : List LinkSeen) (feeds left : FeedsSeen) (
   fed : Matches half.0 (f state.0)
   fed = kept half.0 state.0 (match_at hs feeds.links place half.0 state.0 are.match within half.1 state.2)
 
-  pub told_are : AreHalves hs left
-  told_are =
+  halves_are : AreHalves hs left
+  halves_are =
       subst (λ ls. AreHalves ls left) (half_kept hs place half.0 half.1)
       (changed_are hs feeds left are place half.0 half.0 state.0 (told line (f state.0)) within half.1 state.2 (is state.0 state.1)
       (told_matches half.0 (f state.0).link line (f state.0) fed) refl)
 
-  pub told_settled : left.settled ≡ feeds.settled
+  told_settled : left.settled ≡ feeds.settled
   told_settled = changed_settled hs feeds left are place half.0 half.0 state.0 (told line (f state.0)) within half.1 state.2 (is state.0 state.1)
+
+  pub told_are : {rests : Bool} → (rests ≡ true → feeds.settled ≡ true) → AreHalves hs left × (rests ≡ true → left.settled ≡ true)
+  told_are settled = (halves_are, λ rest. told_settled ∙ settled rest)
 
   told_links : (step : LinkSeen → LinkSeen) (now : List LinkSeen) → ((h : LinkSeen) (s : worker.LinkSeen) → with_text line (joined h (f s)) ≡ step (joined h s)) → joined_all hs feeds.links ≡ now
       → joined_all hs left.links ≡ map (at_link number step) now
@@ -325,6 +320,22 @@ module _ (number : ℕ) (hs searched : List LinkSeen) (feeds left : FeedsSeen) (
       (changed_put hs feeds left are place half.0 half.0 state.0 (told line (f state.0)) within half.1 state.2 (is state.0 state.1) (told_uncounted half.0 (f state.0) fed (f state.0).link line ∙ put state.0))
       told_settled
 
+-- what is kept of the session of that number changes
+module _ (number : ℕ) (step : LinkSeen → LinkSeen) (kept : (h : LinkSeen) (s : worker.LinkSeen) → Matches h s → Matches (step h) s) (same : (h : LinkSeen) (s : worker.LinkSeen) → joined (step h) s ≡ step (joined h s))
+    (numbered : (h : LinkSeen) → (step h).link ≡ h.link) (inside : Inside) (new : List LinkSeen) (is : new ≡ map (at_link number step) inside.halves.items) where
+  pub stepped_are : AreHalves inside.halves.items inside.feeds → AreHalves new inside.feeds
+  stepped_are are = record {
+    match = subst (λ hs. AllMatch hs inside.feeds.links) (sym is) (halves_match step kept number inside.halves.items inside.feeds.links are.match);
+    rising = rises_at number step numbered (2 ^ 32) inside.halves.items new is are.rising;
+  }
+
+  pub stepped_seen : {now : ServedSeen} → served_seen inside.halves.items inside.feeds inside.queued inside.rests ≡ now
+      → served_seen new inside.feeds inside.queued inside.rests ≡ record now { links = map (at_link number step) now.links }
+  stepped_seen view =
+      ap (λ hs. served_seen hs inside.feeds inside.queued inside.rests) is
+      ∙ ap (λ (links : List LinkSeen). record (served_seen inside.halves.items inside.feeds inside.queued inside.rests) { links = links }) (halves_changed step same number inside.halves.items inside.feeds.links)
+      ∙ ap (λ (served : ServedSeen). record served { links = map (at_link number step) served.links }) view
+
 -- both halves of the link of that number change
 module _ (number : ℕ) (hs searched : List LinkSeen) (feeds left : FeedsSeen) (are : AreHalves hs feeds) (place : ℕ) (same : searched ≡ hs) (found : Some place ≡ position (has_that number) searched)
     (h new half : LinkSeen) (at : h ≡ get_or hs place h) (link : new.link ≡ h.link) (becomes : half ≡ new)
@@ -339,13 +350,16 @@ module _ (number : ℕ) (hs searched : List LinkSeen) (feeds left : FeedsSeen) (
   matches : Matches h fed_there.0
   matches = match_at hs feeds.links place h fed_there.0 are.match here at fed_there.2
 
-  pub both_are : AreHalves (slice_set hs place half) left
-  both_are =
+  changed_halves : AreHalves (slice_set hs place half) left
+  changed_halves =
       subst (λ (x : LinkSeen). AreHalves (slice_set hs place x) left) (sym becomes)
       (changed_are hs feeds left are place h new fed_there.0 (f fed_there.0) here at fed_there.2 (is fed_there.0 fed_there.1) (kept fed_there.0 matches) link)
 
-  pub both_settled : left.settled ≡ feeds.settled
+  both_settled : left.settled ≡ feeds.settled
   both_settled = changed_settled hs feeds left are place h new fed_there.0 (f fed_there.0) here at fed_there.2 (is fed_there.0 fed_there.1)
+
+  pub both_are : {rests : Bool} → (rests ≡ true → feeds.settled ≡ true) → AreHalves (slice_set hs place half) left × (rests ≡ true → left.settled ≡ true)
+  both_are settled = (changed_halves, λ rest. both_settled ∙ settled rest)
 
   pub both_seen : (step : LinkSeen → LinkSeen) → ((s : worker.LinkSeen) → Matches h s → joined new (f s) ≡ step (joined h s)) → ((s : worker.LinkSeen) → Matches h s → (f s).put ≡ s.put)
       → (queued : ℕ) (rests : Bool) (now : ServedSeen) → served_seen hs feeds queued rests ≡ now → served_seen (slice_set hs place half) left queued rests ≡ record now { links = map (at_link number step) now.links }
@@ -394,6 +408,19 @@ pending_there number hs feeds are place h s within at there found now view =
     ap (pending_at number) (sym view)
     ∙ picked_found pending_of [] number (joined_all hs ss) place (joined h s) (found ∙ sym (position_same (has_that number) (λ h s. refl) hs ss are.match))
     (joined_at hs ss place h s are.match within at at_place)
+
+pub pending_found : (number place : ℕ) (inside : Inside) (searched : List LinkSeen) {now : ServedSeen} → served_seen inside.halves.items inside.feeds inside.queued inside.rests ≡ now
+    → AreHalves inside.halves.items inside.feeds → searched ≡ inside.halves.items → Some place ≡ position (has_that number) searched
+    → (s : worker.LinkSeen) × (slice_get inside.feeds.links place ≡ Some s) × (queue.pending_bytes s.queue ≡ pending_at number now.links)
+pending_found number place inside searched {now} view are same found =
+    let hs = inside.halves.items in
+    let within = within_halves number place hs searched same found in
+    let there = state_at inside.feeds.links place (within_feeds place hs inside.feeds are within) in
+    let half = half_at hs place within in (
+      there.0,
+      there.1,
+      sym (pending_there number hs inside.feeds are place half.0 there.0 within half.1 there.1 (found ∙ ap (position (has_that number)) same) now.links (ap links_of view)),
+    )
 
 pub pending_nowhere : (number : ℕ) (hs : List LinkSeen) (feeds : FeedsSeen) → AreHalves hs feeds → None ≡ position (has_that number) hs → (now : List LinkSeen) → joined_all hs feeds.links ≡ now → pending_at number now ≡ []
 pending_nowhere number hs feeds are none now view =

@@ -1,8 +1,9 @@
 -- What each thing that comes changes of a link.
+use Rattle.served_links.specs.Fed.{new_half}
 use Rattle.std.specs.Prelude.{ℕ, ◌==◌, Bool, true, false, nat_lt, List, [], ◌∷◌, length, map, not, ◌&&◌, ◌||◌, is_some, Option, Some, None, if◌then◌else◌}
 use Rattle.std.specs.List.{zip}
 use Rattle.aprs_base.specs.PacketSeen.{PacketSeen}
-use Rattle.aprs_base.specs.Held.{Held, held_after}
+use Rattle.aprs_base.specs.Held.{Held}
 use Rattle.filter_lang.specs.Terms.{TermSeen}
 use Rattle.filter_eval.specs.Passes.{fresh, is_some_and, is_text, passes_of}
 use Rattle.filter_eval.specs.declared.seen.Seen.{Seen}
@@ -123,17 +124,4 @@ with_date line link = if is_client_link link.opening then with_text line link el
 
 -- a link that has just been opened
 abbrev pub new_link_seen : ℕ → Opening → List ℕ → LinkSeen
-new_link_seen number opening first = record {
-  link = number;
-  opening = Some opening;
-  last = opening.moment;
-  held = held_after [];
-  session = None;
-  filter = [];
-  friends = [];
-  mine = None;
-  queue = record { lines = first ∷ []; offset = 0 };
-  over = false;
-  blocked = false;
-  gone = false;
-}
+new_link_seen number opening first = record (new_half number opening) { queue = record { lines = first ∷ []; offset = 0 } }

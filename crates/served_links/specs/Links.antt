@@ -1,11 +1,12 @@
 -- Links by their numbers, and what is asked of them.
-use Rattle.std.specs.Prelude.{ℕ, ◌<◌, ◌==◌, ◌≤◌, ◌-◌, Bool, true, false, is_none, nat_le, nat_lt, List, [], ◌∷◌, length, map, filter, not, ◌&&◌, ◌||◌, Option, Some, None, if◌then◌else◌}
+use Rattle.std.specs.Prelude.{ℕ, ◌==◌, ◌-◌, Bool, true, false, is_none, nat_le, nat_lt, List, [], ◌∷◌, length, map, filter, not, ◌&&◌, ◌||◌, Option, Some, None, if◌then◌else◌}
 use Rattle.std.specs.List.{list_any, flat_map}
 use Rattle.aprs_base.specs.Bytes.{is_station}
 use Rattle.aprs_base.specs.Held.{Held}
 use Rattle.aprs_history.specs.declared.verdicts.Session.{Session}
 use Rattle.aprs_history.specs.Stands.{LinkSeen}
 use Rattle.aprs_history.specs.Trace.{is_member}
+pub use Rattle.aprs_history.specs.Trace.{Rises}
 use Rattle.aprs_history.specs.Links.{has_filters, is_client_link, login_seconds, opened_at}
 use Rattle.aprs_history.specs.Scenes.{speaker_of, verified_login}
 use Rattle.aprs_history.specs.Verdicts.{Speaker, Visitor}
@@ -26,11 +27,6 @@ numbers links = map number_of links
 
 abbrev pub has_number : ℕ → List LinkSeen → Bool
 has_number number links = list_any (has_that number) links
-
--- numbers that rise, the first above low and the last not above high
-abbrev pub Rises : ℕ → List ℕ → ℕ → Type 0
-Rises low [] high = low ≤ high
-Rises low (n ∷ ns) high = (low < n) × Rises n ns high
 
 -- what the link of that number has, or another value where there is none
 abbrev pub picked_at : {X : Type 0} → (LinkSeen → X) → X → ℕ → List LinkSeen → X

@@ -33,7 +33,7 @@ use aprs_history::{LinkKind, Session};
 use filter_eval::{Friends, Seen};
 use filter_lang::FilterSet;
 use line_verdict::Voice;
-use link_feeds::Feeds;
+use link_feeds::{Crew, Feeds};
 use std::alloc::Global;
 use std::marker::{Model, Sync};
 use std::sync::Arc;
@@ -88,18 +88,16 @@ impl Served {
         self.feeds.waiting()
     }
 
-    /// What came is matched by at most so many workers. After `Memory` no link is left.
+    /// What came is matched by the crew. After `Memory` no link is left.
     pub fn settle<R: Threads + Sync, G: Gate + Sync>(
         &mut self,
-        rt: &R,
-        workers: u32,
-        gate: &G,
+        crew: &Crew<R, G>,
     ) -> Result<(), Memory>
-        requires { (1 ≤ workers) × (workers ≤ 64) }
+        requires { (1 ≤ crew.now.workers) × (crew.now.workers ≤ 64) }
         ensures rises { (high : ℕ) → Rises 0 (numbers self.old.links) high → Rises 0 (numbers self.new.links) high }
         ensures ok { OnOk result (self.new ≡ record self.old { settled = true }) }
     {
-        settle(&mut self.halves, &mut self.feeds, rt, workers, gate)
+        settle(&mut self.halves, &mut self.feeds, crew)
     }
 
     /// The same by this thread alone.
@@ -587,20 +585,18 @@ impl Served {
     }
 }
 
-/// All that came is matched by at most so many workers. After `Memory` no link is left.
+/// All that came is matched by the crew. After `Memory` no link is left.
 fn settle<R: Threads + Sync, G: Gate + Sync>(
     halves: &mut Vec<Link>,
     feeds: &mut Feeds,
-    rt: &R,
-    workers: u32,
-    gate: &G,
+    crew: &Crew<R, G>,
 ) -> Result<(), Memory>
-    requires { (1 ≤ workers) × (workers ≤ 64) }
+    requires { (1 ≤ crew.now.workers) × (crew.now.workers ≤ 64) }
     ensures halves { OnOk result (halves.new.items ≡ halves.old.items) }
     ensures feeds { OnOk result (feeds.new ≡ record feeds.old { settled = true }) }
     ensures cleared { OnErr result ((halves.new.items ≡ []) × (feeds.new ≡ record { links = []; settled = true })) }
 {
-    let done = feeds.settle(rt, workers, gate);
+    let done = feeds.settle(crew);
     if done.is_err() {
         halves.clear();
         feeds.clear();

@@ -19,7 +19,7 @@ use Rattle.aprs_history.specs.Dials.{uplinks_of}
 use Rattle.aprs_history.specs.declared.verdicts.LinkKind.TheVariants.{Uplink}
 use Rattle.aprs_history.specs.declared.verdicts.Refusal.{Refusal}
 use Rattle.aprs_history.specs.declared.verdicts.Verdict.{Verdict}
-use Rattle.aprs_history.specs.declared.verdicts.Verdict.TheVariants.{PassedOver, Refused, LoggedIn, Filtered, Accepted}
+use Rattle.aprs_history.specs.declared.verdicts.Verdict.TheVariants.{PassedOver, Refused, LoggedIn}
 use Rattle.aprs_history.specs.Setting.{Setting, kind_at}
 use Rattle.aprs_history.specs.Scenes.{datagram_scene, logins_of, others_of, scene_of, speaker_of, verified_login, accepted_of}
 use Rattle.aprs_history.specs.Verdicts.{Visitor, is_duplicate, verdict_of}
@@ -40,7 +40,8 @@ use Rattle.server_core.specs.Meaning.{CoreMeaning, setting_of, timeouts_of}
 use Rattle.served_links.specs.Halves.{ServedSeen}
 use Rattle.server_core.specs.Kept.{IsKept}
 use Rattle.server_core.specs.Steps.{SameRest, Walks, carried_at, scene_at, with_verdict}
-use Rattle.served_links.proofs.LinkLemmas.{changed_none, rises_at, rises_filter, rises_to, rises_push}
+use Rattle.served_links.proofs.LinkLemmas.{changed_none, rises_at, rises_filter, rises_push}
+use Rattle.aprs_history.proofs.NumberLemmas.{rises_higher}
 use Rattle.server_core.proofs.FollowLemmas.{picked_missing, picked_seen}
 use Rattle.server_core.proofs.HeardLemmas.{remembers_no_end}
 use Rattle.server_core.proofs.WalkLemmas.{with_ends, with_links, with_reach, filter_seen, follows_began, follows_dated, follows_gone, follows_late, follows_looked, follows_turned_away, follows_unasked, follows_unjoined, follows_refused_links, going_after, late_goes, refused_goes, follows_said, follows_roomed, follows_risen, follows_brought, follows_opened, follows_unserved, follows_ended, follows_stopped, follows_stayed}
@@ -214,8 +215,7 @@ walks_heard core t walks number cut live =
 
 said_by : (t : Trace) (from : Source) → IsDatagram from → IsSaidBy t from
 said_by t (source.Link number) datagram = absurd datagram
-said_by t (source.Submit listener) datagram = tt
-said_by t (source.Peer peer) datagram = tt
+said_by t from datagram = tt
 
 -- a line of a datagram
 pub walks_carried : (core : CoreMeaning) (t : Trace) → Walks core t → (from : Source) (origin : Origin) (cut : Cut) → IsDatagram from
@@ -243,11 +243,9 @@ walks_unread core t walks listener cut why =
 -- what a verdict leaves as it is
 pub rest_kept : (core : CoreMeaning) (from : Source) (verdict : Verdict) → SameRest core (with_verdict from verdict core)
 rest_kept core from PassedOver = record { conf = refl; greatest = refl; stopped = refl }
-rest_kept core from (Refused why) = record { conf = refl; greatest = refl; stopped = refl }
 rest_kept core from (LoggedIn session None) = record { conf = refl; greatest = refl; stopped = refl }
 rest_kept core from (LoggedIn session (Some answer)) = record { conf = refl; greatest = refl; stopped = refl }
-rest_kept core from (Filtered answer) = record { conf = refl; greatest = refl; stopped = refl }
-rest_kept core from (Accepted parts line) = record { conf = refl; greatest = refl; stopped = refl }
+rest_kept core from verdict = record { conf = refl; greatest = refl; stopped = refl }
 
 -- a link comes, by whichever door
 module _ (core : CoreMeaning) (t : Trace) (walks : Walks core t) (k : ℕ) (from : Addr) (rising : Rises 0 (numbers core.seen.links) core.seen.greatest) (above : core.seen.greatest < k) where
@@ -376,7 +374,7 @@ walks_stayed core t walks m same = record { follows = follows_stayed (setting_of
 
 -- a core stays sound as a link comes
 pub kept_above : (core : CoreMeaning) (k : ℕ) → IsKept core → core.seen.greatest < k → k < 2 ^ 32 → IsKept (record core { seen = record core.seen { greatest = k } })
-kept_above core k kept above small = record { rising = rises_to 0 core.seen.greatest k (numbers core.seen.links) kept.rising (omega arith); small = small; station = kept.station; group = kept.group; few = kept.few; window = kept.window }
+kept_above core k kept above small = record { rising = rises_higher 0 core.seen.greatest k (numbers core.seen.links) (omega arith) kept.rising; small = small; station = kept.station; group = kept.group; few = kept.few; window = kept.window }
 
 pub kept_turned : (core : CoreMeaning) (turned : List ℕ) → IsKept core → IsKept (record core { seen = record core.seen { turned = turned } })
 kept_turned core turned kept = record { rising = kept.rising; small = kept.small; station = kept.station; group = kept.group; few = kept.few; window = kept.window }
@@ -446,66 +444,46 @@ ends_as : (core : CoreMeaning) (ends closing : List ℕ) (links left : List Link
 ends_as core ends closing links left heard reach is forgotten reached closed = rw (is, forgotten, reached, closed) refl
 
 -- the links that are late
-late_walks : (core : CoreMeaning) (t : Trace) (ends closing : List ℕ) (links : List LinkSeen) (heard : HeardSeen) (reach : ReachSeen) → Walks core t
-    → ends ≡ numbers (filter (is_late_link (timeouts_of core.conf) core.seen.moment) core.seen.links) → links ≡ filter (is_in_time (timeouts_of core.conf) core.seen.moment) core.seen.links
-    → heard ≡ forgotten_all ends core.seen.heard → ReachEnds core ends reach → closing ≡ placed_all ends core.seen.closing
-    → Walks (record core { seen = record core.seen { links = links; heard = heard; reach = reach; closing = closing } }) (end_each (late_reason t) (late_links (setting_of core.conf) t) t)
-late_walks core t ends closing links heard reach walks are left forgotten reached closed =
-    let s = setting_of core.conf in
-    let now = end_each (late_reason t) (late_links s t) t in
-    let in_time = filter (is_in_time (timeouts_of core.conf) (moment_of t)) core.seen.links in
-    let left_now : links ≡ in_time = left ∙ ap (λ m. filter (is_in_time (timeouts_of core.conf) m) core.seen.links) walks.follows.moment in
-    let follows = follows_late s core.seen t walks.follows walks.going ends (are ∙ ap (λ m. numbers (filter (is_late_link (timeouts_of core.conf) m) core.seen.links)) walks.follows.moment) in
-    record {
-      follows = subst (λ seen. Follows s seen now) (sym (ends_as core ends closing links in_time heard reach left_now forgotten reached closed)) follows;
-      going = going_after (late_reason t) (late_goes t) (late_links s t) t ∙ walks.going;
-    }
-
 pub walks_late : (core : CoreMeaning) (conf : ConfSeen) (t : Trace) (ends closing : List ℕ) (links : List LinkSeen) (heard : HeardSeen) (reach : ReachSeen) → Walks core t → core.conf ≡ conf
     → ends ≡ numbers (filter (is_late_link (timeouts_of core.conf) core.seen.moment) core.seen.links) → links ≡ filter (is_in_time (timeouts_of core.conf) core.seen.moment) core.seen.links
     → heard ≡ forgotten_all ends core.seen.heard → ReachEnds core ends reach → closing ≡ placed_all ends core.seen.closing
     → Walks (record core { seen = record core.seen { links = links; heard = heard; reach = reach; closing = closing } }) (end_each (late_reason t) (late_links (setting_of conf) t) t)
 walks_late core conf t ends closing links heard reach walks same are left forgotten reached closed =
+    let s = setting_of core.conf in
+    let now = end_each (late_reason t) (late_links s t) t in
+    let in_time = filter (is_in_time (timeouts_of core.conf) (moment_of t)) core.seen.links in
+    let left_now : links ≡ in_time = left ∙ ap (λ m. filter (is_in_time (timeouts_of core.conf) m) core.seen.links) walks.follows.moment in
+    let follows = follows_late s core.seen t walks.follows walks.going ends (are ∙ ap (λ m. numbers (filter (is_late_link (timeouts_of core.conf) m) core.seen.links)) walks.follows.moment) in
     subst (λ (c : ConfSeen). Walks (record core { seen = record core.seen { links = links; heard = heard; reach = reach; closing = closing } }) (end_each (late_reason t) (late_links (setting_of c) t) t)) same
-    (late_walks core t ends closing links heard reach walks are left forgotten reached closed)
+    (record {
+      follows = subst (λ seen. Follows s seen now) (sym (ends_as core ends closing links in_time heard reach left_now forgotten reached closed)) follows;
+      going = going_after (late_reason t) (late_goes t) (late_links s t) t ∙ walks.going;
+    })
 
 -- the links that are overfull, and those that were turned away
-refused_walks : (core : CoreMeaning) (t : Trace) (ends closing : List ℕ) (links : List LinkSeen) (heard : HeardSeen) (reach : ReachSeen) → Walks core t
-    → ends ≡ placed_all core.seen.turned (numbers (filter is_overfull core.seen.links)) → links ≡ filter (is_none_of ends) core.seen.links
-    → heard ≡ forgotten_all ends core.seen.heard → ReachEnds core ends reach → closing ≡ placed_all ends core.seen.closing
-    → Walks (record core { seen = record core.seen { links = links; heard = heard; reach = reach; closing = closing } }) (end_each (refused_reason t) (refused_links (setting_of core.conf) t) t)
-refused_walks core t ends closing links heard reach walks are left forgotten reached closed =
-    let s = setting_of core.conf in
-    let now = end_each (refused_reason t) (refused_links s t) t in
-    let follows = follows_refused_links s core.seen t walks.follows walks.going ends are in
-    record {
-      follows = subst (λ seen. Follows s seen now) (sym (ends_as core ends closing links (filter (is_none_of ends) core.seen.links) heard reach left forgotten reached closed)) follows;
-      going = going_after (refused_reason t) (refused_goes t) (refused_links s t) t ∙ walks.going;
-    }
-
 pub walks_refused : (core : CoreMeaning) (conf : ConfSeen) (t : Trace) (ends closing : List ℕ) (links : List LinkSeen) (heard : HeardSeen) (reach : ReachSeen) → Walks core t → core.conf ≡ conf
     → ends ≡ placed_all core.seen.turned (numbers (filter is_overfull core.seen.links)) → links ≡ filter (is_none_of ends) core.seen.links
     → heard ≡ forgotten_all ends core.seen.heard → ReachEnds core ends reach → closing ≡ placed_all ends core.seen.closing
     → Walks (record core { seen = record core.seen { links = links; heard = heard; reach = reach; closing = closing } }) (end_each (refused_reason t) (refused_links (setting_of conf) t) t)
 walks_refused core conf t ends closing links heard reach walks same are left forgotten reached closed =
+    let s = setting_of core.conf in
+    let now = end_each (refused_reason t) (refused_links s t) t in
+    let follows = follows_refused_links s core.seen t walks.follows walks.going ends are in
     subst (λ (c : ConfSeen). Walks (record core { seen = record core.seen { links = links; heard = heard; reach = reach; closing = closing } }) (end_each (refused_reason t) (refused_links (setting_of c) t) t)) same
-    (refused_walks core t ends closing links heard reach walks are left forgotten reached closed)
+    (record {
+      follows = subst (λ seen. Follows s seen now) (sym (ends_as core ends closing links (filter (is_none_of ends) core.seen.links) heard reach left forgotten reached closed)) follows;
+      going = going_after (refused_reason t) (refused_goes t) (refused_links s t) t ∙ walks.going;
+    })
 
 -- after a stop all links, and there is still to keep of them what there was, but what they heard
-stop_follows : (core : CoreMeaning) (stopped : Bool) (t : Trace) (ends closing : List ℕ) (heard : HeardSeen) (reach : ReachSeen) → Walks core t → stopped ≡ true
-    → ends ≡ numbers core.seen.links → heard ≡ forgotten_all ends core.seen.heard → ReachEnds core ends reach → closing ≡ placed_all ends core.seen.closing
-    → Follows (setting_of core.conf) (record core.seen { heard = heard; reach = reach; closing = closing }) (end_stopped stopped t)
-stop_follows core stopped t ends closing heard reach walks stops are forgotten reached closed =
-    let follows = follows_stopped (setting_of core.conf) core.seen t walks.follows walks.going ends are in
-    subst (λ b. Follows (setting_of core.conf) (record core.seen { heard = heard; reach = reach; closing = closing }) (end_stopped b t)) (sym stops)
-    (subst (λ seen. Follows (setting_of core.conf) seen (end_stopped true t)) (sym (ends_as core ends closing core.seen.links core.seen.links heard reach refl forgotten reached closed)) follows)
-
 pub follows_stop : (core : CoreMeaning) (conf : ConfSeen) (stopped : Bool) (t : Trace) (ends closing : List ℕ) (heard : HeardSeen) (reach : ReachSeen) → Walks core t → core.conf ≡ conf → stopped ≡ true
     → ends ≡ numbers core.seen.links → heard ≡ forgotten_all ends core.seen.heard → ReachEnds core ends reach → closing ≡ placed_all ends core.seen.closing
     → Follows (setting_of conf) (record core.seen { heard = heard; reach = reach; closing = closing }) (end_stopped stopped t)
 follows_stop core conf stopped t ends closing heard reach walks same stops are forgotten reached closed =
+    let follows = follows_stopped (setting_of core.conf) core.seen t walks.follows walks.going ends are in
     subst (λ (c : ConfSeen). Follows (setting_of c) (record core.seen { heard = heard; reach = reach; closing = closing }) (end_stopped stopped t)) same
-    (stop_follows core stopped t ends closing heard reach walks stops are forgotten reached closed)
+    (subst (λ b. Follows (setting_of core.conf) (record core.seen { heard = heard; reach = reach; closing = closing }) (end_stopped b t)) (sym stops)
+    (subst (λ seen. Follows (setting_of core.conf) seen (end_stopped true t)) (sym (ends_as core ends closing core.seen.links core.seen.links heard reach refl forgotten reached closed)) follows))
 
 pub walks_dated : (core : CoreMeaning) (t : Trace) (before : ℕ) (links : List LinkSeen) (line : List ℕ) → Walks core t → nat_lt (before / comment_seconds) (core.seen.moment / comment_seconds) ≡ true
     → line ≡ comment_text core.conf.server core.seen.moment → links ≡ map (with_date line) core.seen.links → Walks (relinked links core) (dated before t)

@@ -1,5 +1,7 @@
 -- What is said is counted, as the trace counts it.
-use Rattle.std.proofs.Common.{◌≡◌, ℕ, suc, ◌+◌, ◌-◌, ◌==◌, Bool, true, false, not, ◌&&◌, List, [], ◌∷◌, ◌++◌, length, map, filter, refl, sym, ap, ◌∙◌, subst, arith, Option, Some, None, ⊎_elim, append_assoc, length-append, eq-eqb, cond, if◌then◌else◌}
+use Rattle.std.proofs.Common.{◌≡◌, ℕ, suc, ◌+◌, ◌-◌, ◌==◌, Bool, true, false, not, ◌&&◌, List, [], ◌∷◌, ◌++◌, length, map, filter, refl, sym, ap, ◌∙◌, subst, arith, Option, Some, None, ⊎_elim, append_assoc, length-append, cond, if◌then◌else◌}
+use Rattle.std.proofs.Math.Bool.{and-false, and-true}
+use Rattle.std.proofs.Math.Nat.{add-zero}
 use Rattle.std.proofs.lemmas.Bool.{cases_Bool, true≢false}
 use Rattle.std.proofs.lemmas.List.Elements.{filter-append}
 use Rattle.aprs_base.specs.declared.totals.Totals.{Totals}
@@ -26,11 +28,15 @@ use Rattle.server_core.specs.LinkSteps.{answer_counted, with_accepted, with_dupl
 use Rattle.served_links.specs.Changes.{is_shown_at, takes_packet, takes_shown, wants_packet}
 use Rattle.served_links.specs.Halves.{more}
 use Rattle.server_core.proofs.FollowLemmas.{copies_seen, shows_seen, source_in}
+use Rattle.server_core.proofs.MemberLemmas.{member_here}
 
 -- ---- counters
 
 capped_more : (k n : ℕ) → more k (capped n) ≡ capped (n + k)
 capped_more k n = omega arith
+
+capped_one : (n : ℕ) → more 1 (capped n) ≡ capped (suc n)
+capped_one n = omega arith
 
 -- ---- lines of a text
 
@@ -58,14 +64,6 @@ line_put taken line text =
     (cases_Bool (waiting_lines text taken == most_waiting)))
     (cases_Bool text.over)
 
-and_false : (b : Bool) → (b && false) ≡ false
-and_false true = refl
-and_false false = refl
-
-and_true : (b : Bool) → (b && true) ≡ b
-and_true true = refl
-and_true false = refl
-
 -- lines that carry no packet
 abbrev are_plain : List TextLine → Bool
 are_plain [] = true
@@ -83,13 +81,13 @@ plain_put taken (line ∷ lines) text plain = by (is_packet_line line) refl plai
     by true is others later = absurd (true≢false (sym others))
     by false is others later =
         later others ∙ line_put taken line text
-        ∙ ap (λ b. packet_lines text + one_if (fits taken text && b)) is ∙ ap (λ b. packet_lines text + one_if b) (and_false (fits taken text)) ∙ omega arith
+        ∙ ap (λ b. packet_lines text + one_if (fits taken text && b)) is ∙ ap (λ b. packet_lines text + one_if b) (and-false (fits taken text)) ∙ omega arith
 
 -- a packet line, where the link wants it
 wanted_put : (taken : ℕ) (line : TextLine) (text : Text) → is_packet_line line ≡ true → (wanted : Bool)
     → packet_lines (with_text_lines taken (if wanted then line ∷ [] else []) text) - packet_lines text ≡ one_if (wanted && fits taken text)
 wanted_put taken line text packet true =
-    ap (λ n. n - packet_lines text) (line_put taken line text ∙ ap (λ b. packet_lines text + one_if (fits taken text && b)) packet ∙ ap (λ b. packet_lines text + one_if b) (and_true (fits taken text)))
+    ap (λ n. n - packet_lines text) (line_put taken line text ∙ ap (λ b. packet_lines text + one_if (fits taken text && b)) packet ∙ ap (λ b. packet_lines text + one_if b) (and-true (fits taken text)))
     ∙ left (packet_lines text) (one_if (fits taken text))
   where
     left : (n k : ℕ) → (n + k) - n ≡ k
@@ -100,10 +98,6 @@ wanted_put taken line text packet false = none (packet_lines text)
     none n = omega arith
 
 -- ---- lines of several texts
-
-member_here : (before after : List ℕ) (x : ℕ) → is_member x (before ++ x ∷ after) ≡ true
-member_here [] after x = rw (eq-eqb x x refl) refl
-member_here (y ∷ before) after x = ⊎_elim (λ here. rw here refl) (λ other. rw other (member_here before after x)) (cases_Bool (y == x))
 
 module _ (s : Setting) (t : Trace) (from : Source) (cut : Cut) where
   -- what adds no packet line to a text puts none
@@ -137,24 +131,15 @@ module _ (s : Setting) (t : Trace) (from : Source) (cut : Cut) where
       → totals_of s (after verdict) ≡ totals_of s t
   unfolding totals_of
   quiet_totals verdict unaccepted single unrefused plain =
-      rw (unaccepted, single, unrefused, plain_puts verdict plain (live_links t)) (ap (λ n. record (totals_of s t) { queued = capped n }) (zero (put_in s t)))
-    where
-      zero : (n : ℕ) → n + 0 ≡ n
-      zero n = omega arith
+      rw (unaccepted, single, unrefused, plain_puts verdict plain (live_links t)) (ap (λ n. record (totals_of s t) { queued = capped n }) (add-zero (put_in s t)))
 
   refused_more : (verdict : Verdict) → is_accepted verdict ≡ false → is_duplicate verdict ≡ false → is_refused verdict ≡ true → ((j : ℕ) → are_plain (added_by s t from verdict j) ≡ true)
       → with_refused (totals_of s t) ≡ totals_of s (after verdict)
   unfolding totals_of
   refused_more verdict unaccepted single refused plain =
       rw (unaccepted, single, refused, plain_puts verdict plain (live_links t))
-      (ap (λ n. record (totals_of s t) { refused = n }) (capped_more 1 (counted is_refused t) ∙ ap capped (next (counted is_refused t)))
-      ∙ ap (λ n. record (totals_of s t) { refused = capped (suc (counted is_refused t)); queued = capped n }) (sym (zero (put_in s t))))
-    where
-      zero : (n : ℕ) → n + 0 ≡ n
-      zero n = omega arith
-
-      next : (n : ℕ) → n + 1 ≡ suc n
-      next n = omega arith
+      (ap (λ n. record (totals_of s t) { refused = n }) (capped_one (counted is_refused t))
+      ∙ ap (λ n. record (totals_of s t) { refused = capped (suc (counted is_refused t)); queued = capped n }) (sym (add-zero (put_in s t))))
 
   reply_plain : (own : Bool) (reply : Option (List ℕ)) → are_plain (if own then reply_lines reply else []) ≡ true
   reply_plain true None = refl
@@ -200,11 +185,8 @@ module _ (s : Setting) (t : Trace) (from : Source) (cut : Cut) where
     unfolding totals_of
     duplicate_totals =
         let put = put_to_all s (Said from cut (Refused (refusal.Duplicate parts line))) t (live_links t) in
-        ap (λ n. record (totals_of s t) { duplicate = n; queued = more put (capped (put_in s t)) }) (one (counted is_duplicate t))
+        ap (λ n. record (totals_of s t) { duplicate = n; queued = more put (capped (put_in s t)) }) (capped_one (counted is_duplicate t))
         ∙ ap (λ n. record (totals_of s t) { duplicate = capped (suc (counted is_duplicate t)); queued = n }) (capped_more put (put_in s t))
-      where
-        one : (n : ℕ) → more 1 (capped n) ≡ capped (suc n)
-        one n = omega arith
 
     pub accepted_puts : (hearers owed : List ℕ)
         → ((j : ℕ) → is_live t j ≡ true → is_client_link (opening_of t j) ≡ true → is_among j hearers ≡ is_to_heard t (packet_of from (moment_of t) parts line) j)
@@ -222,8 +204,5 @@ module _ (s : Setting) (t : Trace) (from : Source) (cut : Cut) where
     unfolding totals_of
     accepted_totals =
         let put = put_to_all s (Said from cut (Accepted parts line)) t (live_links t) in
-        ap (λ n. record (totals_of s t) { accepted = n; queued = more put (capped (put_in s t)) }) (one (counted is_accepted t))
+        ap (λ n. record (totals_of s t) { accepted = n; queued = more put (capped (put_in s t)) }) (capped_one (counted is_accepted t))
         ∙ ap (λ n. record (totals_of s t) { accepted = capped (suc (counted is_accepted t)); queued = n }) (capped_more put (put_in s t))
-      where
-        one : (n : ℕ) → more 1 (capped n) ≡ capped (suc n)
-        one n = omega arith

@@ -1,5 +1,6 @@
 -- Each entry of a trace, and what it changes of what there is to keep of the links.
 use Rattle.std.proofs.Common.{◌≡◌, ℕ, ◌+◌, ◌-◌, ◌≤◌, ◌<◌, ◌==◌, Bool, true, false, not, ◌&&◌, ◌||◌, List, [], ◌∷◌, ◌++◌, length, map, refl, sym, ap, ◌∙◌, subst, arith, Option, Some, None, ⊎_elim, append-nil, length-append, length-drop, nat_lt, nat_le, is_some, drop, eq-eqb, min, if◌then◌else◌}
+use Rattle.std.proofs.Math.Bool.{and-true}
 use Rattle.std.proofs.lemmas.Bool.{true≢false, eqb-true, cases_Bool, leb-true, le-leb, lt-leb, ltb-true, ltb-false, false_from_ne_true, true_from_ne_false}
 use Rattle.std.proofs.Math.Nat.{le-max_right}
 use Rattle.std.proofs.Math.Seq.{drop-append-add}
@@ -114,10 +115,6 @@ left_over taken text =
     (λ lt. let l : taken < length text = ltb-true taken (length text) lt in is_below 0 (length (drop taken text)) (omega arith) ∙ sym lt)
     (λ no_lt. let l : length text ≤ taken = ltb-false taken (length text) no_lt in not_below 0 (length (drop taken text)) (omega arith) ∙ sym no_lt)
     (cases_Bool (nat_lt taken (length text)))
-
-and_true : (a b : Bool) → (a && true && b) ≡ (a && b)
-and_true true b = refl
-and_true false b = refl
 
 -- a text with more lines is no shorter
 pub text_more : (lines more : List (List ℕ)) (n : ℕ) → n ≤ length (text_bytes lines) → n ≤ length (text_bytes (lines ++ more))
@@ -255,9 +252,8 @@ module _ (base : LinkSeen) (accepted : List PacketSeen) (now : ℕ) (session : O
     answer_shape (Active others reply) true =
         ap (λ packets. keeping base packets now session others (with_text_line taken (reply_of reply) text) taken) (append-nil accepted)
         ∙ queue_grows base accepted now session others text taken le (reply_of reply)
-    answer_shape (Active others reply) false = passed_shape false
     answer_shape (Denied why) true = reply_shape (filter_reply (Denied why)) true
-    answer_shape (Denied why) false = passed_shape false
+    answer_shape answer false = passed_shape false
 
     -- a login, perhaps with a filter
     login_shape : (new : Session) (reply : List ℕ) (answer : Option FilterAnswer) (own : Bool)
@@ -388,7 +384,7 @@ module _ (s : Setting) where
   unfolding link_seen
   shows_seen t from j live =
       let shows = shows_duplicates (opening_of t j) (session_of t j) in
-      ap (λ b. not (is_from j from) && b && shows) live ∙ and_true (not (is_from j from)) shows
+      ap (λ b. not (is_from j from) && b && shows) live ∙ ap (λ b. b && shows) (and-true (not (is_from j from)))
 
   pub shown_seen : (t : Trace) → TookNoMore s t → (from : Source) (cut : Cut) (parts : Parts) (line : List ℕ) (j : ℕ) → is_live t j ≡ true
       → link_seen s (Said from cut (Refused (refusal.Duplicate parts line)) ∷ t) j ≡ with_shown from line (link_seen s t j)
@@ -442,7 +438,7 @@ module _ (s : Setting) where
       let wanted : Bool → Bool = λ asked. opening_wants (opening_of t j) (is_some (session_of t j)) (is_submitted t from) (filter_passes t packet j || asked) in
       let asked : Bool → Bool → Bool = λ by_hearing by_courtesy. not (is_from j from) && wanted (is_to_login packet (session_of t j) || by_hearing || by_courtesy) in
       let lives : wants t packet j ≡ asked (is_to_heard t packet j) (is_owed t packet j) =
-      ap (λ b. not (is_from j from) && b && wanted (is_asked t packet j)) live ∙ and_true (not (is_from j from)) (wanted (is_asked t packet j)) in
+      ap (λ b. not (is_from j from) && b && wanted (is_asked t packet j)) live ∙ ap (λ b. b && wanted (is_asked t packet j)) (and-true (not (is_from j from))) in
       ⊎_elim
       (λ client. lives ∙ ap (λ b. asked b (is_owed t packet j)) (sym (heard client)) ∙ ap (asked (is_among j hearers)) (sym due) ∙ known)
       (λ uplink. lives ∙ ap (λ b. not (is_from j from) && b) (unasked_same (opening_of t j) (is_some (session_of t j)) (is_submitted t from)

@@ -79,14 +79,7 @@ still_later age a b le (Some moment) =
 
 more_promises : (here among may may' same : Bool) (x y : Option ℕ) → (here ≡ true → may' ≡ may)
     → cond (among && (may && same)) x (cond (may' && (here && same)) x y) ≡ cond ((here || among) && (may && same)) x y
-more_promises false among may true same x y is = refl
-more_promises false among may false same x y is = refl
-more_promises true true true may' true x y is = refl
-more_promises true false true may' true x y is = rw (is refl) refl
-more_promises true true true may' false x y is = rw (is refl) refl
-more_promises true false true may' false x y is = rw (is refl) refl
-more_promises true true false may' same x y is = rw (is refl) refl
-more_promises true false false may' same x y is = rw (is refl) refl
+more_promises here among may may' same x y is = grind arith
 
 module _ (links : List LinkSeen) (from : Source) (sender : List ℕ) (now : ℕ) where
   one_promised : (table : HeardSeen) (k l : ℕ) (s : List ℕ)
@@ -133,40 +126,27 @@ module _ (links : List LinkSeen) (from : Source) (sender : List ℕ) (now : ℕ)
 -- what is remembered of a link that has just come
 came_shape : (member same : Bool) (told : Option ℕ) → (same ≡ true → member ≡ false)
     → (if member then told else None) ≡ (if member || same then (if same then None else told) else None)
-came_shape true true told none = absurd (true≢false (none refl))
-came_shape true false told none = refl
-came_shape false true told none = refl
-came_shape false false told none = refl
+came_shape member same told none = grind arith
 
 -- and of one that comes where none is served
 missed_shape : (member same : Bool) (told : Option ℕ) → (same ≡ true → member ≡ false) → (if member then told else None) ≡ (if member then (if same then None else told) else None)
-missed_shape true true told none = absurd (true≢false (none refl))
-missed_shape true false told none = refl
-missed_shape false same told none = refl
+missed_shape member same told none = grind arith
 
 -- and of one that ends
 gone_shape : (gone member : Bool) (told : Option ℕ) → cond (not gone) (if member then told else None) None ≡ (if not gone && member then told else None)
-gone_shape true member told = refl
-gone_shape false member told = refl
+gone_shape gone member told = grind arith
 
 -- the same of what only clients are remembered for
 came_client : (member same client new : Bool) (told : Option ℕ) → (same ≡ true → member ≡ false)
     → (if member && client then told else None) ≡ (if (member || same) && (if same then new else client) then (if same then None else told) else None)
-came_client true true client new told none = absurd (true≢false (none refl))
-came_client true false client new told none = refl
-came_client false true client true told none = refl
-came_client false true client false told none = refl
-came_client false false client new told none = refl
+came_client member same client new told none = grind arith
 
 missed_client : (member same client new : Bool) (told : Option ℕ) → (same ≡ true → member ≡ false)
     → (if member && client then told else None) ≡ (if member && (if same then new else client) then (if same then None else told) else None)
-missed_client true true client new told none = absurd (true≢false (none refl))
-missed_client true false client new told none = refl
-missed_client false same client new told none = refl
+missed_client member same client new told none = grind arith
 
 gone_client : (gone member client : Bool) (told : Option ℕ) → cond (not gone) (if member && client then told else None) None ≡ (if (not gone && member) && client then told else None)
-gone_client true member client told = refl
-gone_client false member client told = refl
+gone_client gone member client told = grind arith
 
 -- whether a link is a client, once one has come
 client_come : (same : Bool) (new old : Option Opening) → is_client_link (if same then new else old) ≡ (if same then is_client_link new else is_client_link old)
@@ -285,8 +265,7 @@ remembers_no_end table t k dead remembers = record {
 }
   where
     nowhere_shape : (gone member : Bool) (told : Option ℕ) → (gone ≡ true → member ≡ false) → cond (not gone) (if member then told else None) None ≡ (if member then told else None)
-    nowhere_shape true member told none = sym (ap (λ b. if b then told else None) (none refl))
-    nowhere_shape false member told none = refl
+    nowhere_shape gone member told none = grind arith
 
     nowhere : (told : Option ℕ) (l : ℕ) → cond (not (k == l)) (if is_live t l then told else None) None ≡ (if is_live t l then told else None)
     nowhere told l = nowhere_shape (k == l) (is_live t l) told (λ same. ap (is_live t) (sym (eqb-true k l same)) ∙ dead)
@@ -332,33 +311,14 @@ promise_shape hears other filters false position now told = unchanged hears (oth
 unpromised_shape : (hears other same position heard : Bool) (now : ℕ) (told : Option ℕ)
     → cond (hears && ((other && false) && same)) (Some now) (if position then cond (not same) told None else told)
     ≡ (if same then promise_after (other && true && false && heard) position now told else told)
-unpromised_shape true true true true heard now told = refl
-unpromised_shape true true true false heard now told = refl
-unpromised_shape true true false true heard now told = refl
-unpromised_shape true true false false heard now told = refl
-unpromised_shape true false true true heard now told = refl
-unpromised_shape true false true false heard now told = refl
-unpromised_shape true false false true heard now told = refl
-unpromised_shape true false false false heard now told = refl
-unpromised_shape false true true true heard now told = refl
-unpromised_shape false true true false heard now told = refl
-unpromised_shape false true false true heard now told = refl
-unpromised_shape false true false false heard now told = refl
-unpromised_shape false false true true heard now told = refl
-unpromised_shape false false true false heard now told = refl
-unpromised_shape false false false true heard now told = refl
-unpromised_shape false false false false heard now told = refl
+unpromised_shape hears other same position heard now told = grind arith
 
 unlived_shape : (hears other same position : Bool) (now : ℕ) (none : Option ℕ)
     → cond (hears && ((other && false) && same)) (Some now) (if position then cond (not same) none None else none) ≡ (if position then cond (not same) none None else none)
-unlived_shape true true same position now none = refl
-unlived_shape true false same position now none = refl
-unlived_shape false other same position now none = refl
+unlived_shape hears other same position now none = grind arith
 
 nothing_left : (same position : Bool) (none : Option ℕ) → none ≡ None → (if position then cond (not same) none None else none) ≡ None
-nothing_left true true none is = refl
-nothing_left false true none is = is
-nothing_left same false none is = is
+nothing_left same position none is = grind arith
 
 module _ (table : HeardSeen) (t : Trace) (remembers : Remembers table t) (packet : PacketSeen) where
   -- the clients that heard the receiver are those that the trace says
@@ -419,9 +379,7 @@ module _ (table : HeardSeen) (t : Trace) (remembers : Remembers table t) (packet
 -- a packet of a link that isn't a client is heard by nobody
 unnoted_shape : (client from same : Bool) (now : ℕ) (told : Option ℕ) → (from ≡ true → client ≡ false)
     → (if client then told else None) ≡ (if client then (if from && same then Some now else told) else None)
-unnoted_shape true true same now told none = absurd (true≢false (none refl))
-unnoted_shape true false same now told none = refl
-unnoted_shape false from same now told none = refl
+unnoted_shape client from same now told none = grind arith
 
 -- what becomes of what was heard, where the packet came from there
 module _ (table : HeardSeen) (t : Trace) (heard : (link : ℕ) (call : List ℕ) → heard_at table link call ≡ (if is_client t link then kept_hearing t link call else None)) (links : List LinkSeen) (call : List ℕ) where
@@ -448,14 +406,12 @@ module _ (table : HeardSeen) (t : Trace) (heard : (link : ℕ) (call : List ℕ)
 -- whose packet it is: that of a link that lives, or of a datagram
 abbrev pub Speaks : Trace → List LinkSeen → Source → Type 0
 Speaks t links (source.Link k) = (is_live t k ≡ true) × (client_at k links ≡ is_client t k)
-Speaks t links (source.Submit listener) = ⊤
-Speaks t links (source.Peer peer) = ⊤
+Speaks t links from = ⊤
 
 noted_so : (table : HeardSeen) (t : Trace) (heard : (link : ℕ) (call : List ℕ) → heard_at table link call ≡ (if is_client t link then kept_hearing t link call else None))
     (links : List LinkSeen) (call : List ℕ) (from : Source) → Speaks t links from → NotedSo table t heard links call from
 noted_so table t heard links call (source.Link k) speaks = noted_as table t heard links call k speaks.1
-noted_so table t heard links call (source.Submit listener) speaks = noted_elsewhere table t heard links call (source.Submit listener) refl (λ l. refl)
-noted_so table t heard links call (source.Peer peer) speaks = noted_elsewhere table t heard links call (source.Peer peer) refl (λ l. refl)
+noted_so table t heard links call from speaks = noted_elsewhere table t heard links call from refl (λ l. refl)
 
 noted_once : (table : HeardSeen) (links : List LinkSeen) (call : List ℕ) (now : ℕ) (from : Source) → HasEachOnce table.heard → HasEachOnce (noted_from links from call now table).heard
 noted_once table links call now (source.Link k) once = by (client_at k links)
@@ -463,8 +419,7 @@ noted_once table links call now (source.Link k) once = by (client_at k links)
     by : (b : Bool) → HasEachOnce (if b then noted k call now table else table).heard
     by true = once_set k call now table.heard (noted k call now table).heard refl once
     by false = once
-noted_once table links call now (source.Submit listener) once = once
-noted_once table links call now (source.Peer peer) once = once
+noted_once table links call now from once = once
 
 noted_promises : (table : HeardSeen) (links : List LinkSeen) (call : List ℕ) (now : ℕ) (from : Source) → (noted_from links from call now table).promises ≡ table.promises
 noted_promises table links call now (source.Link k) = by (client_at k links)
@@ -472,8 +427,7 @@ noted_promises table links call now (source.Link k) = by (client_at k links)
     by : (b : Bool) → (if b then noted k call now table else table).promises ≡ table.promises
     by true = refl
     by false = refl
-noted_promises table links call now (source.Submit listener) = refl
-noted_promises table links call now (source.Peer peer) = refl
+noted_promises table links call now from = refl
 
 module _ (table : HeardSeen) (t : Trace) (remembers : Remembers table t) (links : List LinkSeen)
     (from : Source) (cut : Cut) (parts : Parts) (line : List ℕ) (speaks : Speaks t links from)

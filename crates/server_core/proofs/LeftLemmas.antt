@@ -1,6 +1,7 @@
 -- The links that are left once those of some numbers have gone.
 use Rattle.std.proofs.Common.{◌≡◌, ℕ, ◌==◌, ◌||◌, Bool, true, false, not, List, [], ◌∷◌, filter, get_or, suc, refl, ap, ◌∙◌, arith, cond, ⊎_elim}
 use Rattle.std.specs.List.{All}
+use Rattle.std.proofs.Math.Bool.{or-false}
 use Rattle.std.proofs.lemmas.Bool.{cases_Bool}
 use Rattle.aprs_history.specs.Stands.{LinkSeen}
 use Rattle.aprs_history.specs.Trace.{is_member}
@@ -32,8 +33,4 @@ passing_left p high links rises =
 
 -- the link of one number has gone
 pub one_left : (number : ℕ) (links : List LinkSeen) → filter (is_none_of (number ∷ [])) links ≡ filter (is_another number) links
-one_left number links = agree (is_none_of (number ∷ [])) (is_another number) links (λ k d lt. ap not (or_none (number == (get_or links k d).link) ∙ eqb_turned number (get_or links k d).link))
-  where
-    or_none : (b : Bool) → b || false ≡ b
-    or_none true = refl
-    or_none false = refl
+one_left number links = agree (is_none_of (number ∷ [])) (is_another number) links (λ k d lt. ap not (or-false (number == (get_or links k d).link) ∙ eqb_turned number (get_or links k d).link))

@@ -2,6 +2,7 @@
 use Rattle.std.proofs.Common.{◌≡◌, ℕ, ◌-◌, ◌≤◌, ◌<◌, Bool, true, false, List, [], ◌∷◌, ◌++◌, map, refl, sym, ap, ◌∙◌, arith, Option, Some, None, option_map, ⊎_elim, nat_lt, cond, if◌then◌else◌}
 use Rattle.std.specs.List.{zip}
 use Rattle.std.specs.Option.{option_and_then}
+use Rattle.std.proofs.lemmas.Simd.{map-map}
 use Rattle.std.proofs.lemmas.Bool.{cases_Bool, ltb-true, ltb-false, false_from_ne_true, lt-ltb}
 use Rattle.aprs_base.specs.declared.packets.Source.{Source}
 use Rattle.aprs_base.specs.PacketSeen.{PacketSeen}
@@ -13,22 +14,12 @@ use Rattle.filter_eval.specs.declared.seen.Seen.{Seen}
 use Rattle.station_table.specs.Last.{HasExactly, fresh_gate, last_gate, last_place, later_or, place_by}
 use Rattle.station_table.specs.Stations.{gate_at, place_at, seen_at, seen_in}
 use Rattle.station_table.proofs.LastSeen.{told_more}
-use Rattle.aprs_history.specs.declared.verdicts.FilterAnswer.{FilterAnswer}
-use Rattle.aprs_history.specs.declared.verdicts.FilterAnswer.TheVariants.{Active, Denied}
 use Rattle.aprs_history.specs.declared.verdicts.Session.{Session}
 use Rattle.aprs_history.specs.Sights.{friend_in, is_gate_at, login_in, named_call, sighting}
 use Rattle.aprs_history.specs.Stands.{LinkSeen, CoreSeen}
-use Rattle.server_core.specs.LinkSteps.{found_in, place_young, source_found, with_answer}
-use Rattle.served_links.specs.Changes.{friend_seen, login_seen, with_filter, with_seen}
+use Rattle.server_core.specs.LinkSteps.{found_in, place_young, source_found}
+use Rattle.served_links.specs.Changes.{friend_seen, login_seen, with_seen}
 use Rattle.served_links.specs.Links.{submitted_from}
-
-pub map_same : {X Y : Type 0} (f g : X → Y) → ((x : X) → f x ≡ g x) → (xs : List X) → map f xs ≡ map g xs
-map_same f g same [] = refl
-map_same f g same (x ∷ xs) = rw (same x, map_same f g same xs) refl
-
-map_both : {X Y Z : Type 0} (g : Y → Z) (h : X → Y) (f : X → Z) → ((x : X) → g (h x) ≡ f x) → (xs : List X) → map g (map h xs) ≡ map f xs
-map_both g h f same [] = refl
-map_both g h f same (x ∷ xs) = rw (same x, map_both g h f same xs) refl
 
 -- ---- time goes on
 
@@ -53,7 +44,7 @@ friend_later accepted a b le (Some call) = fresh_later a b le (last_place accept
 pub friends_later : (accepted : List PacketSeen) (a b : ℕ) → a ≤ b → (terms : List TermSeen)
     → map (fresh b) (map (friend_in accepted a) terms) ≡ map (friend_in accepted b) terms
 friends_later accepted a b le terms =
-    map_both (fresh b) (friend_in accepted a) (friend_in accepted b) (λ term. friend_later accepted a b le (named_call term.what)) terms
+    map-map (fresh b) (friend_in accepted a) terms ∙ (λ i. map (λ term. friend_later accepted a b le (named_call term.what) i) terms)
 
 pub login_later : (accepted : List PacketSeen) (a b : ℕ) → a ≤ b → (session : Option Session)
     → fresh b (login_in accepted a session) ≡ login_in accepted b session
@@ -124,7 +115,7 @@ module _ (accepted : List PacketSeen) (now : ℕ) (packet : PacketSeen) where
       ≡ with_seen packet.parts.source told link
   places_kept None none at link open' friends mine =
       ap (λ fs. record link { friends = fs; mine = login_in (accepted ++ packet ∷ []) now link.session })
-      (map_same (friend_in (accepted ++ packet ∷ []) now) (friend_in accepted now) (λ term. unseen_friend none (named_call term.what)) link.filter ∙ sym friends)
+      ((λ i. map (λ term. unseen_friend none (named_call term.what) i) link.filter) ∙ sym friends)
       ∙ ap (λ seen. record link { mine = seen }) (unseen_login none link.session ∙ sym mine)
   places_kept (Some seen) some at link open' friends mine =
       let places : List (Option Seen) → Option Seen → LinkSeen = λ fs place. record link { friends = fs; mine = place } in
@@ -174,9 +165,3 @@ module _ (core : CoreSeen) (accepted : List PacketSeen) (now : ℕ) (moment : co
       ∙ ap (λ (m : ℕ). record { place = sighting accepted now call; gate = is_some_and (is_young m) (gate_at core.stations call); submitted = submitted }) moment
       ∙ ap (λ (gate : Bool). record { place = sighting accepted now call; gate = gate; submitted = submitted })
       (ap (is_some_and (is_young now)) (agrees.gate call) ∙ young_gate now (last_gate accepted call))
-
--- answers by two ways of finding that find the same
-pub answer_same : (f g : TermSeen → Option Seen) → ((term : TermSeen) → f term ≡ g term) → (answer : FilterAnswer) (link : LinkSeen)
-    → with_answer f answer link ≡ with_answer g answer link
-answer_same f g same (Active terms reply) link = ap (λ friends. with_filter terms friends reply link) (map_same f g same terms)
-answer_same f g same (Denied why) link = refl

@@ -1,6 +1,7 @@
 -- What a round tells the journals, and the lines of its trace.
 use Rattle.std.proofs.Common.{◌≡◌, ℕ, ◌/◌, Bool, true, false, nat_lt, List, [], ◌∷◌, ◌++◌, map, filter, refl, sym, ap, ◌∙◌, Option, None, subst, append-nil, append_assoc, ⊎_elim, if◌then◌else◌}
 use Rattle.std.proofs.lemmas.Bool.{cases_Bool}
+use Rattle.std.proofs.lemmas.Simd.{map-map}
 use Rattle.aprs_base.specs.Cuts.{cuts_by}
 use Rattle.aprs_base.specs.Journals.{JournalLineSeen}
 use Rattle.aprs_base.specs.declared.cutting.Cut.{Cut}
@@ -87,14 +88,6 @@ tells_ends : (s : Setting) (reason : ℕ → EndReason) (ks : List ℕ) (t : Tra
     → Tells s t (end_each reason ks t) old new
 tells_ends s reason ks t old new is = tells_more s t (end_each reason ks t) (map (λ k. end_line (moment_of t) k (reason k)) ks) old new (ended_lines s reason ks t) is
 
-map_after : {X Y Z : Type 0} (f : Y → Z) (g : X → Y) (h : X → Z) → ((x : X) → f (g x) ≡ h x) → (xs : List X) → map f (map g xs) ≡ map h xs
-map_after f g h same [] = refl
-map_after f g h same (x ∷ xs) = rw (same x, map_after f g h same xs) refl
-
-map_as : {X Y : Type 0} (f g : X → Y) → ((x : X) → f x ≡ g x) → (xs : List X) → map f xs ≡ map g xs
-map_as f g same [] = refl
-map_as f g same (x ∷ xs) = rw (same x, map_as f g same xs) refl
-
 -- the lines of links as they are kept
 lost_seen : (s : Setting) (t : Trace) (m k : ℕ) → lost_line m (link_seen s t k) ≡ end_line m k FoundGone
 unfolding link_seen
@@ -121,7 +114,7 @@ module _ (core : CoreMeaning) (t : Trace) (walks : Walks core t) where
       is
       ∙ ap (λ m. old ++ map (lost_line m) (filter is_lost core.seen.links)) walks.follows.moment
       ∙ ap (λ links. old ++ map (lost_line (moment_of t)) links) (tested_links setting fresh now began walks.going is_lost (is_gone now) (lost_seen_as setting fresh now began walks.going))
-      ∙ ap (λ ls. old ++ ls) (map_after (lost_line (moment_of t)) (link_seen setting now) (λ k. end_line (moment_of t) k FoundGone) (lost_seen setting now (moment_of t)) (gone_links now)
+      ∙ ap (λ ls. old ++ ls) (map-map (lost_line (moment_of t)) (link_seen setting now) (gone_links now) ∙ (λ i. map (λ k. lost_seen setting now (moment_of t) k i) (gone_links now))
       ∙ sym (ended_lines setting (λ k. FoundGone) (gone_links now) now))
 
   pub tells_late : (old new : List JournalLineSeen) → new ≡ old ++ map (late_line core.seen.moment) (filter (is_late_link (timeouts_of core.conf) core.seen.moment) core.seen.links)
@@ -132,7 +125,7 @@ module _ (core : CoreMeaning) (t : Trace) (walks : Walks core t) where
       ∙ ap (λ m. old ++ map (late_line m) (filter (is_late_link (timeouts_of core.conf) m) core.seen.links)) walks.follows.moment
       ∙ ap (λ links. old ++ map (late_line (moment_of t)) links)
       (tested_links setting core.seen t walks.follows walks.going (is_late_link (timeouts_of core.conf) (moment_of t)) (is_late setting t) (late_seen setting core.seen t walks.follows walks.going))
-      ∙ ap (λ ls. old ++ ls) (map_after (late_line (moment_of t)) (link_seen setting t) (λ k. end_line (moment_of t) k (late_reason t k)) (late_line_seen setting t) (late_links setting t)))
+      ∙ ap (λ ls. old ++ ls) (map-map (late_line (moment_of t)) (link_seen setting t) (late_links setting t) ∙ (λ i. map (λ k. late_line_seen setting t k i) (late_links setting t))))
 
   pub tells_stopped : (old new : List JournalLineSeen) → new ≡ old ++ map (stop_line core.seen.moment) core.seen.links → Tells setting t (end_stopped true t) old new
   tells_stopped old new is =
@@ -140,7 +133,7 @@ module _ (core : CoreMeaning) (t : Trace) (walks : Walks core t) where
       is
       ∙ ap (λ m. old ++ map (stop_line m) core.seen.links) walks.follows.moment
       ∙ ap (λ links. old ++ map (stop_line (moment_of t)) links) (links_live setting core.seen t walks.follows walks.going)
-      ∙ ap (λ ls. old ++ ls) (map_after (stop_line (moment_of t)) (link_seen setting t) (λ k. end_line (moment_of t) k ByStop) (stop_seen setting t (moment_of t)) (live_links t)))
+      ∙ ap (λ ls. old ++ ls) (map-map (stop_line (moment_of t)) (link_seen setting t) (live_links t) ∙ (λ i. map (λ k. stop_seen setting t (moment_of t) k i) (live_links t))))
 
   refused_as : (events : List Event) → KnowUnasked events t → (k : ℕ) → refused_by (turned_links t) events k ≡ refused_reason t k
   refused_as events known k =
@@ -157,8 +150,7 @@ module _ (core : CoreMeaning) (t : Trace) (walks : Walks core t) where
       ∙ ap (λ m. old ++ map (refused_line core.seen.turned events m) ends) walks.follows.moment
       ∙ ap (λ turned. old ++ map (refused_line turned events (moment_of t)) ends) walks.follows.turned
       ∙ ap (λ ks. old ++ map (refused_line (turned_links t) events (moment_of t)) ks) (refused_are setting core.seen t walks.follows walks.going ends are)
-      ∙ ap (λ ls. old ++ ls) (map_as (refused_line (turned_links t) events (moment_of t)) (λ k. end_line (moment_of t) k (refused_reason t k))
-      (λ k. ap (end_line (moment_of t) k) (refused_as events known k)) (refused_links setting t)))
+      ∙ ap (λ ls. old ++ ls) (λ i. map (λ k. end_line (moment_of t) k (refused_as events known k i)) (refused_links setting t)))
 
   -- one that its peer has ended, where it is there
   pub tells_ended : (link : ℕ) (old new : List JournalLineSeen) → new ≡ old ++ (if has_number link core.seen.links then end_line core.seen.moment link ByPeer ∷ [] else [])

@@ -1,6 +1,7 @@
 -- Which of the links that were turned away in a round nobody had asked for.
 use Rattle.std.proofs.Common.{◌≡◌, ℕ, ◌≤◌, ◌<◌, ◌==◌, ◌/◌, nat_lt, Bool, true, false, ◌||◌, List, [], ◌∷◌, ◌++◌, refl, sym, ap, ◌∙◌, subst, arith, ⊎_elim, max, length, IfSome, Option, Some, None, Result, Ok, Err, append-nil, append_assoc, eq-eqb, if◌then◌else◌}
-use Rattle.std.proofs.lemmas.Bool.{cases_Bool, eqb-true, false_from_ne_true, true≢false}
+use Rattle.std.proofs.Math.Bool.{or-false}
+use Rattle.std.proofs.lemmas.Bool.{cases_Bool, eqb-true, false_from_ne_true, true≢false, false≢true}
 use Rattle.std.proofs.lemmas.List.Folds.{list_any-append}
 use Rattle.std.proofs.lemmas.Option.{none-some}
 use Rattle.aprs_base.specs.Cuts.{cuts_by}
@@ -18,18 +19,16 @@ use Rattle.uplinks_peers.specs.declared.uplinks.UpEvent.TheVariants as up
 use Rattle.uplinks_peers.specs.Uplinks.{acts_at}
 use Rattle.aprs_history.specs.declared.verdicts.Admission.{Admission}
 use Rattle.aprs_history.specs.declared.verdicts.Admission.TheVariants.{NoPort, NotAsked, Served, TurnedAway}
-use Rattle.aprs_history.specs.declared.verdicts.EndReason.{EndReason}
 use Rattle.aprs_history.specs.declared.verdicts.EndReason.TheVariants.{ByPeer, FoundGone}
 use Rattle.aprs_history.specs.declared.verdicts.LinkKind.TheVariants.{Client, Uplink}
 use Rattle.aprs_history.specs.declared.verdicts.Refusal.{Refusal}
 use Rattle.aprs_history.specs.declared.verdicts.Refusal.TheVariants as refusal
-use Rattle.aprs_history.specs.declared.verdicts.Verdict.{Verdict}
 use Rattle.aprs_history.specs.declared.verdicts.Verdict.TheVariants.{Refused}
 use Rattle.aprs_history.specs.Setting.{Setting, is_client_kind, kind_at, peer_from}
 use Rattle.aprs_history.specs.Scenes.{datagram_scene, scene_of}
 use Rattle.aprs_history.specs.Verdicts.{Scene, submitter_of, verdict_of}
 use Rattle.aprs_history.specs.Dials.{uplinks_of}
-use Rattle.aprs_history.specs.Trace.{Trace, Door, AtListener, ByUplink, Dated, Looked, RoundBegan, Ticked, Opened, Brought, Said, Roomed, Ended, Unjoined, is_live, is_member, is_stray, is_unasked, moment_of, turned_link, turned_links}
+use Rattle.aprs_history.specs.Trace.{Trace, Entry, Door, AtListener, ByUplink, Dated, Looked, RoundBegan, Ticked, Opened, Brought, Said, Roomed, Ended, Unjoined, is_live, is_member, is_stray, is_unasked, moment_of, turned_link, turned_links}
 use Rattle.aprs_history.specs.Links.{brought_by, client_links, gone_links, late_links, late_reason}
 use Rattle.aprs_history.specs.History.{admission, admitted, begin_round, bring, comment_seconds, dated, datagram_cuts, end_each, greater_link, joined_admission, relay, say_all, submit, with_event, with_lines}
 use Rattle.aprs_history.specs.Rounds.{AreFresh, events_trace}
@@ -37,40 +36,24 @@ use Rattle.server_core.specs.Telling.{KnowUnasked, has_joined, is_joining}
 use Rattle.server_core.proofs.MemberLemmas.{eqb_turned}
 use Rattle.server_core.proofs.WalkLemmas.{same_after, turned_after}
 
--- what entries that open no link leave as it is
-record IsOfOpenings {X : Type 0} (f : Trace → X) : Type 0 where
-  ticked : (moment : ℕ) (t : Trace) → f (Ticked moment ∷ t) ≡ f t
-  brought : (link : ℕ) (bytes : List ℕ) (t : Trace) → f (Brought link bytes ∷ t) ≡ f t
-  said : (from : Source) (cut : Cut) (verdict : Verdict) (t : Trace) → f (Said from cut verdict ∷ t) ≡ f t
-  roomed : (link : ℕ) (t : Trace) → f (Roomed link ∷ t) ≡ f t
-  ended : (link : ℕ) (why : EndReason) (t : Trace) → f (Ended link why ∷ t) ≡ f t
-  dated : (moment : ℕ) (t : Trace) → f (Dated moment ∷ t) ≡ f t
-  looked : (t : Trace) → f (Looked ∷ t) ≡ f t
-  unjoined : (uplink : ℕ) (t : Trace) → f (Unjoined uplink ∷ t) ≡ f t
+-- entries that begin no round and open no link
+abbrev opens_none : Entry → Bool
+opens_none RoundBegan = false
+opens_none (Opened door admission link from) = false
+opens_none entry = true
 
-of_turned : IsOfOpenings turned_links
-of_turned = record {
-  ticked = λ moment t. refl;
-  brought = λ link bytes t. refl;
-  said = λ from cut verdict t. refl;
-  roomed = λ link t. refl;
-  ended = λ link why t. refl;
-  dated = λ moment t. refl;
-  looked = λ t. refl;
-  unjoined = λ uplink t. refl;
-}
+-- what such entries leave as it is
+abbrev IsOfOpenings : {X : Type 0} → (Trace → X) → Type 0
+IsOfOpenings f = (entry : Entry) (t : Trace) → opens_none entry ≡ true → f (entry ∷ t) ≡ f t
 
-of_unasked : (k : ℕ) → IsOfOpenings (λ t. is_unasked t k)
-of_unasked k = record {
-  ticked = λ moment t. refl;
-  brought = λ link bytes t. refl;
-  said = λ from cut verdict t. refl;
-  roomed = λ link t. refl;
-  ended = λ link why t. refl;
-  dated = λ moment t. refl;
-  looked = λ t. refl;
-  unjoined = λ uplink t. refl;
-}
+of_turned : (entry : Entry) (t : Trace) → opens_none entry ≡ true → turned_links (entry ∷ t) ≡ turned_links t
+of_turned RoundBegan t none = absurd (false≢true none)
+of_turned (Opened door admission link from) t none = absurd (false≢true none)
+of_turned entry t none = refl
+
+of_unasked : (k : ℕ) (entry : Entry) (t : Trace) → opens_none entry ≡ true → is_unasked (entry ∷ t) k ≡ is_unasked t k
+of_unasked k (Opened door admission link from) t none = absurd (false≢true none)
+of_unasked k entry t none = refl
 
 module _ {X : Type 0} (f : Trace → X) (of : IsOfOpenings f) (s : Setting) where
   either : (b : Bool) (t u : Trace) → f t ≡ f u → f (if b then t else u) ≡ f u
@@ -79,41 +62,38 @@ module _ {X : Type 0} (f : Trace → X) (of : IsOfOpenings f) (s : Setting) wher
 
   all_said : (scene : Trace → Scene) (from : Source) (cuts : List Cut) (t : Trace) → f (say_all scene from cuts t) ≡ f t
   all_said scene from [] t = refl
-  all_said scene from (cut ∷ cuts) t = all_said scene from cuts (Said from cut (verdict_of (scene t) cut) ∷ t) ∙ of.said from cut (verdict_of (scene t) cut) t
+  all_said scene from (cut ∷ cuts) t = all_said scene from cuts (Said from cut (verdict_of (scene t) cut) ∷ t) ∙ of (Said from cut (verdict_of (scene t) cut)) t refl
 
   submitted : (listener : ℕ) (cut : Cut) (cuts : List Cut) (submitter : Result (List ℕ) Refusal) (t : Trace) → f (submit s listener cut cuts submitter t) ≡ f t
-  submitted listener cut cuts (Err why) t = of.said (source.Submit listener) cut (Refused why) t
+  submitted listener cut cuts (Err why) t = of (Said (source.Submit listener) cut (Refused why)) t refl
   submitted listener cut cuts (Ok login) t = all_said (datagram_scene s (origin.Udp login)) (source.Submit listener) cuts t
 
   relayed : (listener : ℕ) (cut : Cut) (cuts : List Cut) (peer : Option (ℕ × List ℕ)) (t : Trace) → f (relay s listener cut cuts peer t) ≡ f t
-  relayed listener cut cuts None t = of.said (source.Submit listener) cut (Refused refusal.Stranger) t
+  relayed listener cut cuts None t = of (Said (source.Submit listener) cut (Refused refusal.Stranger)) t refl
   relayed listener cut cuts (Some peer) t = all_said (datagram_scene s (origin.Peer peer.1)) (source.Peer peer.0) (cut ∷ cuts) t
 
   carried : (served : Option PortKind) (listener : ℕ) (from : Addr) (cuts : List Cut) (t : Trace) → f (with_lines s served listener from cuts t) ≡ f t
   carried served listener from [] t = refl
   carried None listener from (cut ∷ cuts) t = refl
-  carried (Some kind.Full) listener from (cut ∷ cuts) t = refl
-  carried (Some kind.Igate) listener from (cut ∷ cuts) t = refl
-  carried (Some kind.Only) listener from (cut ∷ cuts) t = refl
-  carried (Some kind.Dupe) listener from (cut ∷ cuts) t = refl
   carried (Some kind.Submit) listener from (cut ∷ cuts) t = submitted listener cut cuts (submitter_of s.server cut) t
   carried (Some kind.Core) listener from (cut ∷ cuts) t = relayed listener cut cuts (peer_from 0 s.peers from) t
+  carried (Some other) listener from (cut ∷ cuts) t = refl
 
   unopened : (e : Event) (t : Trace) → None ≡ new_link e → f (with_event s e t) ≡ f t
   unopened (event.Tick moment) t none =
       let now = Ticked moment ∷ t in
       let ends = end_each (late_reason now) (late_links s now) now in
-      of.looked (dated (moment_of t) ends)
-      ∙ either (nat_lt (moment_of t / comment_seconds) (moment_of ends / comment_seconds)) (Dated (moment_of ends) ∷ ends) ends (of.dated (moment_of ends) ends)
-      ∙ same_after f of.ended (late_reason now) (late_links s now) now ∙ of.ticked moment t
+      of Looked (dated (moment_of t) ends) refl
+      ∙ either (nat_lt (moment_of t / comment_seconds) (moment_of ends / comment_seconds)) (Dated (moment_of ends) ∷ ends) ends (of (Dated (moment_of ends)) ends refl)
+      ∙ same_after f (λ link why u. of (Ended link why) u refl) (late_reason now) (late_links s now) now ∙ of (Ticked moment) t refl
   unopened (event.Opened listener link from) t none = absurd (none-some link none)
   unopened (event.Joined uplink link at) t none = absurd (none-some link none)
-  unopened (event.Unjoined uplink) t none = of.unjoined uplink t
+  unopened (event.Unjoined uplink) t none = of (Unjoined uplink) t refl
   unopened (event.Bytes link bytes) t none =
       either (is_live t link) (bring s link bytes t) t
-      (all_said (λ now. scene_of s now link) (source.Link link) (cuts_by (brought_by t link) bytes) (Brought link bytes ∷ t) ∙ of.brought link bytes t)
-  unopened (event.Ended link) t none = either (is_live t link) (Ended link ByPeer ∷ t) t (of.ended link ByPeer t)
-  unopened (event.Room link) t none = either (is_live t link) (Roomed link ∷ t) t (of.roomed link t)
+      (all_said (λ now. scene_of s now link) (source.Link link) (cuts_by (brought_by t link) bytes) (Brought link bytes ∷ t) ∙ of (Brought link bytes) t refl)
+  unopened (event.Ended link) t none = either (is_live t link) (Ended link ByPeer ∷ t) t (of (Ended link ByPeer) t refl)
+  unopened (event.Room link) t none = either (is_live t link) (Roomed link ∷ t) t (of (Roomed link) t refl)
   unopened event.Stop t none = refl
   unopened (event.Datagram listener from bytes) t none = carried (kind_at s listener) listener from (datagram_cuts bytes) t
 
@@ -123,30 +103,19 @@ record Known (seen : List Event) (greatest : ℕ) (t : Trace) : Type 0 where
   early : (k : ℕ) → has_joined seen k ≡ true → k ≤ greatest
   unasked : (k : ℕ) → is_member k (turned_links t) ≡ true → is_unasked t k ≡ has_joined seen k
 
-or_none : (b : Bool) → (b || false) ≡ b
-or_none true = refl
-or_none false = refl
-
 -- an event that brings no link brings none from an uplink
 joins_none : (k : ℕ) (e : Event) → None ≡ new_link e → is_joining k e ≡ false
 joins_none k (event.Joined uplink link at) none = absurd (none-some link none)
-joins_none k (event.Opened listener link from) none = refl
-joins_none k (event.Tick moment) none = refl
-joins_none k (event.Unjoined uplink) none = refl
-joins_none k (event.Bytes link bytes) none = refl
-joins_none k (event.Ended link) none = refl
-joins_none k (event.Room link) none = refl
-joins_none k (event.Datagram listener from bytes) none = refl
-joins_none k event.Stop none = refl
+joins_none k e none = refl
 
 joined_more : (seen : List Event) (e : Event) (k : ℕ) → has_joined (seen ++ e ∷ []) k ≡ (has_joined seen k || is_joining k e)
-joined_more seen e k = list_any-append (is_joining k) seen (e ∷ []) ∙ ap (λ b. has_joined seen k || b) (or_none (is_joining k e))
+joined_more seen e k = list_any-append (is_joining k) seen (e ∷ []) ∙ ap (λ b. has_joined seen k || b) (or-false (is_joining k e))
 
 unopened_known : (s : Setting) (seen : List Event) (greatest : ℕ) (t : Trace) (e : Event) → Known seen greatest t → None ≡ new_link e → Known (seen ++ e ∷ []) greatest (with_event s e t)
 unopened_known s seen greatest t e known none =
     let turned = unopened turned_links of_turned s e t none in
     let joined : (k : ℕ) → has_joined (seen ++ e ∷ []) k ≡ has_joined seen k =
-    λ k. joined_more seen e k ∙ ap (λ b. has_joined seen k || b) (joins_none k e none) ∙ or_none (has_joined seen k) in
+    λ k. joined_more seen e k ∙ ap (λ b. has_joined seen k || b) (joins_none k e none) ∙ or-false (has_joined seen k) in
     record {
       below = λ k member. known.below k (ap (is_member k) (sym turned) ∙ member);
       early = λ k has. known.early k (sym (joined k) ∙ has);
@@ -155,10 +124,9 @@ unopened_known s seen greatest t e known none =
 
 -- a link that was turned away is that link
 turned_that : (admission : Admission) (link k : ℕ) → (k == link) ≡ false → is_member k (turned_link admission link) ≡ false
-turned_that NoPort link k other = refl
-turned_that (Served kind) link k other = refl
 turned_that TurnedAway link k other = ap (λ b. b || false) (eqb_turned link k ∙ other)
 turned_that NotAsked link k other = ap (λ b. b || false) (eqb_turned link k ∙ other)
+turned_that admission link k other = refl
 
 -- a link comes
 module _ (seen : List Event) (greatest : ℕ) (t : Trace) (known : Known seen greatest t) (e : Event) (door : Door) (admission : Admission) (link : ℕ) (from : Addr) (above : greatest < link)
@@ -178,10 +146,10 @@ module _ (seen : List Event) (greatest : ℕ) (t : Trace) (known : Known seen gr
 
   -- of another link no more is known
   other_turned : (k : ℕ) → (k == link) ≡ false → is_member k (turned_links after) ≡ is_member k (turned_links t)
-  other_turned k other = parts k ∙ ap (λ b. is_member k (turned_links t) || b) (turned_that admission link k other) ∙ or_none (is_member k (turned_links t))
+  other_turned k other = parts k ∙ ap (λ b. is_member k (turned_links t) || b) (turned_that admission link k other) ∙ or-false (is_member k (turned_links t))
 
   other_joined : (k : ℕ) → (k == link) ≡ false → has_joined (seen ++ e ∷ []) k ≡ has_joined seen k
-  other_joined k other = joined_more seen e k ∙ ap (λ b. has_joined seen k || b) (only k other) ∙ or_none (has_joined seen k)
+  other_joined k other = joined_more seen e k ∙ ap (λ b. has_joined seen k || b) (only k other) ∙ or-false (has_joined seen k)
 
   same_link : (k : ℕ) → (k == link) ≡ true → is_member k (turned_links after) ≡ true → is_unasked after k ≡ has_joined (seen ++ e ∷ []) k
   same_link k same member =
@@ -231,13 +199,7 @@ event_known s seen greatest t (event.Opened listener link from) known above =
 event_known s seen greatest t (event.Joined uplink link at) known above =
     opened_known seen greatest t known (event.Joined uplink link at) (ByUplink uplink) (joined_admission s t uplink link) link at above
     (join_asked uplink link at (acts_at (up.Joined uplink link) (moment_of t) (uplinks_of s t)).login) (λ k other. eqb_turned link k ∙ other)
-event_known s seen greatest t (event.Tick moment) known above = unopened_known s seen greatest t (event.Tick moment) known refl
-event_known s seen greatest t (event.Unjoined uplink) known above = unopened_known s seen greatest t (event.Unjoined uplink) known refl
-event_known s seen greatest t (event.Bytes link bytes) known above = unopened_known s seen greatest t (event.Bytes link bytes) known refl
-event_known s seen greatest t (event.Ended link) known above = unopened_known s seen greatest t (event.Ended link) known refl
-event_known s seen greatest t (event.Room link) known above = unopened_known s seen greatest t (event.Room link) known refl
-event_known s seen greatest t (event.Datagram listener from bytes) known above = unopened_known s seen greatest t (event.Datagram listener from bytes) known refl
-event_known s seen greatest t event.Stop known above = unopened_known s seen greatest t event.Stop known refl
+event_known s seen greatest t e known above = unopened_known s seen greatest t e known refl
 
 events_known : (s : Setting) (seen : List Event) (greatest : ℕ) (events : List Event) (t : Trace) → Known seen greatest t → AreFresh greatest events
     → KnowUnasked (seen ++ events) (events_trace s events t)

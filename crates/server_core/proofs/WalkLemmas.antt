@@ -1,6 +1,9 @@
 -- The walk over a round: what the core keeps follows the trace, entry by entry.
-use Rattle.std.proofs.Common.{◌≡◌, ℕ, ◌+◌, ◌≤◌, ◌<◌, ◌==◌, Bool, true, false, not, ◌||◌, ◌&&◌, List, [], ◌∷◌, ◌++◌, length, map, filter, refl, sym, ap, ◌∙◌, subst, arith, Option, Some, None, ⊎_elim, append-nil, append_assoc, min, eq-eqb, cond, if◌then◌else◌}
+use Rattle.std.proofs.Common.{◌≡◌, ℕ, ◌+◌, ◌≤◌, ◌<◌, ◌==◌, Bool, true, false, not, ◌||◌, ◌&&◌, List, [], ◌∷◌, ◌++◌, length, map, filter, refl, sym, ap, ◌∙◌, subst, arith, Option, Some, None, ⊎_elim, append-nil, append_assoc, min, cond, if◌then◌else◌}
 use Rattle.std.proofs.lemmas.Bool.{eqb-true, cases_Bool, false_from_ne_true, true≢false}
+use Rattle.std.proofs.lemmas.List.{map-append}
+use Rattle.std.proofs.lemmas.Simd.{map-map}
+use Rattle.aprs_history.proofs.NumberLemmas.{rises_within}
 use Rattle.aprs_base.specs.Held.{held_after}
 use Rattle.aprs_base.specs.declared.texts.Addr.{Addr}
 use Rattle.aprs_base.specs.declared.cutting.Cut.{Cut}
@@ -25,7 +28,7 @@ use Rattle.aprs_history.specs.declared.verdicts.Verdict.TheVariants.{PassedOver,
 use Rattle.aprs_history.specs.Setting.{Setting}
 use Rattle.aprs_history.specs.declared.verdicts.Admission.{Admission}
 use Rattle.aprs_history.specs.declared.verdicts.Admission.TheVariants.{NoPort, NotAsked, TurnedAway, Served}
-use Rattle.aprs_history.specs.Trace.{Trace, Door, RoundBegan, Dated, Looked, Unjoined, Ticked, Opened, Brought, Said, Roomed, Took, Lost, Ended, closed_links, is_closing, live_links, opened_link, placed, placed_all, stopped_link, stopped_links, served_links, turned_links, is_from, is_unasked, is_live, is_member, is_other, moment_of, last_moment}
+use Rattle.aprs_history.specs.Trace.{Trace, Entry, Door, RoundBegan, Dated, Looked, Unjoined, Ticked, Opened, Brought, Said, Roomed, Took, Lost, Ended, closed_links, is_closing, live_links, opened_link, placed, placed_all, stopped_link, stopped_links, served_links, turned_links, is_from, is_unasked, is_live, is_member, is_other, moment_of, last_moment}
 use Rattle.aprs_history.specs.declared.verdicts.EndReason.{EndReason}
 use Rattle.aprs_history.specs.declared.verdicts.EndReason.TheVariants.{FoundGone, ByPeer, ByStop, Full, NoLogin, Overfull, Silent, Unasked}
 use Rattle.aprs_history.specs.Links.{brought_by, has_filters, is_client, is_client_link, is_submitted, opening_of, taken_by, is_gone, gone_links, is_late, is_nameless, late_links, late_reason}
@@ -45,8 +48,8 @@ use Rattle.served_links.specs.declared.link.SourcePlace.{SourcePlace}
 use Rattle.served_links.specs.declared.link.Timeouts.{Timeouts}
 use Rattle.aprs_history.proofs.EntryLemmas.{IsSaidBy}
 use Rattle.server_core.proofs.CountLemmas.{accepted_puts, accepted_totals, answer_totals, duplicate_totals, login_totals, other_totals, quiet_totals, shown_puts}
-use Rattle.server_core.proofs.SightLemmas.{answer_same, friends_found, map_same, sighting_found, source_known}
-use Rattle.server_core.proofs.MemberLemmas.{eqb_turned, member_filtered, member_later}
+use Rattle.server_core.proofs.SightLemmas.{friends_found, sighting_found, source_known}
+use Rattle.server_core.proofs.MemberLemmas.{eqb_turned, member_filtered, member_here, member_later}
 use Rattle.server_core.proofs.HeardLemmas.{Speaks, hearers_are, owed_are, remembers_accepted, remembers_all_ended, remembers_ended, remembers_opened, remembers_unserved, remembers_passed}
 use Rattle.server_core.proofs.FollowLemmas.{picked_missing, picked_seen, answered_seen, map_through, dated_seen, round_seen, text_number, texts_grow, ticked_seen, with_login, roomed_seen, lost_seen, took_seen, brought_seen, refused_seen, replied_seen, passed_seen, login_seen, accepted_seen, opened_seen, new_seen, shown_seen, looked_seen, unjoined_seen, stayed_seen}
 use Rattle.heard_routing.specs.LastHeard.{still}
@@ -57,10 +60,6 @@ use Rattle.dupe_window.proofs.RecalledLemmas.{recalled-later, recalled-push_now}
 use Rattle.std.proofs.Math.Nat.{le-max_right}
 
 -- ---- lists of numbers
-
-member_here : (before after : List ℕ) (x : ℕ) → is_member x (before ++ x ∷ after) ≡ true
-member_here [] after x = rw (eq-eqb x x refl) refl
-member_here (y ∷ before) after x = ⊎_elim (λ here. rw here refl) (λ other. rw other (member_here before after x)) (cases_Bool (y == x))
 
 -- maps that agree at each member
 map_members : {Y : Type 0} (f : ℕ → Y) (h : ℕ → Y) (before xs : List ℕ) → ((x : ℕ) → is_member x (before ++ xs) ≡ true → f x ≡ h x) → map f xs ≡ map h xs
@@ -73,10 +72,6 @@ map_members f h before (x ∷ xs) same =
 pub map_on : {Y : Type 0} (f : ℕ → Y) (h : ℕ → Y) (xs : List ℕ) → ((x : ℕ) → is_member x xs ≡ true → f x ≡ h x) → map f xs ≡ map h xs
 map_on f h xs same = map_members f h [] xs same
 
-map_twice : {X Y Z : Type 0} (g : Y → Z) (h : X → Y) (xs : List X) → map g (map h xs) ≡ map (λ x. g (h x)) xs
-map_twice g h [] = refl
-map_twice g h (x ∷ xs) = ap (λ zs. g (h x) ∷ zs) (map_twice g h xs)
-
 -- two steps at one link
 at_twice : (k : ℕ) (g h : LinkSeen → LinkSeen) → ((link : LinkSeen) → (h link).link ≡ link.link) → (link : LinkSeen)
     → at_link k g (at_link k h link) ≡ at_link k (λ l. g (h l)) link
@@ -86,16 +81,12 @@ at_twice k g h keeps link =
     (λ other. ap (λ b. at_link k g (cond b (h link) link)) other ∙ ap (λ b. cond b (g link) link) other ∙ sym (ap (λ b. cond b (g (h link)) link) other))
     (cases_Bool (has_that k link))
 
-rises_le : (low high : ℕ) (ns : List ℕ) → Rises low ns high → low ≤ high
-rises_le low high [] rises = rises
-rises_le low high (n ∷ ns) rises = let later = rises_le n high ns rises.1 in let above = rises.0 in omega arith
-
 -- members of rising numbers
 pub member_below : (low high : ℕ) (ns : List ℕ) (x : ℕ) → Rises low ns high → is_member x ns ≡ true → (low < x) × (x ≤ high)
 member_below low high [] x rises member = absurd (true≢false (sym member))
 member_below low high (n ∷ ns) x rises member =
     ⊎_elim
-    (λ here. let same : n ≡ x = eqb-true n x here in let above = rises.0 in (omega arith, subst (λ m. m ≤ high) same (rises_le n high ns rises.1)))
+    (λ here. let same : n ≡ x = eqb-true n x here in let above = rises.0 in (omega arith, subst (λ m. m ≤ high) same (rises_within n high ns rises.1)))
     (λ other. let later = member_below n high ns x rises.1 (rw other at member) in let above = rises.0 in let more = later.0 in (omega arith, later.1))
     (cases_Bool (n == x))
 
@@ -129,10 +120,6 @@ module _ (s : Setting) where
       ⊎_elim
       (λ here. let same : j ≡ k = eqb-true j k here in rw here (subst (λ i. taken_by t i + n ≤ length (text_bytes (lines_of s t i))) (sym same) le))
       (λ other. rw other (took j)) (cases_Bool (j == k))
-
-map_push : {X Y : Type 0} (f : X → Y) (xs : List X) (x : X) → map f (xs ++ x ∷ []) ≡ map f xs ++ f x ∷ []
-map_push f [] x = refl
-map_push f (y ∷ xs) x = ap (λ ys. f y ∷ ys) (map_push f xs x)
 
 -- the numbers of what there is to keep are the links themselves
 pub numbers_seen : (s : Setting) (t : Trace) (ks : List ℕ) → numbers (map (link_seen s t) ks) ≡ ks
@@ -179,6 +166,27 @@ module _ (s : Setting) (core : CoreSeen) (t : Trace) (follows : Follows s core t
     heard = remembers_as core.heard t u moment live client heard promised follows.tables.heard;
   }
 
+  -- an entry that leaves the moment, who is there, what packets told and what is counted
+  abbrev Leaves : Entry → Type 0
+  Leaves entry =
+      (moment_of (entry ∷ t) ≡ moment_of t) × (turned_links (entry ∷ t) ≡ turned_links t) × (closed_links (entry ∷ t) ≡ closed_links t) × (served_links (entry ∷ t) ≡ served_links t)
+      × (accepted_of (entry ∷ t) ≡ accepted_of t) × ((l : ℕ) → is_live (entry ∷ t) l ≡ is_live t l) × ((l : ℕ) → is_client (entry ∷ t) l ≡ is_client t l)
+      × ((l : ℕ) (call : List ℕ) → heard_of (entry ∷ t) l call ≡ heard_of t l call) × ((l : ℕ) (sender : List ℕ) → promise_of (entry ∷ t) l sender ≡ promise_of t l sender)
+      × (totals_of s (entry ∷ t) ≡ totals_of s t)
+
+  follows_left : (entry : Entry) (reach : ReachSeen) (links : List LinkSeen) → Leaves entry → reach ≡ reach_of s (entry ∷ t) → links ≡ map (link_seen s (entry ∷ t)) (served_links t)
+      → TookNoMore s (entry ∷ t) → Follows s (record core { links = links; reach = reach }) (entry ∷ t)
+  follows_left entry reach links same reached are took = record {
+    moment = follows.moment ∙ sym same.0;
+    reach = reached;
+    turned = follows.turned ∙ sym same.1;
+    closing = follows.closing ∙ sym same.2;
+    links = are ∙ ap (map (link_seen s (entry ∷ t))) (sym same.3);
+    tables = same_tables (entry ∷ t) same.0 same.4 same.5 same.6 same.7 same.8;
+    took = took;
+    totals = follows.totals ∙ sym same.9;
+  }
+
   -- a round begins
   pub follows_began : Follows s (record core { turned = []; closing = []; reach = record core.reach { dial = None; casts = [] } }) (RoundBegan ∷ t)
   unfolding totals_of
@@ -217,57 +225,29 @@ module _ (s : Setting) (core : CoreSeen) (t : Trace) (follows : Follows s core t
   -- a tick within the same second
   pub follows_stayed : (m : ℕ) → moment_of (Ticked m ∷ t) ≡ moment_of t → Follows s core (Ticked m ∷ t)
   unfolding totals_of
-  follows_stayed m same = record {
-    moment = follows.moment ∙ sym same;
-    reach = follows.reach;
-    turned = follows.turned;
-    closing = follows.closing;
-    links = follows.links ∙ sym (map_on (link_seen s (Ticked m ∷ t)) (link_seen s t) (served_links t) (λ j member. stayed_seen s t m j same));
-    tables = same_tables (Ticked m ∷ t) same refl (λ l. refl) (λ l. refl) (λ l call. refl) (λ l sender. refl);
-    took = follows.took;
-    totals = follows.totals;
-  }
+  follows_stayed m same =
+      follows_left (Ticked m) core.reach core.links (same, refl, refl, refl, refl, λ l. refl, λ l. refl, λ l call. refl, λ l sender. refl, refl) follows.reach
+      (follows.links ∙ sym (map_on (link_seen s (Ticked m ∷ t)) (link_seen s t) (served_links t) (λ j member. stayed_seen s t m j same))) follows.took
 
   pub follows_roomed : (k : ℕ) → Follows s (with_links (map (at_link k with_room) core.links) core) (Roomed k ∷ t)
   unfolding totals_of
-  follows_roomed k = record {
-    moment = follows.moment;
-    reach = follows.reach;
-    turned = follows.turned;
-    closing = follows.closing;
-    links = ap (map (at_link k with_room)) follows.links ∙ sym (map_through (link_seen s (Roomed k ∷ t)) (at_link k with_room) (link_seen s t) (roomed_seen s t k) (served_links t));
-    tables = same_tables (Roomed k ∷ t) refl refl (λ l. refl) (λ l. refl) (λ l call. refl) (λ l sender. refl);
-    took = follows.took;
-    totals = follows.totals;
-  }
+  follows_roomed k =
+      follows_left (Roomed k) core.reach (map (at_link k with_room) core.links) (refl, refl, refl, refl, refl, λ l. refl, λ l. refl, λ l call. refl, λ l sender. refl, refl) follows.reach
+      (ap (map (at_link k with_room)) follows.links ∙ sym (map_through (link_seen s (Roomed k ∷ t)) (at_link k with_room) (link_seen s t) (roomed_seen s t k) (served_links t))) follows.took
 
   pub follows_lost : (k : ℕ) → Follows s (with_links (map (at_link k when_gone) core.links) core) (Lost k ∷ t)
   unfolding totals_of
-  follows_lost k = record {
-    moment = follows.moment;
-    reach = follows.reach;
-    turned = follows.turned;
-    closing = follows.closing;
-    links = ap (map (at_link k when_gone)) follows.links ∙ sym (map_through (link_seen s (Lost k ∷ t)) (at_link k when_gone) (link_seen s t) (lost_seen s t k) (served_links t));
-    tables = same_tables (Lost k ∷ t) refl refl (λ l. refl) (λ l. refl) (λ l call. refl) (λ l sender. refl);
-    took = follows.took;
-    totals = follows.totals;
-  }
+  follows_lost k =
+      follows_left (Lost k) core.reach (map (at_link k when_gone) core.links) (refl, refl, refl, refl, refl, λ l. refl, λ l. refl, λ l call. refl, λ l sender. refl, refl) follows.reach
+      (ap (map (at_link k when_gone)) follows.links ∙ sym (map_through (link_seen s (Lost k ∷ t)) (at_link k when_gone) (link_seen s t) (lost_seen s t k) (served_links t))) follows.took
 
   pub follows_took : (k offered n : ℕ) → taken_by t k + n ≤ length (text_bytes (lines_of s t k))
       → Follows s (with_links (map (at_link k (with_taken offered n)) core.links) core) (Took k offered n ∷ t)
   unfolding totals_of
-  follows_took k offered n le = record {
-    moment = follows.moment;
-    reach = follows.reach;
-    turned = follows.turned;
-    closing = follows.closing;
-    links = ap (map (at_link k (with_taken offered n))) follows.links
-        ∙ sym (map_through (link_seen s (Took k offered n ∷ t)) (at_link k (with_taken offered n)) (link_seen s t) (took_seen s t k offered n) (served_links t));
-    tables = same_tables (Took k offered n ∷ t) refl refl (λ l. refl) (λ l. refl) (λ l call. refl) (λ l sender. refl);
-    took = took_took s t follows.took k offered n le;
-    totals = follows.totals;
-  }
+  follows_took k offered n le =
+      follows_left (Took k offered n) core.reach (map (at_link k (with_taken offered n)) core.links) (refl, refl, refl, refl, refl, λ l. refl, λ l. refl, λ l call. refl, λ l sender. refl, refl) follows.reach
+      (ap (map (at_link k (with_taken offered n))) follows.links
+      ∙ sym (map_through (link_seen s (Took k offered n ∷ t)) (at_link k (with_taken offered n)) (link_seen s t) (took_seen s t k offered n) (served_links t))) (took_took s t follows.took k offered n le)
 
   -- what there is for other servers, once a step was taken at the moment
   stepped_reach : (step : ℕ → UplinksSeen → UplinksSeen) → record core.reach { uplinks = step core.moment core.reach.uplinks } ≡ record (reach_of s t) { uplinks = step (moment_of t) (uplinks_of s t) }
@@ -278,19 +258,14 @@ module _ (s : Setting) (core : CoreSeen) (t : Trace) (follows : Follows s core t
       → Follows s (with_reach (record core.reach { uplinks = uplinks_after (up.Heard k) core.moment core.reach.uplinks })
       (with_links (map (at_link k (with_bytes core.moment (held_after (brought_by t k ++ bytes)))) core.links) core)) (Brought k bytes ∷ t)
   unfolding totals_of
-  follows_brought k bytes = record {
-    moment = follows.moment;
-    reach = stepped_reach (uplinks_after (up.Heard k));
-    turned = follows.turned;
-    closing = follows.closing;
-    links = ap (λ m. map (at_link k (with_bytes m (held_after (brought_by t k ++ bytes)))) core.links) follows.moment
-        ∙ ap (map (at_link k (with_bytes (moment_of t) (held_after (brought_by t k ++ bytes))))) follows.links
-        ∙ sym (map_through (link_seen s (Brought k bytes ∷ t)) (at_link k (with_bytes (moment_of t) (held_after (brought_by t k ++ bytes)))) (link_seen s t)
-        (brought_seen s t k bytes) (served_links t));
-    tables = same_tables (Brought k bytes ∷ t) refl refl (λ l. refl) (λ l. refl) (λ l call. refl) (λ l sender. refl);
-    took = follows.took;
-    totals = follows.totals;
-  }
+  follows_brought k bytes =
+      follows_left (Brought k bytes) (record core.reach { uplinks = uplinks_after (up.Heard k) core.moment core.reach.uplinks })
+      (map (at_link k (with_bytes core.moment (held_after (brought_by t k ++ bytes)))) core.links) (refl, refl, refl, refl, refl, λ l. refl, λ l. refl, λ l call. refl, λ l sender. refl, refl)
+      (stepped_reach (uplinks_after (up.Heard k)))
+      (ap (λ m. map (at_link k (with_bytes m (held_after (brought_by t k ++ bytes)))) core.links) follows.moment
+      ∙ ap (map (at_link k (with_bytes (moment_of t) (held_after (brought_by t k ++ bytes))))) follows.links
+      ∙ sym (map_through (link_seen s (Brought k bytes ∷ t)) (at_link k (with_bytes (moment_of t) (held_after (brought_by t k ++ bytes)))) (link_seen s t) (brought_seen s t k bytes) (served_links t)))
+      follows.took
 
   -- an uplink may be dialled
   pub follows_looked : Follows s (with_reach (record core.reach {
@@ -298,30 +273,18 @@ module _ (s : Setting) (core : CoreSeen) (t : Trace) (follows : Follows s core t
     dial = (acts_at up.Tick core.moment core.reach.uplinks).dial;
   }) core) (Looked ∷ t)
   unfolding totals_of
-  follows_looked = record {
-    moment = follows.moment;
-    reach = ap (λ m. record core.reach { uplinks = uplinks_after up.Tick m core.reach.uplinks; dial = (acts_at up.Tick m core.reach.uplinks).dial }) follows.moment
-        ∙ ap (λ (reach : ReachSeen). record reach { uplinks = uplinks_after up.Tick (moment_of t) reach.uplinks; dial = (acts_at up.Tick (moment_of t) reach.uplinks).dial }) follows.reach;
-    turned = follows.turned;
-    closing = follows.closing;
-    links = follows.links ∙ sym (map_on (link_seen s (Looked ∷ t)) (link_seen s t) (served_links t) (λ j member. looked_seen s t j));
-    tables = same_tables (Looked ∷ t) refl refl (λ l. refl) (λ l. refl) (λ l call. refl) (λ l sender. refl);
-    took = follows.took;
-    totals = follows.totals;
-  }
+  follows_looked =
+      follows_left Looked (record core.reach { uplinks = uplinks_after up.Tick core.moment core.reach.uplinks; dial = (acts_at up.Tick core.moment core.reach.uplinks).dial }) core.links (refl, refl, refl, refl, refl, λ l. refl, λ l. refl, λ l call. refl, λ l sender. refl, refl)
+      (ap (λ m. record core.reach { uplinks = uplinks_after up.Tick m core.reach.uplinks; dial = (acts_at up.Tick m core.reach.uplinks).dial }) follows.moment
+      ∙ ap (λ (reach : ReachSeen). record reach { uplinks = uplinks_after up.Tick (moment_of t) reach.uplinks; dial = (acts_at up.Tick (moment_of t) reach.uplinks).dial }) follows.reach)
+      (follows.links ∙ sym (map_on (link_seen s (Looked ∷ t)) (link_seen s t) (served_links t) (λ j member. looked_seen s t j))) follows.took
 
   pub follows_unjoined : (uplink : ℕ) → Follows s (with_reach (record core.reach { uplinks = uplinks_after (up.Unjoined uplink) core.moment core.reach.uplinks }) core) (Unjoined uplink ∷ t)
   unfolding totals_of
-  follows_unjoined uplink = record {
-    moment = follows.moment;
-    reach = stepped_reach (uplinks_after (up.Unjoined uplink));
-    turned = follows.turned;
-    closing = follows.closing;
-    links = follows.links ∙ sym (map_on (link_seen s (Unjoined uplink ∷ t)) (link_seen s t) (served_links t) (λ j member. unjoined_seen s t uplink j));
-    tables = same_tables (Unjoined uplink ∷ t) refl refl (λ l. refl) (λ l. refl) (λ l call. refl) (λ l sender. refl);
-    took = follows.took;
-    totals = follows.totals;
-  }
+  follows_unjoined uplink =
+      follows_left (Unjoined uplink) (record core.reach { uplinks = uplinks_after (up.Unjoined uplink) core.moment core.reach.uplinks }) core.links (refl, refl, refl, refl, refl, λ l. refl, λ l. refl, λ l call. refl, λ l sender. refl, refl)
+      (stepped_reach (uplinks_after (up.Unjoined uplink)))
+      (follows.links ∙ sym (map_on (link_seen s (Unjoined uplink ∷ t)) (link_seen s t) (served_links t) (λ j member. unjoined_seen s t uplink j))) follows.took
 
   -- a line that isn't accepted is for no peer
   no_casts : core.reach ≡ record (reach_of s t) { casts = casts_of s t ++ [] }
@@ -333,8 +296,7 @@ module _ (s : Setting) (core : CoreSeen) (t : Trace) (follows : Follows s core t
   unfolding link_seen
   stepped_at (source.Link k) step u same =
       ap (map (at_link k step)) follows.links ∙ sym (map_through (link_seen s u) (at_link k step) (link_seen s t) same (served_links t))
-  stepped_at (source.Submit listener) step u same = follows.links ∙ sym (map_on (link_seen s u) (link_seen s t) (served_links t) (λ j member. same j))
-  stepped_at (source.Peer peer) step u same = follows.links ∙ sym (map_on (link_seen s u) (link_seen s t) (served_links t) (λ j member. same j))
+  stepped_at from step u same = follows.links ∙ sym (map_on (link_seen s u) (link_seen s t) (served_links t) (λ j member. same j))
 
   follows_passed : (from : Source) (cut : Cut) → Follows s core (Said from cut PassedOver ∷ t)
   follows_passed from cut = record {
@@ -393,7 +355,7 @@ module _ (s : Setting) (core : CoreSeen) (t : Trace) (follows : Follows s core t
   follows_shown going from cut parts line =
       let u = Said from cut (Refused (refusal.Duplicate parts line)) ∷ t in
       refused_as from cut (refusal.Duplicate parts line) (map (with_shown from line) core.links) (with_duplicate (length (filter (takes_shown from) core.links)) core.totals)
-      (ap (map (with_shown from line)) follows.links ∙ map_twice (with_shown from line) (link_seen s t) (served_links t)
+      (ap (map (with_shown from line)) follows.links ∙ map-map (with_shown from line) (link_seen s t) (served_links t)
       ∙ sym (map_on (link_seen s u) (λ j. with_shown from line (link_seen s t j)) (served_links t)
       (λ j member. shown_seen s t follows.took from cut parts line j (subst (λ stopped. is_member j (stopped ++ live_links t) ≡ true) going member))))
       (shown_totals going from cut parts line)
@@ -401,23 +363,14 @@ module _ (s : Setting) (core : CoreSeen) (t : Trace) (follows : Follows s core t
   follows_refused : stopped_links t ≡ [] → (from : Source) (cut : Cut) (why : Refusal)
       → Follows s (record core { links = with_refusal from why core.links; totals = refusal_counted from why core.links core.totals }) (Said from cut (Refused why) ∷ t)
   follows_refused going from cut (refusal.Duplicate parts line) = follows_shown going from cut parts line
-  follows_refused going from cut refusal.Long = follows_told from cut refusal.Long None refl refl (λ j. refl) refl
   follows_refused going from cut (refusal.Login fault) = follows_told from cut (refusal.Login fault) (refusal_reply (refusal.Login fault)) refl refl (λ j. refl) refl
   follows_refused going from cut refusal.OwnName = follows_told from cut refusal.OwnName (refusal_reply refusal.OwnName) refl refl (λ j. refl) refl
-  follows_refused going from cut refusal.ReadOnly = follows_told from cut refusal.ReadOnly None refl refl (λ j. refl) refl
-  follows_refused going from cut refusal.Stranger = follows_told from cut refusal.Stranger None refl refl (λ j. refl) refl
-  follows_refused going from cut (refusal.Packet fault) = follows_told from cut (refusal.Packet fault) None refl refl (λ j. refl) refl
-  follows_refused going from cut (refusal.Path drop') = follows_told from cut (refusal.Path drop') None refl refl (λ j. refl) refl
+  follows_refused going from cut why = follows_told from cut why None refl refl (λ j. refl) refl
 
   -- where the calls of terms are found is where the trace says that they were last seen
   answers_agree : (from : Source) (answer : FilterAnswer) (links : List LinkSeen)
       → at_source from (with_answer (found_in core.moment core.stations) answer) links ≡ at_source from (with_answer (friend_in (accepted_of t) (moment_of t)) answer) links
-  answers_agree (source.Link k) answer links =
-      map_same (at_link k (with_answer (found_in core.moment core.stations) answer)) (at_link k (with_answer (friend_in (accepted_of t) (moment_of t)) answer))
-      (λ link. ap (λ answered. if has_that k link then answered else link)
-      (answer_same (found_in core.moment core.stations) (friend_in (accepted_of t) (moment_of t)) (friends_found core (accepted_of t) (moment_of t) follows.moment follows.tables.stations) answer link)) links
-  answers_agree (source.Submit listener) answer links = refl
-  answers_agree (source.Peer peer) answer links = refl
+  answers_agree from answer links = λ i. at_source from (with_answer (λ term. friends_found core (accepted_of t) (moment_of t) follows.moment follows.tables.stations term i) answer) links
 
   follows_answer : (from : Source) (cut : Cut) (answer : FilterAnswer) → Follows s (after_answer from answer core) (Said from cut (Filtered answer) ∷ t)
   follows_answer from cut answer = record {
@@ -434,9 +387,8 @@ module _ (s : Setting) (core : CoreSeen) (t : Trace) (follows : Follows s core t
 
   at_source_twice : (from : Source) (g h : LinkSeen → LinkSeen) → ((link : LinkSeen) → (h link).link ≡ link.link) → (links : List LinkSeen)
       → at_source from g (at_source from h links) ≡ at_source from (λ l. g (h l)) links
-  at_source_twice (source.Link k) g h keeps links = map_twice (at_link k g) (at_link k h) links ∙ map_same (λ link. at_link k g (at_link k h link)) (at_link k (λ l. g (h l))) (at_twice k g h keeps) links
-  at_source_twice (source.Submit listener) g h keeps links = refl
-  at_source_twice (source.Peer peer) g h keeps links = refl
+  at_source_twice (source.Link k) g h keeps links = map-map (at_link k g) (at_link k h) links ∙ (λ i. map (λ link. at_twice k g h keeps link i) links)
+  at_source_twice from g h keeps links = refl
 
   logged_links : (from : Source) (session : Session) (answer : Option FilterAnswer)
       → (after_login_answer from answer (after_login s.server from session core)).links
@@ -500,13 +452,11 @@ module _ (s : Setting) (core : CoreSeen) (t : Trace) (follows : Follows s core t
 
   speaks : stopped_links t ≡ [] → (from : Source) → IsSaidBy t from → Speaks t core.links from
   speaks going (source.Link k) live = (live, client_live going k live ∙ sym (ap (λ b. b && is_client_link (opening_of t k)) live))
-  speaks going (source.Submit listener) says = tt
-  speaks going (source.Peer peer) says = tt
+  speaks going from says = tt
 
   submitted_as : stopped_links t ≡ [] → (from : Source) → IsSaidBy t from → submitted_from from core.links ≡ is_submitted t from
   submitted_as going (source.Link k) live = client_live going k live
-  submitted_as going (source.Submit listener) says = refl
-  submitted_as going (source.Peer peer) says = refl
+  submitted_as going from says = refl
 
   follows_accepted : stopped_links t ≡ [] → (from : Source) (cut : Cut) (parts : Parts) (line : List ℕ) → IsSaidBy t from
       → Follows s (after_packet s.peers (packet_of from (moment_of t) parts line) (record core { moment = moment_of t })) (Said from cut (Accepted parts line) ∷ t)
@@ -525,7 +475,7 @@ module _ (s : Setting) (core : CoreSeen) (t : Trace) (follows : Follows s core t
         links = ap (λ place. map (with_packet packet place hearers owed) core.links) (source_known (record core { moment = moment_of t }) (accepted_of t) (moment_of t) refl follows.tables.stations from parts.source)
             ∙ ap (λ b. map (with_packet packet (place_of b) hearers owed) core.links) (submitted_as going from says)
             ∙ ap (map (with_packet packet source hearers owed)) follows.links
-            ∙ map_twice (with_packet packet source hearers owed) (link_seen s t) (served_links t)
+            ∙ map-map (with_packet packet source hearers owed) (link_seen s t) (served_links t)
             ∙ sym (map_on (link_seen s (Said from cut (Accepted parts line) ∷ t)) (λ j. with_packet packet source hearers owed (link_seen s t j)) (served_links t)
             (λ j member. let here = subst (λ stopped. is_member j (stopped ++ live_links t) ≡ true) going member in
             accepted_seen s t follows.took from cut parts line hearers owed j here
@@ -595,7 +545,7 @@ module _ (s : Setting) (core : CoreSeen) (t : Trace) (follows : Follows s core t
             ap (λ links. links ++ new core.moment ∷ []) (follows.links ∙ opened_kept door (Served kind) k high from rises above)
             ∙ ap (λ m. map seen (served_links t) ++ new m ∷ []) follows.moment
             ∙ ap (λ l. map seen (served_links t) ++ l ∷ []) (sym (new_seen s t door kind k from))
-            ∙ sym (map_push seen (served_links t) k)
+            ∙ sym (map-append seen (served_links t) (k ∷ []))
             ∙ ap (map seen) (append_assoc (stopped_links t) (live_links t) (k ∷ []));
         tables = record {
           window = follows.tables.window;
@@ -655,7 +605,7 @@ module _ (s : Setting) (core : CoreSeen) (t : Trace) (follows : Follows s core t
         reach = follows.reach;
         turned = follows.turned;
         closing = follows.closing;
-        links = ap (map told) follows.links ∙ map_twice told (link_seen s t) (served_links t)
+        links = ap (map told) follows.links ∙ map-map told (link_seen s t) (served_links t)
             ∙ sym (map_on (link_seen s (Dated moment ∷ t)) (λ j. told (link_seen s t j)) (served_links t)
             (λ j member. dated_seen s t follows.took moment j (subst (λ stopped. is_member j (stopped ++ live_links t) ≡ true) going member)));
         tables = same_tables (Dated moment ∷ t) refl refl (λ l. refl) (λ l. refl) (λ l call. refl) (λ l sender. refl);

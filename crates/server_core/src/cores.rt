@@ -18,6 +18,7 @@ use crate::server::Walker;
 use aprs_base::{Event, Gate, JournalLine, Memory, Totals};
 use aprs_conf::Conf;
 use dupe_window::Window;
+use link_feeds::Crew;
 use std::alloc::Global;
 use std::hash::RandomState;
 use std::marker::{Model, Sync};
@@ -136,9 +137,12 @@ impl Core {
         ensures lines { (h : History) → Stands self.old h
             → OnOk result (lines.new.items ≡ lines.old.items ++ round_lines (setting_of self.old.conf) (trace_of (setting_of self.old.conf) (with_events events.now h))) }
     {
-        let acts = self
-            .walker
-            .round(rt, alloc, events, lines, self.workers, gate);
+        let crew = Crew {
+            rt,
+            workers: self.workers,
+            gate,
+        };
+        let acts = self.walker.round(&crew, alloc, events, lines);
         if acts.is_err() {
             self.walker.give_up();
         }

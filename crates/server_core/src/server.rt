@@ -33,6 +33,7 @@ use aprs_base::{Event, Gate, JournalLine, Memory, Totals};
 use aprs_conf::Conf;
 use dupe_window::Window;
 use heard_routing::Heard;
+use link_feeds::Crew;
 use parsed_lines::Ahead;
 use served_links::Served;
 use station_table::Stations;
@@ -189,18 +190,16 @@ impl Walker {
         }
     }
 
-    /// Takes one whole round of events, and says what is to be done. What comes to the links is matched by at most so many
-    /// workers, each part of them through the gate. The lines that the round has for the journals come after those that are there.
+    /// Takes one whole round of events, and says what is to be done. What comes to the links is matched by the crew. The lines
+    /// that the round has for the journals come after those that are there.
     pub fn round<R: Threads + Sync, G: Gate + Sync>(
         &mut self,
-        rt: &R,
+        crew: &Crew<R, G>,
         alloc: Global,
         events: &[Event],
         lines: &mut Vec<JournalLine>,
-        workers: u32,
-        gate: &G,
     ) -> Result<Acts, Memory>
-        requires workers { (1 ≤ workers) × (workers ≤ 64) }
+        requires workers { (1 ≤ crew.now.workers) × (crew.now.workers ≤ 64) }
         requires whole { is_whole 0 events.now ≡ true }
         requires fresh { AreFresh self.old.seen.greatest events.now }
         requires going { self.old.seen.stopped ≡ false }
@@ -220,9 +219,9 @@ impl Walker {
     {
         self.tell_lost(lines)?;
         self.begin(alloc)?;
-        self.look_ahead(rt, alloc, events)?;
-        self.walk(rt, alloc, events, lines, workers, gate)?;
-        self.finish(rt, alloc, events, lines, workers, gate)?;
+        self.look_ahead(crew.rt, alloc, events)?;
+        self.walk(crew, alloc, events, lines)?;
+        self.finish(crew, alloc, events, lines)?;
         self.acts(alloc)
     }
 

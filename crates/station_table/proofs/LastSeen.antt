@@ -59,17 +59,11 @@ gate_noted table packet call = put_gate_later call (gate_in packet.parts) packet
 
 -- ---- a table and packets
 
-pub new_agrees : (hasher : RandomState) → Agrees (no_stations hasher) []
-new_agrees hasher = record { place = λ call. refl; gate = λ call. refl }
-
 pub note_agrees : (table : StationsSeen) (packets : List PacketSeen) (packet : PacketSeen) → Agrees table packets → Agrees (noted packet table) (packets ++ packet ∷ [])
 note_agrees table packets packet agrees = record {
   place = λ call. place_noted table packet call ∙ ap (λ o. later_or o (place_by call packet)) (agrees.place call) ∙ sym (told_more (place_by call) packets packet);
   gate = λ call. gate_noted table packet call ∙ ap (λ o. later_or o (gate_by call packet)) (agrees.gate call) ∙ sym (told_more (gate_by call) packets packet);
 }
-
-pub agrees_at : (now : ℕ) (table : StationsSeen) (packets : List PacketSeen) → Agrees table packets → AgreesAt now table packets
-agrees_at now table packets agrees = record { place = λ call. ap (fresh now) (agrees.place call); gate = λ call. ap (fresh_gate now) (agrees.gate call) }
 
 pub note_goes_on : {A E : Type 0} (result : Result A E) (old new : StationsSeen) (packet : PacketSeen) (packets : List PacketSeen)
     → OnOk result (new ≡ noted packet old) → Agrees old packets → OnOk result (Agrees new (packets ++ packet ∷ []))
@@ -235,10 +229,3 @@ young_exactly before now table packets places gates h exactly = record {
   place = λ call. place_young now table call places ∙ ap (fresh now) (exactly.place call) ∙ fresh_again before now (last_place packets call) h;
   gate = λ call. gate_young now table call gates ∙ ap (fresh_gate now) (exactly.gate call) ∙ fresh_gate_again before now (last_gate packets call) h;
 }
-
-pub exactly_agrees : (now : ℕ) (table : StationsSeen) (packets : List PacketSeen) → HasExactly now table packets → AgreesAt now table packets
-exactly_agrees now table packets exactly =
-    let here : now ≤ now = omega arith in record {
-      place = λ call. ap (fresh now) (exactly.place call) ∙ fresh_again now now (last_place packets call) here;
-      gate = λ call. ap (fresh_gate now) (exactly.gate call) ∙ fresh_gate_again now now (last_gate packets call) here;
-    }

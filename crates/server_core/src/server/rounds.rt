@@ -16,6 +16,7 @@ use super::Walker;
 use crate::acts::Acts;
 use crate::messages::forget_all;
 use aprs_base::{Event, Gate, JournalLine, Memory};
+use link_feeds::Crew;
 use std::alloc::Global;
 use std::marker::Sync;
 use std::thread::Threads;
@@ -74,50 +75,30 @@ impl Walker {
         self.stopped = true;
     }
 
-    /// What came to the links is matched by at most so many workers.
-    fn settle<R: Threads + Sync, G: Gate + Sync>(
-        &mut self,
-        rt: &R,
-        workers: u32,
-        gate: &G,
-    ) -> Result<(), Memory>
-        requires { (1 ≤ workers) × (workers ≤ 64) }
-        ensures { OnOk result (self.new ≡ self.old) }
-    {
-        self.links.settle(rt, workers, gate)
-    }
-
     /// What came to the links is matched before links come, end, or grow older, and where there is much of it.
     fn settle_before<R: Threads + Sync, G: Gate + Sync>(
         &mut self,
-        rt: &R,
+        crew: &Crew<R, G>,
         event: &Event,
-        workers: u32,
-        gate: &G,
     ) -> Result<(), Memory>
-        requires { (1 ≤ workers) × (workers ≤ 64) }
+        requires { (1 ≤ crew.now.workers) × (crew.now.workers ≤ 64) }
         ensures { OnOk result (self.new ≡ self.old) }
     {
         let waiting = self.links.waiting();
-        if waiting >= enough_for(workers) || (waiting > 0 && changes_links(event)) {
-            return self.settle(rt, workers, gate);
+        if waiting >= enough_for(crew.workers) || (waiting > 0 && changes_links(event)) {
+            return self.links.settle(crew);
         }
         Ok(())
     }
 
     /// The events have been walked: what came to the links is matched, and they rest.
-    fn rest<R: Threads + Sync, G: Gate + Sync>(
-        &mut self,
-        rt: &R,
-        workers: u32,
-        gate: &G,
-    ) -> Result<(), Memory>
-        requires { (1 ≤ workers) × (workers ≤ 64) }
+    fn rest<R: Threads + Sync, G: Gate + Sync>(&mut self, crew: &Crew<R, G>) -> Result<(), Memory>
+        requires { (1 ≤ crew.now.workers) × (crew.now.workers ≤ 64) }
         ensures walks { (t : Trace) → Walks self.old t → OnOk result (Walks self.new t) }
         ensures rest { OnOk result (SameRest self.old self.new) }
         ensures rests { OnOk result (self.new.rests ≡ true) }
     {
-        self.links.settle(rt, workers, gate)?;
+        self.links.settle(crew)?;
         self.links.rest();
         Ok(())
     }
@@ -168,14 +149,12 @@ impl Walker {
     /// The events of a round, one after another.
     pub(super) fn walk<R: Threads + Sync, G: Gate + Sync>(
         &mut self,
-        rt: &R,
+        crew: &Crew<R, G>,
         alloc: Global,
         events: &[Event],
         lines: &mut Vec<JournalLine>,
-        workers: u32,
-        gate: &G,
     ) -> Result<(), Memory>
-        requires workers { (1 ≤ workers) × (workers ≤ 64) }
+        requires workers { (1 ≤ crew.now.workers) × (crew.now.workers ≤ 64) }
         requires whole { is_whole 0 events.now ≡ true }
         requires fresh { AreFresh self.old.seen.greatest events.now }
         requires going { self.old.seen.stopped ≡ false }
@@ -184,7 +163,7 @@ impl Walker {
         ensures tells { (t : Trace) → Walks self.old t → OnOk result (Tells (setting_of self.old.conf) t (events_trace (setting_of self.old.conf) events.now t) lines.old.items lines.new.items) }
     {
         for event in events {
-            self.settle_before(rt, event, workers, gate)?;
+            self.settle_before(crew, event)?;
             self.take_event(alloc, event, lines)?;
         }
         Ok(())
@@ -200,14 +179,12 @@ impl Walker {
     /// A round ends.
     pub(super) fn finish<R: Threads + Sync, G: Gate + Sync>(
         &mut self,
-        rt: &R,
+        crew: &Crew<R, G>,
         alloc: Global,
         events: &[Event],
         lines: &mut Vec<JournalLine>,
-        workers: u32,
-        gate: &G,
     ) -> Result<(), Memory>
-        requires { (1 ≤ workers) × (workers ≤ 64) }
+        requires { (1 ≤ crew.now.workers) × (crew.now.workers ≤ 64) }
         ensures follows { (t : Trace) → Walks self.old t
             → OnOk result (Follows (setting_of self.old.conf) self.new.seen (end_round (setting_of self.old.conf) self.old.seen.stopped t)) }
         ensures tells { (t : Trace) → Walks self.old t → KnowUnasked events.now t
@@ -216,7 +193,7 @@ impl Walker {
         ensures rests { OnOk result (self.new.rests ≡ true) }
     {
         self.let_ahead_go(alloc);
-        self.rest(rt, workers, gate)?;
+        self.rest(crew)?;
         self.end_refused(alloc, events, lines)?;
         self.end_stopped(alloc, lines)
     }

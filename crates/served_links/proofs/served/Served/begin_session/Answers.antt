@@ -7,7 +7,7 @@ use Rattle.worker_match.specs.Seen as worker
 use Rattle.served_links.specs.Links.{has_that}
 use Rattle.served_links.specs.Changes.{with_session}
 use Rattle.served_links.proofs.FedLemmas.{told_matches, told_same, told_uncounted}
-use Rattle.served_links.proofs.ServedSteps.{both_are, both_seen, both_settled, changed_nobody, links_of, login_matches, settled_of, within_feeds, within_halves}
+use Rattle.served_links.proofs.ServedSteps.{both_are, both_seen, changed_nobody, links_of, login_matches, settled_of, within_feeds, within_halves}
 use Rattle.served_links.proofs.served.Served.begin_session.Goals as goal
 
 pub log_in-requires-clause-settled : goal.log_in-requires-clause-settled
@@ -19,15 +19,11 @@ log_in-requires-clause-within c =
     within_feeds c.in-Some.place hs c.self.inside.feeds c.self.invariant.0 (within_halves c.args.number c.in-Some.place hs c.as_slice.result.now c.as_slice.ensures.value c.in-Some.ensures)
 
 pub invariant_of-self : goal.invariant_of-self
-invariant_of-self c = (
-  both_are c.args.number c.self.inside.halves.items c.as_slice.result.now c.self.inside.feeds c.log_in.new.self c.self.invariant.0 c.in-Some.place c.as_slice.ensures.value c.in-Some.ensures
-      c.index_mut.result.now (record c.index_mut.result.now { session = Some c.args.session }) c.log_in-feed.new.self c.index_mut.ensures.value refl c.log_in-feed.ensures.exact
-      (λ (s : worker.LinkSeen). told (arc_value c.args.reply) (with_login c.log_in-feed.result c.copy_call-call.result c.args.mine s)) (λ s m. told_matches (record c.index_mut.result.now { session = Some c.args.session }) s.link (arc_value c.args.reply) (with_login c.log_in-feed.result c.copy_call-call.result c.args.mine s) (login_matches c.index_mut.result.now s c.args.session c.log_in-feed.result c.copy_call-call.result c.args.mine m c.log_in-feed.ensures.feed c.copy_call-call.ensures)) c.log_in.ensures,
-  λ rests. both_settled c.args.number c.self.inside.halves.items c.as_slice.result.now c.self.inside.feeds c.log_in.new.self c.self.invariant.0 c.in-Some.place c.as_slice.ensures.value c.in-Some.ensures
-      c.index_mut.result.now (record c.index_mut.result.now { session = Some c.args.session }) c.log_in-feed.new.self c.index_mut.ensures.value refl c.log_in-feed.ensures.exact
-      (λ (s : worker.LinkSeen). told (arc_value c.args.reply) (with_login c.log_in-feed.result c.copy_call-call.result c.args.mine s)) (λ s m. told_matches (record c.index_mut.result.now { session = Some c.args.session }) s.link (arc_value c.args.reply) (with_login c.log_in-feed.result c.copy_call-call.result c.args.mine s) (login_matches c.index_mut.result.now s c.args.session c.log_in-feed.result c.copy_call-call.result c.args.mine m c.log_in-feed.ensures.feed c.copy_call-call.ensures)) c.log_in.ensures
-      ∙ c.self.invariant.1 rests,
-)
+invariant_of-self c =
+    both_are c.args.number c.self.inside.halves.items c.as_slice.result.now c.self.inside.feeds c.log_in.new.self c.self.invariant.0 c.in-Some.place c.as_slice.ensures.value c.in-Some.ensures
+    c.index_mut.result.now (record c.index_mut.result.now { session = Some c.args.session }) c.log_in-feed.new.self c.index_mut.ensures.value refl c.log_in-feed.ensures.exact
+    (λ (s : worker.LinkSeen). told (arc_value c.args.reply) (with_login c.log_in-feed.result c.copy_call-call.result c.args.mine s)) (λ s m. told_matches (record c.index_mut.result.now { session = Some c.args.session }) s.link (arc_value c.args.reply) (with_login c.log_in-feed.result c.copy_call-call.result c.args.mine s) (login_matches c.index_mut.result.now s c.args.session c.log_in-feed.result c.copy_call-call.result c.args.mine m c.log_in-feed.ensures.feed c.copy_call-call.ensures)) c.log_in.ensures
+    c.self.invariant.1
 
 pub returns-in-Some : goal.returns-in-Some
 returns-in-Some c =

@@ -7,12 +7,11 @@ use Rattle.served_links.specs.Links.{Rises, held_at, held_kept, numbers}
 use Rattle.served_links.specs.Changes.{at_link, with_bytes}
 use Rattle.served_links.proofs.FedLemmas.{if_ok}
 use Rattle.served_links.proofs.ServedLemmas.{halves_changed, numbers_same, picked_same}
-use Rattle.served_links.proofs.ServedSteps.{links_of, seen_changed}
+use Rattle.served_links.proofs.ServedSteps.{asked, links_of, seen_changed}
 use Rattle.served_links.proofs.served.Served.bring.Goals as goal
 
 held_same : (c : goal.After-bring) → held_at c.args.number c.self.inside.halves.items ≡ held_at c.args.number c.args.self.now.links
-held_same c =
-    sym (picked_same held_kept (λ h s. refl) None c.args.number c.self.inside.halves.items c.self.inside.feeds.links c.self.invariant.0.match) ∙ ap (held_at c.args.number) (ap links_of c.self.view_is)
+held_same c = asked c.self.inside c.self.view_is refl (held_at c.args.number) (picked_same held_kept (λ h s. refl) None c.args.number c.self.inside.halves.items c.self.inside.feeds.links c.self.invariant.0.match)
 
 pub invariant_of-self : goal.invariant_of-self
 invariant_of-self c = (

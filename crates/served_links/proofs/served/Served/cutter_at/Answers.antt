@@ -1,12 +1,10 @@
-use Rattle.std.proofs.Common.{ap, None, refl, sym, ◌∙◌}
+use Rattle.std.proofs.Common.{None, refl, ◌∙◌}
 use Rattle.served_links.specs.Links.{held_at, held_kept}
 use Rattle.served_links.proofs.ServedLemmas.{picked_same}
-use Rattle.served_links.proofs.ServedSteps.{links_of}
+use Rattle.served_links.proofs.ServedSteps.{asked}
 use Rattle.served_links.proofs.served.Served.cutter_at.Goals as goal
 
 pub returns : goal.returns
 returns c =
-    c.cutter_at.ensures
-    ∙ ap (held_at c.args.number) c.as_slice.ensures.value
-    ∙ sym (picked_same held_kept (λ h s. refl) None c.args.number c.self.inside.halves.items c.self.inside.feeds.links c.self.invariant.0.match)
-    ∙ ap (held_at c.args.number) (ap links_of c.self.view_is)
+    c.cutter_at.ensures ∙ asked c.self.inside c.self.view_is c.as_slice.ensures.value (held_at c.args.number)
+    (picked_same held_kept (λ h s. refl) None c.args.number c.self.inside.halves.items c.self.inside.feeds.links c.self.invariant.0.match)

@@ -1,12 +1,10 @@
-use Rattle.std.proofs.Common.{ap, false, refl, sym, ◌∙◌}
+use Rattle.std.proofs.Common.{false, refl, ◌∙◌}
 use Rattle.served_links.specs.Links.{filters_at, filters_kept}
 use Rattle.served_links.proofs.ServedLemmas.{picked_same}
-use Rattle.served_links.proofs.ServedSteps.{links_of}
+use Rattle.served_links.proofs.ServedSteps.{asked}
 use Rattle.served_links.proofs.served.Served.has_filters_at.Goals as goal
 
 pub returns : goal.returns
 returns c =
-    c.has_filters_at.ensures
-    ∙ ap (filters_at c.args.number) c.as_slice.ensures.value
-    ∙ sym (picked_same filters_kept (λ h s. refl) false c.args.number c.self.inside.halves.items c.self.inside.feeds.links c.self.invariant.0.match)
-    ∙ ap (filters_at c.args.number) (ap links_of c.self.view_is)
+    c.has_filters_at.ensures ∙ asked c.self.inside c.self.view_is c.as_slice.ensures.value (filters_at c.args.number)
+    (picked_same filters_kept (λ h s. refl) false c.args.number c.self.inside.halves.items c.self.inside.feeds.links c.self.invariant.0.match)

@@ -1,12 +1,10 @@
-use Rattle.std.proofs.Common.{ap, refl, sym, ◌∙◌}
+use Rattle.std.proofs.Common.{refl, ◌∙◌}
 use Rattle.served_links.specs.Links.{has_number, has_that}
 use Rattle.served_links.proofs.ServedLemmas.{any_same}
-use Rattle.served_links.proofs.ServedSteps.{links_of}
+use Rattle.served_links.proofs.ServedSteps.{asked}
 use Rattle.served_links.proofs.served.Served.has_link.Goals as goal
 
 pub returns : goal.returns
 returns c =
-    c.has_link.ensures
-    ∙ ap (has_number c.args.number) c.as_slice.ensures.value
-    ∙ sym (any_same (has_that c.args.number) (λ h s. refl) c.self.inside.halves.items c.self.inside.feeds.links c.self.invariant.0.match)
-    ∙ ap (has_number c.args.number) (ap links_of c.self.view_is)
+    c.has_link.ensures ∙ asked c.self.inside c.self.view_is c.as_slice.ensures.value (has_number c.args.number)
+    (any_same (has_that c.args.number) (λ h s. refl) c.self.inside.halves.items c.self.inside.feeds.links c.self.invariant.0.match)

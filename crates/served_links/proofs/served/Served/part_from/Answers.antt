@@ -1,14 +1,16 @@
-use Rattle.std.proofs.Common.{ap, filter, sym, ◌∙◌, List}
+use Rattle.std.proofs.lemmas.List.{nil_from_length}
+use Rattle.std.proofs.lemmas.Bool.{eqb-true}
+use Rattle.std.proofs.Common.{ap, filter, sym, ◌∙◌, List, length}
 use Rattle.aprs_history.specs.Stands.{LinkSeen}
 use Rattle.served_links.specs.Links.{is_none_of}
 use Rattle.link_feeds.specs.Feeds.{FeedsSeen}
-use Rattle.served_links.proofs.ServedSteps.{left_are, left_seen, none_leaves, none_there, settled_of}
+use Rattle.served_links.proofs.ServedSteps.{left_are, left_seen, none_leaves, settled_of}
 use Rattle.served_links.proofs.served.Served.part_from.Goals as goal
 
 pub returns-then-is_empty : goal.returns-then-is_empty
 returns-then-is_empty c =
     ap (λ (links : List LinkSeen). record c.args.self.now { links = links })
-    (sym (ap (λ ns. filter (is_none_of ns) c.args.self.now.links) (none_there c.args.ends.now (sym c.is_empty.ensures ∙ c.if-is_empty.true)) ∙ none_leaves c.args.self.now.links))
+    (sym (ap (λ ns. filter (is_none_of ns) c.args.self.now.links) (nil_from_length c.args.ends.now (eqb-true (length c.args.ends.now) 0 (sym c.is_empty.ensures ∙ c.if-is_empty.true))) ∙ none_leaves c.args.self.now.links))
 
 pub count_put-put-requires : goal.count_put-put-requires
 count_put-put-requires c = ap settled_of c.self.view_is ∙ c.requires

@@ -5,7 +5,7 @@ use Rattle.link_feeds.specs.Feeds.{with_terms}
 use Rattle.aprs_history.specs.Stands.{LinkSeen}
 use Rattle.served_links.specs.Links.{has_that}
 use Rattle.served_links.specs.Changes.{with_filter}
-use Rattle.served_links.proofs.ServedSteps.{changed_nobody, filter_matches, links_of, settled_of, told_are, told_seen, told_settled, within_feeds, within_halves}
+use Rattle.served_links.proofs.ServedSteps.{changed_nobody, filter_matches, links_of, settled_of, told_are, told_seen, within_feeds, within_halves}
 use Rattle.served_links.proofs.served.Served.put_filter.Goals as goal
 
 pub set_filter-requires-clause-settled : goal.set_filter-requires-clause-settled
@@ -17,12 +17,9 @@ set_filter-requires-clause-within c =
     within_feeds c.in-Some.place hs c.self.inside.feeds c.self.invariant.0 (within_halves c.args.number c.in-Some.place hs c.as_slice.result.now c.as_slice.ensures.value c.in-Some.ensures)
 
 pub invariant_of-self : goal.invariant_of-self
-invariant_of-self c = (
-  told_are c.args.number c.self.inside.halves.items c.as_slice.result.now c.self.inside.feeds c.set_filter.new.self c.self.invariant.0 c.in-Some.place c.as_slice.ensures.value c.in-Some.ensures
-      (with_terms (arc_value c.args.filter) c.args.friends) (arc_value c.args.reply) (λ h s m. filter_matches h s (arc_value c.args.filter) c.args.friends m c.requires.many) c.set_filter.ensures,
-  λ rests. told_settled c.args.number c.self.inside.halves.items c.as_slice.result.now c.self.inside.feeds c.set_filter.new.self c.self.invariant.0 c.in-Some.place c.as_slice.ensures.value c.in-Some.ensures
-      (with_terms (arc_value c.args.filter) c.args.friends) (arc_value c.args.reply) (λ h s m. filter_matches h s (arc_value c.args.filter) c.args.friends m c.requires.many) c.set_filter.ensures ∙ c.self.invariant.1 rests,
-)
+invariant_of-self c =
+    told_are c.args.number c.self.inside.halves.items c.as_slice.result.now c.self.inside.feeds c.set_filter.new.self c.self.invariant.0 c.in-Some.place c.as_slice.ensures.value c.in-Some.ensures
+    (with_terms (arc_value c.args.filter) c.args.friends) (arc_value c.args.reply) (λ h s m. filter_matches h s (arc_value c.args.filter) c.args.friends m c.requires.many) c.set_filter.ensures c.self.invariant.1
 
 pub returns-in-Some : goal.returns-in-Some
 returns-in-Some c =

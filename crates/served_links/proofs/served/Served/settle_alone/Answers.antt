@@ -1,18 +1,12 @@
-use Rattle.std.proofs.Common.{ap}
-use Rattle.served_links.proofs.ServedSteps.{links_of, met_rises, settled_are, settled_seen}
+use Rattle.served_links.proofs.ServedSteps.{met_rises, settled_are, settled_seen}
 use Rattle.served_links.proofs.served.Served.settle_alone.Goals as goal
 
 pub invariant_of-self : goal.invariant_of-self
-invariant_of-self c =
-    let are = settled_are c.settle_alone.result c.self.inside.halves.items c.settle_alone.new.halves.items c.self.inside.feeds c.settle_alone.new.feeds c.self.invariant.0 c.settle_alone.ensures.halves c.settle_alone.ensures.feeds c.settle_alone.ensures.cleared in (are.0, λ rests. are.1)
+invariant_of-self c = settled_are c.settle_alone.result c.self.inside c.settle_alone.new.halves.items c.settle_alone.new.feeds c.self.invariant.0 c.settle_alone.ensures.halves c.settle_alone.ensures.feeds c.settle_alone.ensures.cleared
 
 pub returns-clause-rises : goal.returns-clause-rises
 returns-clause-rises c =
-    met_rises c.settle_alone.result c.self.inside.halves.items c.settle_alone.new.halves.items c.args.self.now.links c.self.inside.feeds c.settle_alone.new.feeds c.self.invariant.0
-    (settled_are c.settle_alone.result c.self.inside.halves.items c.settle_alone.new.halves.items c.self.inside.feeds c.settle_alone.new.feeds c.self.invariant.0 c.settle_alone.ensures.halves c.settle_alone.ensures.feeds c.settle_alone.ensures.cleared).0
-    c.settle_alone.ensures.halves c.settle_alone.ensures.cleared (ap links_of c.self.view_is)
+    met_rises c.settle_alone.result c.self.inside c.settle_alone.new.halves.items c.settle_alone.new.feeds c.self.view_is c.self.invariant.0 (invariant_of-self c).0 c.settle_alone.ensures.halves c.settle_alone.ensures.cleared
 
 pub returns-clause-ok : goal.returns-clause-ok
-returns-clause-ok c =
-    settled_seen c.settle_alone.result c.self.inside.halves.items c.settle_alone.new.halves.items c.self.inside.feeds c.settle_alone.new.feeds c.self.inside.queued c.self.inside.rests c.args.self.now
-    c.settle_alone.ensures.halves c.settle_alone.ensures.feeds c.self.view_is
+returns-clause-ok c = settled_seen c.settle_alone.result c.self.inside c.settle_alone.new.halves.items c.settle_alone.new.feeds c.settle_alone.ensures.halves c.settle_alone.ensures.feeds c.self.view_is

@@ -8,7 +8,7 @@ use Rattle.served_links.specs.Changes.{is_asked_at, takes_packet, with_packet}
 use Rattle.served_links.specs.Halves.{more}
 use Rattle.served_links.specs.Links.{numbers}
 use Rattle.served_links.proofs.FedLemmas.{offer_matches}
-use Rattle.served_links.proofs.ServedSteps.{links_of, met_are, met_rest, met_rises, met_seen, more_later, shared_links, shared_put}
+use Rattle.served_links.proofs.ServedSteps.{met_are, met_rises, met_seen, more_later, shared_links, shared_put}
 use Rattle.served_links.proofs.served.Served.share.Goals as goal
 
 abbrev offer_to : goal.After-come → List LinkSeen → OfferSeen
@@ -24,16 +24,13 @@ met c =
     c.come.ensures.links
 
 pub invariant_of-self : goal.invariant_of-self
-invariant_of-self c = (
-  met_are c.come.result c.self.inside.halves.items c.come.new.halves.items c.self.inside.feeds c.come.new.feeds (Came (offer c)) c.self.invariant.0
-      (λ h s m. offer_matches h (offer c) s m) c.come.ensures.halves (met c) c.come.ensures.cleared,
-  met_rest c.come.result c.self.inside.rests c.come.new.halves.items c.come.new.feeds c.come.ensures.settled c.come.ensures.cleared,
-)
+invariant_of-self c =
+    met_are c.come.result c.self.inside c.come.new.halves.items c.come.new.feeds (Came (offer c)) c.self.invariant.0 (λ h s m. offer_matches h (offer c) s m)
+    c.come.ensures.halves (met c) c.come.ensures.settled c.come.ensures.cleared
 
 pub returns-clause-rises : goal.returns-clause-rises
 returns-clause-rises c =
-    met_rises c.come.result c.self.inside.halves.items c.come.new.halves.items c.args.self.now.links c.self.inside.feeds c.come.new.feeds c.self.invariant.0 (invariant_of-self c).0
-    c.come.ensures.halves c.come.ensures.cleared (ap links_of c.self.view_is)
+    met_rises c.come.result c.self.inside c.come.new.halves.items c.come.new.feeds c.self.view_is c.self.invariant.0 (invariant_of-self c).0 c.come.ensures.halves c.come.ensures.cleared
 
 pub returns-clause-ok : goal.returns-clause-ok
 returns-clause-ok c =
@@ -42,7 +39,7 @@ returns-clause-ok c =
     let takes = takes_packet c.args.packet.now c.args.source.now c.args.hearers.now c.args.owed.now in
     let n = length (filter takes (joined_all hs ss)) in
     met_seen c.come.result (with_packet c.args.packet.now c.args.source.now c.args.hearers.now c.args.owed.now)
-    (λ (s : ServedSeen). more (length (filter takes s.links)) s.queued) hs c.come.new.halves.items c.self.inside.feeds c.come.new.feeds (Came (offer c)) c.self.inside.queued c.self.inside.rests c.args.self.now
+    (λ (s : ServedSeen). more (length (filter takes s.links)) s.queued) c.self.inside c.come.new.halves.items c.come.new.feeds (Came (offer c))
     (shared_links c.args.packet.now c.args.source.now c.args.hearers.now c.args.owed.now hs ss c.self.invariant.0.match c.self.invariant.0.rising)
     (ap (λ put. more put c.self.inside.queued) (shared_put c.args.packet.now c.args.source.now c.args.hearers.now c.args.owed.now hs ss c.self.invariant.0.match c.self.invariant.0.rising) ∙ more_later n (put_in ss) c.self.inside.queued)
     c.come.ensures.halves (met c) c.come.ensures.settled c.self.view_is

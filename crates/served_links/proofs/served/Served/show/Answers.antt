@@ -3,14 +3,12 @@ use Rattle.std.specs.List.{list_any}
 use Rattle.served_links.specs.Fed.{shows_kept}
 use Rattle.served_links.specs.Halves.{more}
 use Rattle.served_links.proofs.ServedLemmas.{any_same}
-use Rattle.served_links.proofs.ServedSteps.{links_of, none_more, none_shown, none_taken}
+use Rattle.served_links.proofs.ServedSteps.{asked, none_more, none_shown, none_taken}
 use Rattle.served_links.proofs.served.Served.show.Goals as goal
 
 hidden : (c : goal.Else-shows_any) → list_any shows_kept c.args.self.now.links ≡ false
 hidden c =
-    ap (list_any shows_kept) (sym (ap links_of c.self.view_is))
-    ∙ any_same shows_kept (λ h s. refl) c.self.inside.halves.items c.self.inside.feeds.links c.self.invariant.0.match
-    ∙ ap (list_any shows_kept) (sym c.as_slice.ensures.value)
+    sym (asked c.self.inside c.self.view_is c.as_slice.ensures.value (list_any shows_kept) (any_same shows_kept (λ h s. refl) c.self.inside.halves.items c.self.inside.feeds.links c.self.invariant.0.match))
     ∙ sym c.shows_any.ensures
     ∙ c.if-shows_any.false
 

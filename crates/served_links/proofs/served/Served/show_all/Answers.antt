@@ -8,7 +8,7 @@ use Rattle.served_links.specs.Halves.{ServedSeen, served_seen}
 use Rattle.served_links.specs.Halves.{more}
 use Rattle.served_links.specs.Changes.{takes_shown, with_shown}
 use Rattle.served_links.proofs.FedLemmas.{offer_matches}
-use Rattle.served_links.proofs.ServedSteps.{links_of, met_are, met_rest, met_rises, met_seen, more_later, shown_links, shown_put}
+use Rattle.served_links.proofs.ServedSteps.{met_are, met_rises, met_seen, more_later, shown_links, shown_put}
 use Rattle.served_links.proofs.served.Served.show_all.Goals as goal
 
 abbrev packet : goal.After-come → PacketSeen
@@ -18,16 +18,13 @@ met : (c : goal.After-come) → OnOk c.come.result (c.come.new.feeds.links ≡ m
 met c = subst (λ i. OnOk c.come.result (c.come.new.feeds.links ≡ met_by i c.self.inside.feeds.links)) c.in_ok-item.ensures.exact.1 c.come.ensures.links
 
 pub invariant_of-self : goal.invariant_of-self
-invariant_of-self c = (
-  met_are c.come.result c.self.inside.halves.items c.come.new.halves.items c.self.inside.feeds c.come.new.feeds (Came (refused_of (packet c))) c.self.invariant.0
-      (λ h s m. offer_matches h (refused_of (packet c)) s m) c.come.ensures.halves (met c) c.come.ensures.cleared,
-  met_rest c.come.result c.self.inside.rests c.come.new.halves.items c.come.new.feeds c.come.ensures.settled c.come.ensures.cleared,
-)
+invariant_of-self c =
+    met_are c.come.result c.self.inside c.come.new.halves.items c.come.new.feeds (Came (refused_of (packet c))) c.self.invariant.0 (λ h s m. offer_matches h (refused_of (packet c)) s m)
+    c.come.ensures.halves (met c) c.come.ensures.settled c.come.ensures.cleared
 
 pub returns-clause-rises : goal.returns-clause-rises
 returns-clause-rises c =
-    met_rises c.come.result c.self.inside.halves.items c.come.new.halves.items c.args.self.now.links c.self.inside.feeds c.come.new.feeds c.self.invariant.0 (invariant_of-self c).0
-    c.come.ensures.halves c.come.ensures.cleared (ap links_of c.self.view_is)
+    met_rises c.come.result c.self.inside c.come.new.halves.items c.come.new.feeds c.self.view_is c.self.invariant.0 (invariant_of-self c).0 c.come.ensures.halves c.come.ensures.cleared
 
 pub returns-clause-ok : goal.returns-clause-ok
 returns-clause-ok c =
@@ -42,7 +39,7 @@ returns-clause-ok c =
     subst (λ from. shown from c.args.line) c.in_ok-item.ensures.exact.2
     (subst (shown seen.from) c.in_ok-item.ensures.exact.3
     (met_seen c.come.result (with_shown seen.from seen.line) (λ (s : ServedSeen). more (length (filter (takes_shown seen.from) s.links)) s.queued)
-    hs c.come.new.halves.items c.self.inside.feeds c.come.new.feeds (Came (refused_of seen)) c.self.inside.queued c.self.inside.rests c.args.self.now
+    c.self.inside c.come.new.halves.items c.come.new.feeds (Came (refused_of seen))
     (shown_links seen hs ss c.self.invariant.0.match)
     (ap (λ put. more put c.self.inside.queued) (shown_put seen hs ss c.self.invariant.0.match) ∙ more_later (length (filter (takes_shown seen.from) (joined_all hs ss))) (put_in ss) c.self.inside.queued)
     c.come.ensures.halves (met c) c.come.ensures.settled c.self.view_is))

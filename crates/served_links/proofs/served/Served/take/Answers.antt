@@ -4,7 +4,7 @@ use Rattle.link_feeds.specs.Feeds as feeds
 use Rattle.aprs_history.specs.Stands.{LinkSeen}
 use Rattle.served_links.specs.Links.{has_that}
 use Rattle.served_links.specs.Changes.{with_taken}
-use Rattle.served_links.proofs.ServedSteps.{both_are, both_seen, both_settled, changed_nobody, links_of, pending_there, rests_of, taken_matches, within_feeds, within_halves}
+use Rattle.served_links.proofs.ServedSteps.{both_are, both_seen, changed_nobody, links_of, pending_there, rests_of, taken_matches, within_feeds, within_halves}
 use Rattle.served_links.proofs.served.Served.take.Goals as goal
 
 pub taken-requires-clause-settled : goal.taken-requires-clause-settled
@@ -24,15 +24,11 @@ taken-requires-clause-there c s there =
     c.requires.pending
 
 pub invariant_of-self : goal.invariant_of-self
-invariant_of-self c = (
-  both_are c.args.number c.self.inside.halves.items c.as_slice.result.now c.self.inside.feeds c.taken.new.self c.self.invariant.0 c.in-Some.place c.as_slice.ensures.value c.in-Some.ensures
-      c.index_mut.result.now (record c.index_mut.result.now { blocked = nat_lt c.args.count c.args.offered }) c.take.new.self c.index_mut.ensures.value refl c.take.ensures
-      (feeds.with_taken c.args.count) (λ s m. taken_matches c.index_mut.result.now s (nat_lt c.args.count c.args.offered) c.args.count m) c.taken.ensures,
-  λ rests. both_settled c.args.number c.self.inside.halves.items c.as_slice.result.now c.self.inside.feeds c.taken.new.self c.self.invariant.0 c.in-Some.place c.as_slice.ensures.value c.in-Some.ensures
-      c.index_mut.result.now (record c.index_mut.result.now { blocked = nat_lt c.args.count c.args.offered }) c.take.new.self c.index_mut.ensures.value refl c.take.ensures
-      (feeds.with_taken c.args.count) (λ s m. taken_matches c.index_mut.result.now s (nat_lt c.args.count c.args.offered) c.args.count m) c.taken.ensures
-      ∙ c.self.invariant.1 rests,
-)
+invariant_of-self c =
+    both_are c.args.number c.self.inside.halves.items c.as_slice.result.now c.self.inside.feeds c.taken.new.self c.self.invariant.0 c.in-Some.place c.as_slice.ensures.value c.in-Some.ensures
+    c.index_mut.result.now (record c.index_mut.result.now { blocked = nat_lt c.args.count c.args.offered }) c.take.new.self c.index_mut.ensures.value refl c.take.ensures
+    (feeds.with_taken c.args.count) (λ s m. taken_matches c.index_mut.result.now s (nat_lt c.args.count c.args.offered) c.args.count m) c.taken.ensures
+    c.self.invariant.1
 
 pub returns-in-Some : goal.returns-in-Some
 returns-in-Some c =

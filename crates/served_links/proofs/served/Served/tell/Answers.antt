@@ -5,7 +5,7 @@ use Rattle.worker_match.specs.Seen as worker
 use Rattle.aprs_history.specs.Stands.{LinkSeen}
 use Rattle.served_links.specs.Links.{has_that}
 use Rattle.served_links.specs.Changes.{with_text}
-use Rattle.served_links.proofs.ServedSteps.{changed_nobody, links_of, settled_of, told_are, told_seen, told_settled, within_feeds, within_halves}
+use Rattle.served_links.proofs.ServedSteps.{changed_nobody, links_of, settled_of, told_are, told_seen, within_feeds, within_halves}
 use Rattle.served_links.proofs.served.Served.tell.Goals as goal
 
 pub tell-requires-clause-settled : goal.tell-requires-clause-settled
@@ -17,12 +17,9 @@ tell-requires-clause-within c =
     within_feeds c.in-Some.place hs c.self.inside.feeds c.self.invariant.0 (within_halves c.args.number c.in-Some.place hs c.as_slice.result.now c.as_slice.ensures.value c.in-Some.ensures)
 
 pub invariant_of-self : goal.invariant_of-self
-invariant_of-self c = (
-  told_are c.args.number c.self.inside.halves.items c.as_slice.result.now c.self.inside.feeds c.tell.new.self c.self.invariant.0 c.in-Some.place c.as_slice.ensures.value c.in-Some.ensures
-      (λ (s : worker.LinkSeen). s) (arc_value c.args.line) (λ h s m. m) c.tell.ensures,
-  λ rests. told_settled c.args.number c.self.inside.halves.items c.as_slice.result.now c.self.inside.feeds c.tell.new.self c.self.invariant.0 c.in-Some.place c.as_slice.ensures.value c.in-Some.ensures
-      (λ (s : worker.LinkSeen). s) (arc_value c.args.line) (λ h s m. m) c.tell.ensures ∙ c.self.invariant.1 rests,
-)
+invariant_of-self c =
+    told_are c.args.number c.self.inside.halves.items c.as_slice.result.now c.self.inside.feeds c.tell.new.self c.self.invariant.0 c.in-Some.place c.as_slice.ensures.value c.in-Some.ensures
+    (λ (s : worker.LinkSeen). s) (arc_value c.args.line) (λ h s m. m) c.tell.ensures c.self.invariant.1
 
 pub returns-in-Some : goal.returns-in-Some
 returns-in-Some c =
