@@ -23,6 +23,12 @@ fn begun(word: &[u8], group: u16, from: &Source) -> ArrayVec<u8, 48>
     text
 }
 
+fn line_of(kind: Kind, moment: u64, text: ArrayVec<u8, 48>) -> JournalLine
+    ensures { result ≡ line_of kind moment text.items }
+{
+    JournalLine { kind, moment, text }
+}
+
 /// A line that says that something was refused, and by which name.
 fn refused(group: u16, from: &Source, moment: u64, name: &[u8]) -> JournalLine
     requires { length name.now ≤ 20 }
@@ -31,11 +37,7 @@ fn refused(group: u16, from: &Source, moment: u64, name: &[u8]) -> JournalLine
     let mut text = begun(b"refused ", group, from);
     append(&mut text, b" ");
     append(&mut text, name);
-    JournalLine {
-        kind: Kind::Refusal,
-        moment,
-        text,
-    }
+    line_of(Kind::Refusal, moment, text)
 }
 
 /// The same for a line that is no packet.
@@ -45,11 +47,7 @@ fn refused_packet(group: u16, from: &Source, moment: u64, fault: LineFault) -> J
     let mut text = begun(b"refused ", group, from);
     append(&mut text, b" ");
     append_packet_name(&mut text, fault);
-    JournalLine {
-        kind: Kind::Refusal,
-        moment,
-        text,
-    }
+    line_of(Kind::Refusal, moment, text)
 }
 
 /// Whether the drop tells of a loop.
@@ -87,7 +85,7 @@ fn dropped(
     let mut text = begun(word, group, from);
     append(&mut text, b" ");
     append_path_name(&mut text, why);
-    JournalLine { kind, moment, text }
+    line_of(kind, moment, text)
 }
 
 /// The line of a refusal. `group` is the number of the peer group's listener.
@@ -129,11 +127,7 @@ pub fn login_line(group: u16, from: &Source, moment: u64, session: &Session) -> 
     append(&mut text, session.call.bytes());
     append(&mut text, b" ");
     append(&mut text, mark_name(session.verified));
-    JournalLine {
-        kind: Kind::Session,
-        moment,
-        text,
-    }
+    line_of(Kind::Session, moment, text)
 }
 
 /// A line of a session's step: a word, a link's number, and another.
@@ -146,11 +140,7 @@ fn step(word: &[u8], moment: u64, link: u32, other: u16) -> JournalLine
     append_number(&mut text, link);
     append(&mut text, b" ");
     append_number(&mut text, u32::from(other));
-    JournalLine {
-        kind: Kind::Session,
-        moment,
-        text,
-    }
+    line_of(Kind::Session, moment, text)
 }
 
 /// The line of a link that has come to a listener.
@@ -174,11 +164,7 @@ pub fn unjoined_line(moment: u64, uplink: u16) -> JournalLine
     let mut text = ArrayVec::new();
     append(&mut text, b"unjoined ");
     append_number(&mut text, u32::from(uplink));
-    JournalLine {
-        kind: Kind::Session,
-        moment,
-        text,
-    }
+    line_of(Kind::Session, moment, text)
 }
 
 /// The line of a link that has ended.
@@ -190,9 +176,5 @@ pub fn end_line(moment: u64, link: u32, reason: EndReason) -> JournalLine
     append_number(&mut text, link);
     append(&mut text, b" ");
     append(&mut text, reason_name(reason));
-    JournalLine {
-        kind: Kind::Session,
-        moment,
-        text,
-    }
+    line_of(Kind::Session, moment, text)
 }

@@ -147,17 +147,6 @@ login_fit server filters line (Ok login) is = by_name (is_text login.call server
     by_name true = tt
     by_name false = (login_station line login is, few_login filters line login.filter)
 
-packet_fit : (copies : Parts → Bool) (routed : Result Parts Refusal) → IsFit (packet_verdict copies routed)
-packet_fit copies (Err why) = tt
-packet_fit copies (Ok parts) = by_copy (copies parts)
-  where
-    by_copy : (again : Bool) → IsFit (if again then Refused (refusal.Duplicate parts (text_of parts)) else Accepted parts (text_of parts))
-    by_copy true = tt
-    by_copy false = tt
-
-carried_fit : (scene : Scene) (origin : Origin) (text : List ℕ) → IsFit (carried_verdict scene origin text)
-carried_fit scene origin text = packet_fit scene.copies (read_and_routed scene.server origin scene.others (parts_of text))
-
 filtered_fit : (filters : Bool) (command : Option (List ℕ)) → IsFit (filtered filters command)
 filtered_fit filters None = tt
 filtered_fit filters (Some text) = few_answer filters text
@@ -167,19 +156,6 @@ comment_fit (voice.Nameless filters) text = tt
 comment_fit voice.Reader text = filtered_fit false (filter_command text)
 comment_fit (voice.Client filters origin) text = filtered_fit filters (filter_command text)
 comment_fit (voice.Carrier origin) text = tt
-
-line_fit : (scene : Scene) (who : Voice) (text : List ℕ) → IsFit (line_verdict scene who text)
-line_fit scene (voice.Nameless filters) text = login_fit scene.server filters text (login_of text) refl
-line_fit scene voice.Reader text = tt
-line_fit scene (voice.Client filters origin) text = carried_fit scene origin text
-line_fit scene (voice.Carrier origin) text = carried_fit scene origin text
-
-voice_fit : (scene : Scene) (who : Voice) (text : List ℕ) → IsFit (voice_verdict scene who text)
-voice_fit scene who text = by_mark (is_comment text)
-  where
-    by_mark : (comment : Bool) → IsFit (if comment then comment_verdict who text else line_verdict scene who text)
-    by_mark true = comment_fit who text
-    by_mark false = line_fit scene who text
 
 -- ---- the verdict goes by the voice
 
@@ -193,65 +169,10 @@ by_comment false v w x y first second = second
 
 visitor_says : (scene : Scene) (port : PortKind) (session : Option Session) (text : List ℕ) → spoken_verdict scene (Visitor port session) text ≡ voice_verdict scene (voice_of (Visitor port session)) text
 visitor_says scene port None text = refl
-visitor_says scene kind.Full (Some session) text = by_comment (is_comment text) _ _ _ _ (by_command false session (filter_command text)) refl
 visitor_says scene kind.Igate (Some session) text = by_comment (is_comment text) _ _ _ _ (by_command true session (filter_command text)) refl
 visitor_says scene kind.Only (Some session) text = by_comment (is_comment text) _ _ _ _ (by_command true session (filter_command text)) refl
-visitor_says scene kind.Dupe (Some session) text = by_comment (is_comment text) _ _ _ _ (by_command false session (filter_command text)) refl
-visitor_says scene kind.Submit (Some session) text = by_comment (is_comment text) _ _ _ _ (by_command false session (filter_command text)) refl
-visitor_says scene kind.Core (Some session) text = by_comment (is_comment text) _ _ _ _ (by_command false session (filter_command text)) refl
+visitor_says scene port (Some session) text = by_comment (is_comment text) _ _ _ _ (by_command false session (filter_command text)) refl
 
 pub voice_says : (scene : Scene) (speaker : Speaker) (text : List ℕ) → spoken_verdict scene speaker text ≡ voice_verdict scene (voice_of speaker) text
 voice_says scene (Visitor port session) text = visitor_says scene port session text
 voice_says scene (Carrier origin) text = refl
-
-pub verdict_fit : (scene : Scene) (cut : Cut) → IsFit (verdict_of scene cut)
-verdict_fit scene cut.Long = tt
-verdict_fit scene (cut.Line text) = subst IsFit (sym (voice_says scene scene.speaker text)) (voice_fit scene (voice_of scene.speaker) text)
-
--- ---- what is accepted is no copy
-
-module _ (copies : Parts → Bool) where
-  packet_new : (routed : Result Parts Refusal) → IsNew copies (packet_verdict copies routed)
-  packet_new (Err why) = tt
-  packet_new (Ok parts) = by_copy (copies parts) refl
-    where
-      by_copy : (again : Bool) → copies parts ≡ again → IsNew copies (if again then Refused (refusal.Duplicate parts (text_of parts)) else Accepted parts (text_of parts))
-      by_copy true is = tt
-      by_copy false is = is
-
-  pub login_new : (server : List ℕ) (filters : Bool) (line : List ℕ) (read : Result Login LoginFault) → IsNew copies (login_verdict server filters line read)
-  login_new server filters line (Err why) = tt
-  login_new server filters line (Ok login) = by_name (is_text login.call server)
-    where
-      by_name : (own : Bool)
-          → IsNew copies (if own then Refused refusal.OwnName else LoggedIn (record { call = login.call; verified = is_verified login }) (login_answer filters line login.filter))
-      by_name true = tt
-      by_name false = tt
-
-  filtered_new : (filters : Bool) (command : Option (List ℕ)) → IsNew copies (filtered filters command)
-  filtered_new filters None = tt
-  filtered_new filters (Some text) = tt
-
-  pub comment_new : (who : Voice) (text : List ℕ) → IsNew copies (comment_verdict who text)
-  comment_new (voice.Nameless filters) text = tt
-  comment_new voice.Reader text = filtered_new false (filter_command text)
-  comment_new (voice.Client filters origin) text = filtered_new filters (filter_command text)
-  comment_new (voice.Carrier origin) text = tt
-
-module _ (scene : Scene) where
-  line_new : (who : Voice) (text : List ℕ) → IsNew scene.copies (line_verdict scene who text)
-  line_new (voice.Nameless filters) text = login_new scene.copies scene.server filters text (login_of text)
-  line_new voice.Reader text = tt
-  line_new (voice.Client filters origin) text = packet_new scene.copies (read_and_routed scene.server origin scene.others (parts_of text))
-  line_new (voice.Carrier origin) text = packet_new scene.copies (read_and_routed scene.server origin scene.others (parts_of text))
-
-  voice_new : (who : Voice) (text : List ℕ) → IsNew scene.copies (voice_verdict scene who text)
-  voice_new who text = by_mark (is_comment text)
-    where
-      by_mark : (comment : Bool) → IsNew scene.copies (if comment then comment_verdict who text else line_verdict scene who text)
-      by_mark true = comment_new scene.copies who text
-      by_mark false = line_new who text
-
-  pub verdict_new : (cut : Cut) → IsNew scene.copies (verdict_of scene cut)
-  verdict_new cut.Long = tt
-  verdict_new (cut.Line text) = subst (IsNew scene.copies) (sym (voice_says scene scene.speaker text)) (voice_new (voice_of scene.speaker) text)
