@@ -1,7 +1,8 @@
 -- A run goes on by a send or a close.
 use Rattle.std.proofs.Common.{◌≡◌, ℕ, zero, suc, ◌<◌, ◌==◌, Bool, true, false, ◌||◌, List, [], ◌∷◌, ◌++◌, length, take, drop, map, refl, sym, ap, ◌∙◌, subst, arith, Option, None, ⊎_elim, eq-eqb, min, length-take, get_or}
 use Rattle.std.specs.Option.{option_map}
-use Rattle.std.proofs.lemmas.Bool.{cases_Bool, eqb-true, false_from_ne_true, true≢false}
+use Rattle.std.proofs.lemmas.Bool.{cases_Bool, eqb-true, false_from_ne_true, or_right, true≢false}
+use Rattle.std.proofs.Math.Seq.{drop-nil}
 use Rattle.aprs_base.specs.Outside.{Told, with_done, IsOutcome}
 use Rattle.aprs_base.specs.declared.events.Sent.{Sent}
 use Rattle.aprs_base.specs.declared.events.Sent.TheVariants as sent
@@ -98,14 +99,7 @@ run_closes lines s start now next core link closes same is run =
 -- ---- numbers that rise differ
 
 pub first_differs : (low high : ℕ) (ns : List ℕ) (i n : ℕ) (rest : List ℕ) → Rises low ns high → drop i ns ≡ n ∷ rest → is_member n rest ≡ false
-first_differs low high [] zero n rest rises is = absurd (nothing n rest is)
-  where
-    nothing : (n : ℕ) (rest : List ℕ) → [] ≡ n ∷ rest → ⊥
-    nothing n rest e = cc
-first_differs low high [] (suc i) n rest rises is = absurd (nothing n rest is)
-  where
-    nothing : (n : ℕ) (rest : List ℕ) → [] ≡ n ∷ rest → ⊥
-    nothing n rest e = cc
+first_differs low high [] i n rest rises is = cc (drop-nil {A = ℕ} i)
 first_differs low high (x ∷ ns) zero n rest rises is =
     let first : x ≡ n = cc in
     let others : ns ≡ rest = cc in
@@ -117,12 +111,6 @@ first_differs low high (x ∷ ns) (suc i) n rest rises is = first_differs x high
 -- what was offered is what was asked for
 pub offered_bytes : (bytes left : List ℕ) (room : ℕ) → room ≡ 65536 → bytes ≡ take (min room 65536) left → bytes ≡ take 65536 left
 offered_bytes bytes left room is given = given ∙ ap (λ n. take (min n 65536) left) is
-
-pub offered_length : (offered room left : ℕ) (out : List ℕ) → offered ≡ min (min room 65536) left → length out ≡ room → length (take offered out) ≡ offered
-offered_length offered room left out is full = length-take offered out ∙ min_is offered room left (length out) is full
-  where
-    min_is : (offered room left n : ℕ) → offered ≡ min (min room 65536) left → n ≡ room → min offered n ≡ offered
-    min_is offered room left n is full = omega arith
 
 -- one offer is made, from what the core said
 pub run_offered : (lines : List JournalLineSeen) (s : Setting) (start now next : Option Told) (core new : CoreMeaning) (link : ℕ) (offers closes : List ℕ) (bytes : List ℕ) (outcome said : Sent) → setting_of core.conf ≡ s
@@ -137,8 +125,4 @@ run_offered lines s start now next core new link offers closes bytes outcome sai
 pub member_at : (ns : List ℕ) (i d : ℕ) → i < length ns → is_member (get_or ns i d) ns ≡ true
 member_at [] i d lt = absurd (omega arith)
 member_at (n ∷ ns) zero d lt = member_first n ns
-member_at (n ∷ ns) (suc i) d lt = or_true (n == get_or ns i d) _ (member_at ns i d (omega arith))
-  where
-    or_true : (a b : Bool) → b ≡ true → (a || b) ≡ true
-    or_true true b h = refl
-    or_true false b h = h
+member_at (n ∷ ns) (suc i) d lt = or_right (n == get_or ns i d) _ (member_at ns i d (omega arith))

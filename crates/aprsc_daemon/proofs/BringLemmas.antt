@@ -7,10 +7,6 @@ use Rattle.aprs_base.specs.declared.events.Happening.{Happening}
 use Rattle.aprs_base.specs.declared.events.Happening.TheVariants as did
 use Rattle.aprsc_daemon.specs.Phases.{Brings, events_in}
 
-pub brings_nothing : (now : Option Told) → Brings [] now now
-brings_nothing None = refl
-brings_nothing (Some told) = (told, [], refl, sym (append-nil told.done), refl)
-
 -- one happening, whatever else is told with it
 pub brings_told : (x : Happening) (change : Told → Told) (events : List Event) (now next : Option Told) → ((told : Told) → (change told).done ≡ told.done ++ x ∷ []) → events_in (x ∷ []) ≡ events
     → next ≡ option_map change now → Brings events now next
@@ -23,11 +19,7 @@ brings_one x events now next = brings_told x (with_done x) events now next (λ t
 pub events_join : (first later : List Happening) → events_in (first ++ later) ≡ events_in first ++ events_in later
 events_join [] later = refl
 events_join (did.Event e ∷ first) later = ap (λ events. e ∷ events) (events_join first later)
-events_join (did.Listen n ∷ first) later = events_join first later
-events_join (did.Sent link bytes outcome ∷ first) later = events_join first later
-events_join (did.Closed link ∷ first) later = events_join first later
-events_join (did.Dialled uplink ∷ first) later = events_join first later
-events_join (did.Cast peer bytes ∷ first) later = events_join first later
+events_join (_ ∷ first) later = events_join first later
 
 -- these events, and then those
 pub brings_both : (these those : List Event) (start now next : Option Told) → Brings these start now → Brings those now next → Brings (these ++ those) start next

@@ -188,7 +188,6 @@ one_task words told a b x y =
 -- a text that is due where the files hold a configuration, and didn't fail, is the line on a listener
 due_listener : (wanted : Status) (o : Outside) (files : List MemFile) (conf : ConfSeen) (text : List ℕ) → o.files.told ≡ Some files → HasNamed task.Serve o.words o.files.told conf
     → ¬ Rose o.files.faults o.files_after.faults → IsDue wanted o text → HasNoListener o text
-due_listener status.Stopped o files conf text tells read sound due = absurd due
 due_listener status.Checked o files conf text tells read sound due = absurd (one_task o.words o.files.told conf due.conf read due.read)
 due_listener status.Drilled o files conf text tells read sound due = absurd (not_both_modes o.words due.asked read.asked due.named read.named)
 due_listener status.BadWords o files conf text tells read sound due = absurd (not_named o.words read.asked due.bad read.named)
@@ -196,9 +195,7 @@ due_listener status.BadFile o files conf text tells read sound due =
     absurd (not_both task.Serve o.words files conf text (at_files task.Serve o files conf tells read) (subst (λ told. HasRefused o.words told text) tells due.read))
 due_listener status.UnreadFile o files conf text tells read sound due = absurd (sound due.failed)
 due_listener status.NoListener o files conf text tells read sound due = due
-due_listener status.LostWire o files conf text tells read sound due = absurd due
-due_listener status.NoMemory o files conf text tells read sound due = absurd due
-due_listener status.LostSink o files conf text tells read sound due = absurd due
+due_listener _ o files conf text tells read sound due = absurd due
 
 -- ---- the headline
 
@@ -215,11 +212,7 @@ served_run o files conf P tells read served =
 listens_fresh : (more : History) → are_listens more ≡ true → HasFreshLinks more
 listens_fresh [] only = tt
 listens_fresh (did.Listen n ∷ more) only = listens_fresh more only
-listens_fresh (did.Event e ∷ more) only = absurd (false≢true only)
-listens_fresh (did.Sent link bytes outcome ∷ more) only = absurd (false≢true only)
-listens_fresh (did.Closed link ∷ more) only = absurd (false≢true only)
-listens_fresh (did.Dialled uplink ∷ more) only = absurd (false≢true only)
-listens_fresh (did.Cast peer bytes ∷ more) only = absurd (false≢true only)
+listens_fresh (_ ∷ more) only = absurd (false≢true only)
 
 -- a run of which the end says no more
 goes_on : (o : Outside) (files : List MemFile) (conf : ConfSeen) (code : ℕ) → (code ≡ 0 → ⊥) → (code ≡ 5 → ⊥) → o.files.told ≡ Some files → HasNamed task.Serve o.words o.files.told conf
@@ -244,15 +237,11 @@ opens_some o text due =
 -- where a text is due nothing happened, or listeners alone were opened
 due_run : (wanted : Status) (o : Outside) (text : List ℕ) → IsDue wanted o text → IsUnused o ⊎ IsServed o (λ s. HasFreshLinks)
 due_run status.Stopped o text due = absurd due
-due_run status.Checked o text due = inl due.unused
-due_run status.Drilled o text due = inl due.unused
-due_run status.BadWords o text due = inl due.unused
-due_run status.BadFile o text due = inl due.unused
-due_run status.UnreadFile o text due = inl due.unused
 due_run status.NoListener o text due = inr (served_weaker o (λ s. OpensOnly due.number) (λ s. HasFreshLinks) (λ s more opens. listens_fresh more opens.1) due.run)
 due_run status.LostWire o text due = absurd due
 due_run status.NoMemory o text due = absurd due
 due_run status.LostSink o text due = absurd due
+due_run _ o text due = inl due.unused
 
 -- and so the end says nothing
 due_ended : (wanted : Status) (o : Outside) (text : List ℕ) (files : List MemFile) (conf : ConfSeen) (code : ℕ) → (code ≡ 0 → ⊥) → (code ≡ 5 → ⊥) → o.files.told ≡ Some files
@@ -266,14 +255,6 @@ headline o files conf status.Stopped tells read cause =
     served_run o files conf (Ended 0) tells read (served_weaker o Finished (Ended 0) (λ s more at. record { fresh = at.idle.fresh; stopped = λ e. at; lost = λ e. absurd (omega arith) }) cause.run)
 headline o files conf status.Checked tells read cause = absurd (one_task o.words o.files.told conf cause.due.conf read cause.due.read)
 headline o files conf status.Drilled tells read cause = absurd (not_both_modes o.words cause.due.asked read.asked cause.due.named read.named)
-headline o files conf status.BadWords tells read cause =
-    due_ended status.BadWords o cause.text files conf 1 (λ e. omega arith) (λ e. omega arith) tells read cause.due
-headline o files conf status.BadFile tells read cause =
-    due_ended status.BadFile o cause.text files conf 2 (λ e. omega arith) (λ e. omega arith) tells read cause.due
-headline o files conf status.UnreadFile tells read cause =
-    due_ended status.UnreadFile o cause.text files conf 3 (λ e. omega arith) (λ e. omega arith) tells read cause.due
-headline o files conf status.NoListener tells read cause =
-    due_ended status.NoListener o cause.text files conf 4 (λ e. omega arith) (λ e. omega arith) tells read cause.due
 headline o files conf status.LostWire tells read cause =
     served_run o files conf (Ended 5) tells read (served_weaker o Idle (Ended 5) (λ s more at. record { fresh = at.fresh; stopped = λ e. absurd (omega arith); lost = λ e. at }) cause.run)
 headline o files conf status.NoMemory tells read cause =
@@ -283,6 +264,8 @@ headline o files conf status.NoMemory tells read cause =
     cause
 headline o files conf status.LostSink tells read cause =
     due_ended cause.part.wanted o cause.part.text files conf 7 (λ e. omega arith) (λ e. omega arith) tells read cause.part.due
+headline o files conf wanted tells read cause =
+    due_ended wanted o cause.text files conf (code_of_status wanted) (λ e. omega arith) (λ e. omega arith) tells read cause.due
 
 -- a run whose links were numbered freshly keeps its promise
 pub keeps_promise : (s : Setting) (start now : Option Told) (code : ℕ) → AppendsRun s start now (Ended code s) → AppendsRun s start now (KeepsPromise s)
@@ -304,17 +287,9 @@ keeps_promise s (Some told) now code run = (
 pub early : (o : Outside) (files : List MemFile) (conf : ConfSeen) (ending : Status) → o.files.told ≡ Some files → HasNamed task.Serve o.words o.files.told conf
     → ¬ Rose o.files.faults o.files_after.faults → code_of_status ending ≡ 7 → Cause ending o
     → AppendsRun (setting_of conf) o.wire.told o.wire_after.told (Opening (setting_of conf))
-early o files conf status.Stopped tells read sound is cause = absurd (omega arith)
-early o files conf status.Checked tells read sound is cause = absurd (omega arith)
-early o files conf status.Drilled tells read sound is cause = absurd (omega arith)
-early o files conf status.BadWords tells read sound is cause = absurd (omega arith)
-early o files conf status.BadFile tells read sound is cause = absurd (omega arith)
-early o files conf status.UnreadFile tells read sound is cause = absurd (omega arith)
-early o files conf status.NoListener tells read sound is cause = absurd (omega arith)
-early o files conf status.LostWire tells read sound is cause = absurd (omega arith)
-early o files conf status.NoMemory tells read sound is cause = absurd (omega arith)
 early o files conf status.LostSink tells read sound is cause =
     served_run o files conf Opening tells read (opens_some o cause.part.text (due_listener cause.part.wanted o files conf cause.part.text tells read sound cause.part.due))
+early o files conf _ tells read sound is cause = absurd (omega arith)
 
 -- ---- completeness
 
@@ -333,9 +308,6 @@ words_asked o status.LostSink bad taken cause = absurd (taken cause.failed)
 
 drill_asked : (o : Outside) (asked : DrillWords) (ending : Status) → drill_of o.words ≡ Some asked → ¬ Rose o.sink.faults o.sink_after.faults → Cause ending o
     → (code_of_status ending ≡ 0) ⊎ (code_of_status ending ≡ 6)
-drill_asked o asked status.Stopped drilled taken cause = inl refl
-drill_asked o asked status.Checked drilled taken cause = inl refl
-drill_asked o asked status.Drilled drilled taken cause = inl refl
 drill_asked o asked status.BadWords drilled taken cause = absurd (not_drilled o.words asked cause.due.no_drill drilled)
 drill_asked o asked status.BadFile drilled taken cause = absurd (not_both_modes o.words asked cause.due.read.asked drilled cause.due.read.named)
 drill_asked o asked status.UnreadFile drilled taken cause = absurd (not_both_modes o.words asked cause.due.asked drilled cause.due.named)
@@ -343,6 +315,7 @@ drill_asked o asked status.NoListener drilled taken cause = absurd (not_both_mod
 drill_asked o asked status.LostWire drilled taken cause = absurd (not_both_modes o.words asked cause.run.read.asked drilled cause.run.read.named)
 drill_asked o asked status.NoMemory drilled taken cause = inr refl
 drill_asked o asked status.LostSink drilled taken cause = absurd (taken cause.failed)
+drill_asked o asked _ drilled taken cause = inl refl
 
 served_not_off : (o : Outside) (files : List MemFile) (text : List ℕ) (P : Setting → History → Type 0) → o.files.told ≡ Some files → HasRefused o.words (Some files) text → IsServed o P → ⊥
 served_not_off o files text P tells refused served = not_both task.Serve o.words files served.conf text (at_files task.Serve o files served.conf tells served.read) refused
@@ -365,9 +338,6 @@ file_asked o files text status.LostSink tells refused sound taken cause = absurd
 conf_asked : (t : Task) (o : Outside) (files : List MemFile) (conf : ConfSeen) (ending : Status) → o.files.told ≡ Some files → HasNamed t o.words o.files.told conf
     → ¬ Rose o.files.faults o.files_after.faults → ¬ Rose o.wire.stops o.wire_after.stops → ¬ Rose o.sink.faults o.sink_after.faults → Cause ending o
     → (code_of_status ending ≡ 0) ⊎ (code_of_status ending ≡ 6)
-conf_asked t o files conf status.Stopped tells read sound going taken cause = inl refl
-conf_asked t o files conf status.Checked tells read sound going taken cause = inl refl
-conf_asked t o files conf status.Drilled tells read sound going taken cause = inl refl
 conf_asked t o files conf status.BadWords tells read sound going taken cause = absurd (not_named o.words read.asked cause.due.bad read.named)
 conf_asked t o files conf status.BadFile tells read sound going taken cause =
     absurd (not_both t o.words files conf cause.text (at_files t o files conf tells read) (subst (λ told. HasRefused o.words told cause.text) tells cause.due.read))
@@ -376,6 +346,7 @@ conf_asked t o files conf status.NoListener tells read sound going taken cause =
 conf_asked t o files conf status.LostWire tells read sound going taken cause = absurd (going cause.failed)
 conf_asked t o files conf status.NoMemory tells read sound going taken cause = inr refl
 conf_asked t o files conf status.LostSink tells read sound going taken cause = absurd (taken cause.failed)
+conf_asked t o files conf _ tells read sound going taken cause = inl refl
 
 pub complete : (o : Outside) (code : ℕ) (ending : Status) → Asks o.words o.files.told code
     → ¬ Rose o.files.faults o.files_after.faults → ¬ Rose o.wire.stops o.wire_after.stops → ¬ Rose o.sink.faults o.sink_after.faults → Cause ending o

@@ -99,16 +99,6 @@ numbered_rest n (event.Opened listener link from) events is = numbered_on n link
 numbered_rest n (event.Joined uplink link at) events is = numbered_on n link events is
 numbered_rest n e events is = is
 
--- and the event by itself
-numbered_alone : (first rest : Bool) → (first && rest) ≡ true → (first && true) ≡ true
-numbered_alone true rest is = refl
-numbered_alone false rest is = is
-
-pub numbered_first : (n : ℕ) (e : Event) (events : List Event) → are_numbered n (e ∷ events) ≡ true → are_numbered n (e ∷ []) ≡ true
-numbered_first n (event.Opened listener link from) events is = numbered_alone (link == n + 1) _ is
-numbered_first n (event.Joined uplink link at) events is = numbered_alone (link == n + 1) _ is
-numbered_first n e events is = refl
-
 -- by an event that came, which is the first of those that were to come
 pub driven_next : (plan : Plan) (e : Event) (coming : List Event) (wire : WireScript) (taken : ℕ) → IsDriven plan (e ∷ coming) wire taken → IsDriven plan coming (after_next wire (Ok e)) taken
 driven_next plan e coming wire taken driven = record {

@@ -1,9 +1,9 @@
 -- Events that come one after another, up to the end of a round.
-use Rattle.std.proofs.Common.{◌≡◌, ℕ, zero, suc, ◌+◌, ◌<◌, ◌≤◌, Bool, true, false, not, ◌&&◌, List, [], ◌∷◌, ◌++◌, length, refl, sym, ap, ◌∙◌, subst, arith, Option, Some, None, max, IfSome, if◌then◌else◌, length-append, Result, Ok, Err, IfErr, OnErr, OnOk, ◌||◌, ◌-◌, eq-eqb, ⊎_elim}
+use Rattle.std.proofs.Common.{◌≡◌, ℕ, zero, suc, ◌+◌, ◌<◌, ◌≤◌, Bool, true, false, not, ◌&&◌, List, [], ◌∷◌, ◌++◌, length, refl, sym, ap, ◌∙◌, subst, arith, Option, Some, None, max, IfSome, if◌then◌else◌, length-append, Result, Ok, Err, IfErr, IsErrAnd, OnErr, OnOk, ◌||◌, ◌-◌, eq-eqb, ⊎_elim}
 use Rattle.std.proofs.Math.Bool.{or-true}
 use Rattle.std.proofs.Math.Nat.{eq-or-lt_of_le}
 use Rattle.std.specs.Bool.{MatchBool}
-use Rattle.std.proofs.lemmas.Bool.{and_parts, false≢true}
+use Rattle.std.proofs.lemmas.Bool.{and_parts, false≢true, not-true}
 use Rattle.std.specs.Option.{option_map}
 use Rattle.aprs_base.specs.Outside.{Told, with_done, CountsLink, new_link}
 use Rattle.aprs_base.specs.declared.events.Event.{Event}
@@ -22,17 +22,13 @@ use Rattle.server_core.proofs.RoundLemmas.{no_stop}
 use Rattle.aprsc_daemon.specs.Phases.{is_partial, Counted, Gathering, Idle}
 use Rattle.aprsc_daemon.proofs.RunLemmas.{run_goes_on, tells_done}
 
-not_false : (b : Bool) → not b ≡ true → b ≡ false
-not_false true h = absurd (false≢true h)
-not_false false h = refl
-
 pub with_push : (events : List Event) (e : Event) (h : History) → with_events (events ++ e ∷ []) h ≡ did.Event e ∷ with_events events h
 with_push [] e h = refl
 with_push (x ∷ events) e h = with_push events e (did.Event x ∷ h)
 
 pub parts_of : (n : ℕ) (e : Event) (events : List Event) → is_partial n (e ∷ events) ≡ true → (ends_round n e ≡ false) × (is_partial (n + 1) events ≡ true)
 parts_of n e events partial =
-    let parts = and_parts (not (ends_round n e)) (is_partial (n + 1) events) partial in (not_false (ends_round n e) parts.0, parts.1)
+    let parts = and_parts (not (ends_round n e)) (is_partial (n + 1) events) partial in (not-true (ends_round n e) parts.0, parts.1)
 
 due_partial : (s : Setting) (n : ℕ) (events : List Event) (h : History) → is_partial n events ≡ true → open_events h ≡ n → due s h ≡ [] → due s (with_events events h) ≡ []
 unfolding due
@@ -204,6 +200,11 @@ memory_is_no_fault is = cc
 pub no_ok : {T E : Type 0} (P : Type 0) (result : Result T E) (y : E) → result ≡ Err y → OnOk result P
 no_ok P (Ok x) y is = absurd (ok_is_no_err (Ok x) x y refl is)
 no_ok P (Err e) y is = tt
+
+-- what holds of a call that ended by an error
+pub ends_so : {T E : Type 0} (A B : Type 0) (Q : E → Type 0) (result : Result T E) → IsErrAnd result Q → B → OnOk result A × OnErr result B
+ends_so A B Q (Ok x) is b = absurd is
+ends_so A B Q (Err e) is b = (tt, b)
 
 pub err_inside : {T E : Type 0} (result : Result T E) (y x : E) → result ≡ Err y → result ≡ Err x → y ≡ x
 err_inside result y x is also = cc

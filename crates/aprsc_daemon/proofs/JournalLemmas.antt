@@ -1,5 +1,5 @@
 -- The lines of the journal, as events and acts come.
-use Rattle.std.proofs.Common.{◌≡◌, ℕ, ◌+◌, ◌≤◌, true, false, List, [], ◌∷◌, ◌++◌, length, Option, refl, sym, ap, ◌∙◌, subst, append-nil, if◌then◌else◌, ⊎_elim}
+use Rattle.std.proofs.Common.{◌≡◌, ℕ, ◌+◌, ◌≤◌, Bool, true, false, List, [], ◌∷◌, ◌++◌, length, Option, refl, sym, ap, ◌∙◌, subst, append-nil, if◌then◌else◌, ⊎_elim}
 use Rattle.std.proofs.lemmas.Bool.{cases_Bool, false≢true}
 use Rattle.aprs_base.specs.Journals.{JournalLineSeen}
 use Rattle.aprs_base.specs.declared.events.Event.{Event}
@@ -21,18 +21,12 @@ use Rattle.aprsc_daemon.specs.declared.serving.End.TheVariants as ended
 use Rattle.aprsc_daemon.proofs.RunLemmas.{run_begins, run_told, run_weaker}
 use Rattle.aprsc_daemon.proofs.EventLemmas.{counted_fresh, gathered_fresh, gathering_idle, partial_next, parts_of, whole_next}
 
--- an event that ends its round, and one that doesn't
-ends_here : (s : Setting) (n : ℕ) (e : Event) (h : History) → ends_round n e ≡ true → open_events h ≡ n
-    → (journal_of s (did.Event e ∷ h) ≡ journal_of s h ++ round_lines s (trace_of s (did.Event e ∷ h))) × (lines_but_last s (did.Event e ∷ h) ≡ journal_of s h)
-ends_here s n e h ends open_is =
-    let here : ends_round (open_events h) e ≡ true = ap (λ m. ends_round m e) open_is ∙ ends in (
-      ap (λ b. if b then journal_of s h ++ round_lines s (trace_of s (did.Event e ∷ h)) else journal_of s h) here,
-      ap (λ b. if b then journal_of s h else lines_but_last s h) here,
-    )
-
-goes_on : (s : Setting) (n : ℕ) (e : Event) (h : History) → ends_round n e ≡ false → open_events h ≡ n → (journal_of s (did.Event e ∷ h) ≡ journal_of s h) × (lines_but_last s (did.Event e ∷ h) ≡ lines_but_last s h)
-goes_on s n e h goes open_is =
-    let here : ends_round (open_events h) e ≡ false = ap (λ m. ends_round m e) open_is ∙ goes in (
+-- an event adds lines where it ends its round
+one_event : (s : Setting) (n : ℕ) (e : Event) (h : History) (ends : Bool) → ends_round n e ≡ ends → open_events h ≡ n
+    → (journal_of s (did.Event e ∷ h) ≡ (if ends then journal_of s h ++ round_lines s (trace_of s (did.Event e ∷ h)) else journal_of s h))
+    × (lines_but_last s (did.Event e ∷ h) ≡ (if ends then journal_of s h else lines_but_last s h))
+one_event s n e h ends is open_is =
+    let here : ends_round (open_events h) e ≡ ends = ap (λ m. ends_round m e) open_is ∙ is in (
       ap (λ b. if b then journal_of s h ++ round_lines s (trace_of s (did.Event e ∷ h)) else journal_of s h) here,
       ap (λ b. if b then journal_of s h else lines_but_last s h) here,
     )
@@ -41,11 +35,11 @@ goes_on s n e h goes open_is =
 whole_round : (s : Setting) (n : ℕ) (events : List Event) (h : History) → is_whole n events ≡ true → open_events h ≡ n
     → (journal_of s (with_events events h) ≡ journal_of s h ++ round_lines s (trace_of s (with_events events h))) × (lines_but_last s (with_events events h) ≡ journal_of s h)
 whole_round s n [] h whole open_is = absurd (false≢true whole)
-whole_round s n (e ∷ []) h whole open_is = ends_here s n e h whole open_is
+whole_round s n (e ∷ []) h whole open_is = one_event s n e h true whole open_is
 whole_round s n (e ∷ next ∷ events) h whole open_is =
     let parts = ends_not n e next events whole in
     let later = whole_round s (n + 1) (next ∷ events) (did.Event e ∷ h) parts.1 (more_events n e h parts.0 open_is) in
-    let before = (goes_on s n e h parts.0 open_is).0 in (
+    let before = (one_event s n e h false parts.0 open_is).0 in (
       later.0 ∙ ap (λ lines. lines ++ round_lines s (trace_of s (with_events (next ∷ events) (did.Event e ∷ h)))) before,
       later.1 ∙ before,
     )
@@ -60,7 +54,7 @@ pub part_untold : (s : Setting) (n : ℕ) (events : List Event) (h : History) �
 part_untold s n [] h partial open_is = refl
 part_untold s n (e ∷ events) h partial open_is =
     let parts = parts_of n e events partial in
-    part_untold s (n + 1) events (did.Event e ∷ h) parts.1 (more_events n e h parts.0 open_is) ∙ (goes_on s n e h parts.0 open_is).0
+    part_untold s (n + 1) events (did.Event e ∷ h) parts.1 (more_events n e h parts.0 open_is) ∙ (one_event s n e h false parts.0 open_is).0
 
 -- ---- listeners
 
@@ -76,18 +70,14 @@ begins s [] = ([], refl)
 begins s (did.Event e ∷ h) =
     ⊎_elim
     (λ ends.
-    let here = ends_here s (open_events h) e h ends refl in
+    let here = one_event s (open_events h) e h true ends refl in
     (round_lines s (trace_of s (did.Event e ∷ h)), here.0 ∙ ap (λ l. l ++ round_lines s (trace_of s (did.Event e ∷ h))) (sym here.1)))
     (λ goes.
-    let here = goes_on s (open_events h) e h goes refl in
+    let here = one_event s (open_events h) e h false goes refl in
     let earlier = begins s h in
     (earlier.0, here.0 ∙ earlier.1 ∙ ap (λ l. l ++ earlier.0) (sym here.1)))
     (cases_Bool (ends_round (open_events h) e))
-begins s (did.Listen n ∷ h) = begins s h
-begins s (did.Sent link bytes outcome ∷ h) = begins s h
-begins s (did.Closed link ∷ h) = begins s h
-begins s (did.Dialled uplink ∷ h) = begins s h
-begins s (did.Cast peer bytes ∷ h) = begins s h
+begins s (_ ∷ h) = begins s h
 
 -- all lines are first ones
 pub all_first : (s : Setting) (h : History) (lines : List JournalLineSeen) → journal_of s h ≡ lines → AreFirst s lines h
@@ -171,11 +161,7 @@ acts_broken lines s start now next core dial casts offers closes same stays run 
 pub only_listens_untold : (s : Setting) (h : History) → are_listens h ≡ true → journal_of s h ≡ []
 only_listens_untold s [] only = refl
 only_listens_untold s (did.Listen n ∷ h) only = only_listens_untold s h only
-only_listens_untold s (did.Event e ∷ h) only = absurd (false≢true only)
-only_listens_untold s (did.Sent link bytes outcome ∷ h) only = absurd (false≢true only)
-only_listens_untold s (did.Closed link ∷ h) only = absurd (false≢true only)
-only_listens_untold s (did.Dialled uplink ∷ h) only = absurd (false≢true only)
-only_listens_untold s (did.Cast peer bytes ∷ h) only = absurd (false≢true only)
+only_listens_untold s (_ ∷ h) only = absurd (false≢true only)
 
 -- ---- what the journals were told in all
 

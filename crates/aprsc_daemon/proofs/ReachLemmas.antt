@@ -42,10 +42,7 @@ none_within (x ∷ xs) (suc n) none lt = none_within xs n none (omega arith)
 -- ---- the dial
 
 tells_dial : (s : Setting) (n : ℕ) (spec : UplinkSeen) → slice_get s.uplinks n ≡ Some spec → Tells s (did.Dialled n) (with_dial n spec)
-tells_dial s n spec at told =
-    ap (λ listens. record told { done = told.done ++ did.Dialled n ∷ []; listened = listens; dialled = told.dialled ++ spec ∷ [] }) (sym (append-nil told.listened))
-    ∙ ap (λ found. record told { done = told.done ++ did.Dialled n ∷ []; listened = told.listened ++ []; dialled = told.dialled ++ list_of found }) (sym at)
-    ∙ ap (λ casts. record told { done = told.done ++ did.Dialled n ∷ []; listened = told.listened ++ []; dialled = told.dialled ++ dialled_by s (did.Dialled n); cast_to = casts }) (sym (append-nil told.cast_to))
+tells_dial s n spec at told = rw (at, append-nil told.listened, append-nil told.cast_to) refl
 
 dial_comes : (acts : List Act) (stopped : Bool) (uplink : ℕ) (rest : List Act) → acts ≡ Dials uplink ∷ rest → MayCome acts stopped (did.Dialled uplink)
 dial_comes acts stopped uplink rest is = subst (λ xs. MayCome xs stopped (did.Dialled uplink)) (sym is) refl
@@ -85,10 +82,7 @@ dial_there lines s (Some old) now core uplink casts offers closes same none run 
 -- ---- a cast
 
 tells_cast : (s : Setting) (n : ℕ) (to : Addr) (bytes : List ℕ) → option_map address_of (slice_get s.peers n) ≡ Some to → Tells s (did.Cast n bytes) (with_cast n to bytes)
-tells_cast s n to bytes at told =
-    ap (λ listens. record told { done = told.done ++ did.Cast n bytes ∷ []; listened = listens; cast_to = told.cast_to ++ to ∷ [] }) (sym (append-nil told.listened))
-    ∙ ap (λ dials. record told { done = told.done ++ did.Cast n bytes ∷ []; listened = told.listened ++ []; dialled = dials; cast_to = told.cast_to ++ to ∷ [] }) (sym (append-nil told.dialled))
-    ∙ ap (λ found. record told { done = told.done ++ did.Cast n bytes ∷ []; listened = told.listened ++ []; dialled = told.dialled ++ []; cast_to = told.cast_to ++ list_of found }) (sym at)
+tells_cast s n to bytes at told = rw (at, append-nil told.listened, append-nil told.dialled) refl
 
 cast_comes : (acts : List Act) (stopped : Bool) (n : ℕ) (bytes owed : List ℕ) (rest : List Act) → acts ≡ Casts n owed ∷ rest → bytes ≡ owed → MayCome acts stopped (did.Cast n bytes)
 cast_comes acts stopped n bytes owed rest is same = subst (λ xs. MayCome xs stopped (did.Cast n bytes)) (sym is) (refl, same)

@@ -38,10 +38,7 @@ run_goes_on s (Some old) now next x change P Q tells is step run =
 
 -- a happening that tells nothing but itself
 pub tells_done : (s : Setting) (x : Happening) → listened_by s x ≡ [] → dialled_by s x ≡ [] → cast_by s x ≡ [] → Tells s x (with_done x)
-tells_done s x listened dialled cast told =
-    ap (λ listens. record told { done = told.done ++ x ∷ []; listened = listens }) (sym (append-nil told.listened) ∙ ap (λ more. told.listened ++ more) (sym listened))
-    ∙ ap (λ dials. record told { done = told.done ++ x ∷ []; listened = told.listened ++ listened_by s x; dialled = dials }) (sym (append-nil told.dialled) ∙ ap (λ more. told.dialled ++ more) (sym dialled))
-    ∙ ap (λ casts. record told { done = told.done ++ x ∷ []; listened = told.listened ++ listened_by s x; dialled = told.dialled ++ dialled_by s x; cast_to = casts }) (sym (append-nil told.cast_to) ∙ ap (λ more. told.cast_to ++ more) (sym cast))
+tells_done s x listened dialled cast told = rw (listened, dialled, cast, append-nil told.listened, append-nil told.dialled, append-nil told.cast_to) refl
 
 -- ---- listeners
 
@@ -49,10 +46,7 @@ listen_comes : (acts : List Act) (n : ℕ) (rest : List Act) (stopped : Bool) �
 listen_comes acts n rest stopped is = subst (λ xs. MayCome xs stopped (did.Listen n)) (sym is) refl
 
 tells_listen : (s : Setting) (n : ℕ) (spec : ListenSpec) → slice_get s.listens n ≡ Some spec → Tells s (did.Listen n) (with_listen n spec)
-tells_listen s n spec at told =
-    ap (λ listens. record told { done = told.done ++ did.Listen n ∷ []; listened = listens }) (ap (λ found. told.listened ++ list_of found) (sym at))
-    ∙ ap (λ dials. record told { done = told.done ++ did.Listen n ∷ []; listened = told.listened ++ listened_by s (did.Listen n); dialled = dials }) (sym (append-nil told.dialled))
-    ∙ ap (λ casts. record told { done = told.done ++ did.Listen n ∷ []; listened = told.listened ++ listened_by s (did.Listen n); dialled = told.dialled ++ []; cast_to = casts }) (sym (append-nil told.cast_to))
+tells_listen s n spec at told = rw (at, append-nil told.dialled, append-nil told.cast_to) refl
 
 pub run_listens : (s : Setting) (start now next : Option Told) (n : ℕ) (spec : ListenSpec) → drop n s.listens ≡ spec ∷ drop (n + 1) s.listens → slice_get s.listens n ≡ Some spec
     → next ≡ option_map (with_listen n spec) now → AppendsRun s start now (Listening s n) → AppendsRun s start next (Listening s (n + 1))
@@ -77,8 +71,7 @@ listens_begin s = record { due = refl; rest = refl; count = refl; only = refl; f
 pub listened : (s : Setting) (start now next : Option Told) (n : ℕ) (spec : ListenSpec) (listens : List ListenSpec) → s.listens ≡ listens → n < length listens → spec ≡ get_or listens n spec
     → next ≡ option_map (with_listen n spec) now → AppendsRun s start now (Listening s n) → AppendsRun s start next (Listening s (n + 1))
 listened s start now next n spec listens is lt at comes run =
-    let left : drop n s.listens ≡ spec ∷ drop (n + 1) s.listens =
-    ap (drop n) is ∙ drop-cons listens n spec lt ∙ ap (λ x. x ∷ drop (suc n) listens) (sym at) ∙ ap (λ m. spec ∷ drop m listens) (sym (add-one n)) ∙ ap (λ xs. spec ∷ drop (n + 1) xs) (sym is) in
+    let left : drop n s.listens ≡ spec ∷ drop (n + 1) s.listens = rw (is, drop-cons listens n spec lt, ← at, add-one n) refl in
     let found : slice_get s.listens n ≡ Some spec = ap (λ xs. slice_get xs n) is ∙ slice_get-get_or listens n spec lt ∙ ap Some (sym at) in
     run_listens s start now next n spec left found comes run
 

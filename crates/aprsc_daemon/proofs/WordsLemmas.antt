@@ -84,20 +84,6 @@ other_mode words mode = rw mode refl
 
 -- ---- what they ask of a drill
 
-pub drills : (words : List (List ℕ)) (rows : List Row) (said : DrillWords) → fault_of drill_app words ≡ [] → rows ≡ matches_of drill_app words → said ≡ drill_said_by rows
-    → is_small said ≡ true → drill_in words ≡ Some said
-drills words rows said good found is small =
-    let asked : drill_said_by (matches_of drill_app words) ≡ said = ap drill_said_by (sym found) ∙ sym is in
-    let chosen = ap (λ faults. option_and_then if_small (without_fault faults (drill_said_by (matches_of drill_app words)))) good in
-    chosen ∙ ap if_small asked ∙ ap (λ b. if b then Some said else None) small
-
-pub too_large : (words : List (List ℕ)) (rows : List Row) (said : DrillWords) → fault_of drill_app words ≡ [] → rows ≡ matches_of drill_app words → said ≡ drill_said_by rows
-    → is_small said ≡ false → drill_in words ≡ None
-too_large words rows said good found is large =
-    let asked : drill_said_by (matches_of drill_app words) ≡ said = ap drill_said_by (sym found) ∙ sym is in
-    let chosen = ap (λ faults. option_and_then if_small (without_fault faults (drill_said_by (matches_of drill_app words)))) good in
-    chosen ∙ ap if_small asked ∙ ap (λ b. if b then Some said else None) large
-
 pub no_drill : (words : List (List ℕ)) → (fault_of drill_app words ≡ [] → ⊥) → drill_in words ≡ None
 no_drill words bad = ap (option_and_then if_small) (none_by_fault (fault_of drill_app words) (drill_said_by (matches_of drill_app words)) bad)
 
@@ -117,9 +103,6 @@ begins_drill words is = other_mode words (rw is refl)
 
 pub begins_net : (words : List (List ℕ)) → begins_with (codes "drill") words ≡ false → begins_with (codes "net") words ≡ true → asked_of words ≡ None
 begins_net words other is = other_mode words (rw (other, is) refl)
-
-pub begins_none : (words : List (List ℕ)) → begins_with (codes "drill") words ≡ false → begins_with (codes "net") words ≡ false → names_mode words ≡ false
-begins_none words drill net = rw (drill, net) refl
 
 -- words that ask for a drill ask nothing of the server
 pub only_drill : (words : List (List ℕ)) (asked : DrillWords) → drill_of words ≡ Some asked → asked_of words ≡ None

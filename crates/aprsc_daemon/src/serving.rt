@@ -4,14 +4,15 @@ ghost use Rattle.aprs_base.specs.Outside.{Told, WireShown, Rose, CountsLink, new
 ghost use Rattle.aprs_conf.specs.Sound.{IsSound};
 ghost use Rattle.aprs_history.specs.Setting.{Setting};
 ghost use Rattle.aprs_history.specs.Stands.{StandsFor};
+ghost use Rattle.aprs_history.specs.Texts.{untaken};
 ghost use Rattle.aprs_history.specs.Dials.{CastSeen};
 ghost use Rattle.link_queue.specs.Lines.{ended_line};
-ghost use Rattle.aprs_history.specs.History.{History, ends_round, is_stopped};
+ghost use Rattle.aprs_history.specs.History.{History, ends_round, is_stopped, trace_of};
 ghost use Rattle.aprs_history.specs.Headline.{HasFreshLinks};
 ghost use Rattle.aprs_history.specs.Rounds.{AreFresh, greatest_after, is_whole, with_events};
 ghost use Rattle.aprs_history.specs.Runs.{AppendsRun};
 ghost use Rattle.aprs_history.specs.Trace.{is_member};
-ghost use Rattle.server_core.specs.LinkSteps.{AreServed, Rises, has_number, numbers};
+ghost use Rattle.server_core.specs.LinkSteps.{AreServed, Rises, has_number, numbers, pending_at};
 ghost use Rattle.server_core.specs.Meaning.{CoreMeaning, listeners, setting_of};
 ghost use Rattle.aprsc_daemon.specs.Causes.{OpensOnly};
 ghost use Rattle.aprsc_daemon.specs.Phases.{Acting, AreOfRound, Brings, Broken, Counted, Finished, Gathering, Idling, Listening, Offering, Resting, Served, is_partial};
@@ -158,6 +159,21 @@ fn gather<W: Wire>(wire: &mut W, events: &mut Vec<Event>) -> Result<(), WireErro
     Ok(())
 }
 
+/// The next bytes of a link, which are written into the buffer unless links share them.
+fn next_bytes<'a>(core: &'a Core, link: u32, buffer: &'a mut [u8]) -> &'a [u8]
+    requires served { has_number link core.now.seen.links ≡ true }
+    requires room { length buffer.old ≡ 65536 }
+    ensures bytes { result.now ≡ take 65536 (pending_at link core.now.seen.links) }
+    ensures next { (h : History) → Stands core.now h
+        → result.now ≡ take 65536 (untaken (setting_of core.now.conf) (trace_of (setting_of core.now.conf) h) link) }
+{
+    if let Some(bytes) = core.shared_offer(link) {
+        return bytes;
+    }
+    let count = core.offer(link, buffer);
+    &buffer[..count]
+}
+
 /// Offers a link its next bytes, and tells the core what became of them.
 fn send_one<W: Wire>(
     core: &mut Core,
@@ -177,8 +193,9 @@ fn send_one<W: Wire>(
     ensures stops { (W.shown wire.new).stops ≡ (W.shown wire.old).stops }
     ensures links { (W.shown wire.new).links ≡ (W.shown wire.old).links }
 {
-    let offered = core.offer(link, buffer);
-    match wire.send(link, &buffer[..offered])? {
+    let bytes = next_bytes(core, link, buffer);
+    let offered = bytes.len();
+    match wire.send(link, bytes)? {
         Sent::Took(count) => core.took(link, offered, count),
         Sent::Gone => core.gone(link),
     }

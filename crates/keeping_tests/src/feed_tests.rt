@@ -4,9 +4,11 @@ ghost use Rattle.std.specs.Prelude.{◌≤◌};
 use aprs_base::{Line, Memory, OpenGate};
 use link_feeds::{Crew, Feeds};
 use std::alloc::Global;
+use std::marker::Sync;
 use std::process::Abort;
 use std::sync::Arc;
 use std::test::Fail;
+use std::thread::Threads;
 use worker_match::{Feed, Item};
 
 fn line<R: Abort>(rt: &R, alloc: Global, text: &[u8]) -> Result<Arc<Line>, Fail> {
@@ -63,7 +65,7 @@ fn tell(feeds: &mut Feeds, place: usize, line: Arc<Line>) {
 }
 
 /// What came is matched by so many workers.
-fn settle(rt: &HostRuntime, feeds: &mut Feeds, workers: u32) -> Result<(), Memory>
+fn settle<R: Threads + Sync>(rt: &R, feeds: &mut Feeds, workers: u32) -> Result<(), Memory>
     requires { (1 ≤ workers) × (workers ≤ 64) }
 {
     feeds.settle(&Crew {

@@ -1,5 +1,5 @@
 //! The links, and what came to them since it was last matched.
-ghost use Rattle.std.specs.Prelude.{◌≡◌, ◌==◌, ◌++◌, ◌∷◌, ◌≤◌, ◌<◌, [], IfOk, OnErr, OnOk, Some, false, true, filter, length, map, min, slice_get, slice_set, take};
+ghost use Rattle.std.specs.Prelude.{◌≡◌, ◌==◌, ◌++◌, ◌∷◌, ◌≤◌, ◌<◌, [], IfOk, IfSome, OnErr, OnOk, Some, false, true, filter, length, map, min, slice_get, slice_set, take};
 ghost use Rattle.std.specs.Arc.{arc_value};
 ghost use Rattle.link_queue.specs.Queues.{pending_bytes};
 ghost use Rattle.link_feeds.specs.Feeds.{counted, forgotten, is_other, is_over, link_of, met_by, new_feed, put_in, told, with_login, with_taken, with_terms};
@@ -274,6 +274,16 @@ impl Feeds {
         ensures bytes { (link : LinkSeen) → slice_get self.now.links place ≡ Some link → take result out.new ≡ take (length out.old) (pending_bytes link.queue) }
     {
         self.states[place].queue.front_bytes(out)
+    }
+
+    /// All bytes that the link at that place has still to take, where they stand in a text that links share. What came must have
+    /// been matched.
+    pub fn shared_front(&self, place: usize) -> Option<&[u8]>
+        requires settled { self.now.settled ≡ true }
+        requires within { place < length self.now.links }
+        ensures { (link : LinkSeen) → slice_get self.now.links place ≡ Some link → IfSome result (λ bytes. bytes.now ≡ pending_bytes link.queue) }
+    {
+        self.states[place].queue.shared_front()
     }
 
     /// How many bytes the link at that place has still to take. What came must have been matched.

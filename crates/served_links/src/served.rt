@@ -1,5 +1,5 @@
 //! The links that are served, in the order of their numbers: what is kept of their sessions, and what they are fed.
-ghost use Rattle.std.specs.Prelude.{◌≡◌, ◌==◌, ◌≤◌, ◌<◌, ◌∷◌, ◌++◌, ℕ, [], IfOk, IsTrue, List, None, OnErr, OnOk, Some, false, filter, length, map, min, slice_get, take, true};
+ghost use Rattle.std.specs.Prelude.{◌≡◌, ◌==◌, ◌≤◌, ◌<◌, ◌∷◌, ◌++◌, ℕ, [], IfOk, IfSome, IsTrue, List, None, OnErr, OnOk, Some, false, filter, length, map, min, slice_get, take, true};
 ghost use Rattle.std.specs.Arc.{arc_value};
 ghost use Rattle.std.specs.List.Sorted.{IsStrictlyIncreasing};
 ghost use Rattle.aprs_base.specs.Bytes.{is_station};
@@ -566,6 +566,17 @@ impl Served {
         match place_of(self.halves.as_slice(), number) {
             Some(place) => self.feeds.front_bytes(place, out),
             None => 0,
+        }
+    }
+
+    /// All bytes that the link has still to take, where they stand in a text that links share.
+    pub fn shared_offer(&self, number: u32) -> Option<&[u8]>
+        requires { self.now.rests ≡ true }
+        ensures { IfSome result (λ bytes. bytes.now ≡ pending_at number self.now.links) }
+    {
+        match place_of(self.halves.as_slice(), number) {
+            Some(place) => self.feeds.shared_front(place),
+            None => None,
         }
     }
 

@@ -1,5 +1,5 @@
 //! The core: it takes a round of events, and says what is to be done.
-ghost use Rattle.std.specs.Prelude.{◌≡◌, ◌∷◌, ◌++◌, ◌≤◌, ℕ, IsTrue, IfOk, OnOk, List, length, false, min, take, true};
+ghost use Rattle.std.specs.Prelude.{◌≡◌, ◌∷◌, ◌++◌, ◌≤◌, ℕ, IsTrue, IfOk, IfSome, OnOk, List, length, false, min, take, true};
 ghost use Rattle.aprs_base.specs.Bytes.{is_station};
 ghost use Rattle.aprs_conf.specs.Sound.{IsGroup};
 ghost use Rattle.aprs_history.specs.History.{History, trace_of};
@@ -166,6 +166,17 @@ impl Core {
         ensures bytes { take result out.new ≡ take (min (length out.old) 65536) (pending_at link self.now.seen.links) }
     {
         self.walker.offer(link, out)
+    }
+
+    /// The bytes that `offer` writes into room for 65,536, where they stand in a text that links share: nothing is copied. `None` where
+    /// they don't, and then `offer` has them.
+    pub fn shared_offer(&self, link: u32) -> Option<&[u8]>
+        requires served { IsTrue (has_number link self.now.seen.links) }
+        ensures bytes { IfSome result (λ bytes. bytes.now ≡ take 65536 (pending_at link self.now.seen.links)) }
+        ensures next { (h : History) → Stands self.now h
+            → IfSome result (λ bytes. bytes.now ≡ take 65536 (untaken (setting_of self.now.conf) (trace_of (setting_of self.now.conf) h) link)) }
+    {
+        self.walker.shared_offer(link)
     }
 
     /// The link took the first `n` of the `offered` bytes, which were its last offer.

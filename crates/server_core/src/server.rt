@@ -1,5 +1,5 @@
 //! What a core keeps, and the walk over a round's events.
-ghost use Rattle.std.specs.Prelude.{◌≡◌, ◌∷◌, ◌++◌, [], ◌≤◌, ℕ, IsTrue, IfOk, OnOk, List, length, false, true, min, take};
+ghost use Rattle.std.specs.Prelude.{◌≡◌, ◌∷◌, ◌++◌, [], ◌≤◌, ℕ, IsTrue, IfOk, IfSome, OnOk, List, length, false, true, min, take};
 ghost use Rattle.aprs_base.specs.Bytes.{is_station};
 ghost use Rattle.aprs_conf.specs.Sound.{IsGroup};
 ghost use Rattle.aprs_history.specs.Stands.{reach_of};
@@ -236,6 +236,17 @@ impl Walker {
         self.links.offer(link, &mut out[..room])
     }
 
+    /// The bytes that `offer` writes, where they stand in a text that links share.
+    pub fn shared_offer(&self, link: u32) -> Option<&[u8]>
+        requires { self.now.rests ≡ true }
+        ensures { IfSome result (λ bytes. bytes.now ≡ take 65536 (pending_at link self.now.seen.links)) }
+    {
+        match self.links.shared_offer(link) {
+            Some(bytes) => Some(first_offered(bytes)),
+            None => None,
+        }
+    }
+
     /// The link took the first `n` of the `offered` bytes, which were its last offer.
     pub fn took(&mut self, link: u32, offered: usize, n: usize)
         requires part { n ≤ offered }
@@ -266,4 +277,11 @@ impl Walker {
     {
         self.links.clear();
     }
+}
+
+/// As many of these bytes as one offer has.
+fn first_offered(bytes: &[u8]) -> &[u8]
+    ensures { result.now ≡ take 65536 bytes.now }
+{
+    &bytes[..bytes.len().min(MOST_OFFERED)]
 }

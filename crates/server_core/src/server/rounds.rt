@@ -22,7 +22,7 @@ use std::marker::Sync;
 use std::thread::Threads;
 
 /// So many things for each worker are matched at once: what they take stays small, and near the processor.
-const ENOUGH: usize = 64;
+const ENOUGH: usize = 400;
 
 /// How many things may wait to be matched by so many workers.
 fn enough_for(workers: u32) -> usize
