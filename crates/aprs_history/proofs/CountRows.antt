@@ -1,5 +1,5 @@
 -- Small histories, and what they count.
-use Rattle.std.proofs.Common.{◌≡◌, refl, ◌∷◌, [], ◌++◌, codes}
+use Rattle.std.proofs.Common.{◌≡◌, refl, ◌∷◌, [], codes}
 use Rattle.std.specs.Fmt.{digits}
 use Rattle.aprs_base.specs.declared.packets.PortKind.TheVariants as port
 use Rattle.aprs_body.specs.Bodies.{body_of}

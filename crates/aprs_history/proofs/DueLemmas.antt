@@ -12,13 +12,13 @@ use Rattle.aprs_base.specs.declared.events.Sent.TheVariants as sent
 use Rattle.aprs_base.specs.declared.events.Happening.TheVariants as did
 use Rattle.aprs_history.specs.Setting.{Setting}
 use Rattle.aprs_history.specs.declared.verdicts.Admission.{Admission}
-use Rattle.aprs_history.specs.declared.verdicts.Admission.TheVariants.{NoPort, NotAsked, TurnedAway, Served}
-use Rattle.aprs_history.specs.Trace.{Trace, Entry, RoundBegan, Dated, Looked, Unjoined, Ticked, Opened, Brought, Said, Roomed, Took, Lost, Ended, closed_links, is_member, is_other, live_links, opened_link, stopped_link, served_links, stopped_links, Rises}
+use Rattle.aprs_history.specs.declared.verdicts.Admission.TheVariants.{Served}
+use Rattle.aprs_history.specs.Trace.{Trace, Entry, Opened, Took, Lost, Ended, closed_links, is_member, is_other, live_links, opened_link, stopped_link, served_links, stopped_links, Rises}
 use Rattle.aprs_history.specs.declared.verdicts.EndReason.TheVariants.{ByStop}
 use Rattle.aprs_history.specs.Dials.{CastSeen, casts_of, dial_of}
 use Rattle.aprs_history.specs.Texts.{untaken}
 use Rattle.aprs_history.specs.History.{History, admission, begun, end_all, end_each, end_stopped, ended, ends_round, greater_link, greatest_link, is_stop, is_stopped, joined_admission, open_events, refused_links, refused_reason, trace_of, with_event}
-use Rattle.aprs_history.specs.Acts.{Act, Listens, Dials, Casts, Offers, Closes, IsRun, MayCome, acts_after, but_first, cast_act, dials, due, is_offered, listens_from, offer_to, offered_links}
+use Rattle.aprs_history.specs.Acts.{Act, Listens, Offers, Closes, IsRun, MayCome, acts_after, but_first, cast_act, dials, due, is_offered, listens_from, offer_to, offered_links}
 use Rattle.aprs_history.specs.Headline.{HasFreshLinks}
 use Rattle.aprs_history.proofs.EntryLemmas.{MayAdd, kept_begun, kept_event, kept_refused}
 use Rattle.aprs_history.proofs.NumberLemmas.{member_first, first_left, rises_filtered, rises_higher, rises_pushed}

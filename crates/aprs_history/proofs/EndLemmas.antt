@@ -8,9 +8,9 @@ use Rattle.aprs_base.specs.declared.events.Sent.TheVariants as sent
 use Rattle.aprs_base.specs.declared.events.Happening.{Happening}
 use Rattle.aprs_base.specs.declared.events.Happening.TheVariants as did
 use Rattle.aprs_history.specs.Setting.{Setting}
-use Rattle.aprs_history.specs.Trace.{Trace, Entry, RoundBegan, Dated, Looked, Unjoined, Ticked, Opened, Brought, Said, Roomed, Took, Lost, Ended}
+use Rattle.aprs_history.specs.Trace.{Trace, Entry, Ended}
 use Rattle.aprs_history.specs.declared.verdicts.EndReason.{EndReason}
-use Rattle.aprs_history.specs.declared.verdicts.EndReason.TheVariants.{ByPeer, FoundGone, NoLogin, Silent, Overfull, Full, Unasked, ByStop}
+use Rattle.aprs_history.specs.declared.verdicts.EndReason.TheVariants.{ByPeer, ByStop}
 use Rattle.aprs_history.specs.History.{History, is_stop, is_stopped, trace_of}
 use Rattle.aprs_history.specs.Headline.{EndsBy, LinksEndByRules, is_end_by_peer}
 use Rattle.aprs_history.proofs.EntryLemmas.{MayAdd, any_link, kept_after}

@@ -22,7 +22,7 @@ use Rattle.aprs_history.specs.declared.verdicts.Verdict.{Verdict}
 use Rattle.aprs_history.specs.declared.verdicts.Verdict.TheVariants.{Refused}
 use Rattle.aprs_history.specs.Trace.{Trace, Entry, AtListener, ByUplink, RoundBegan, Dated, Looked, Unjoined, Ticked, Opened, Brought, Said, Roomed, Took, Lost, Ended, is_live, is_member, is_unasked, live_links, moment_of, placed, placed_all, stopped_link, turned_links}
 use Rattle.aprs_history.specs.declared.verdicts.EndReason.{EndReason}
-use Rattle.aprs_history.specs.declared.verdicts.EndReason.TheVariants.{FoundGone, ByPeer, NoLogin, Silent, Overfull, Full, Unasked, ByStop}
+use Rattle.aprs_history.specs.declared.verdicts.EndReason.TheVariants.{FoundGone, ByPeer, ByStop}
 use Rattle.aprs_history.specs.Links.{brought_by, gone_links, is_gone, is_late, is_nameless, is_silent, late_links, late_reason}
 use Rattle.aprs_history.specs.Verdicts.{Scene, submitter_of, verdict_of}
 use Rattle.aprs_history.specs.Scenes.{datagram_scene, scene_of}

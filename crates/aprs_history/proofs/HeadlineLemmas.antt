@@ -21,8 +21,8 @@ use Rattle.aprs_history.specs.declared.verdicts.Refusal.{Refusal}
 use Rattle.aprs_history.specs.declared.verdicts.Refusal.TheVariants as refusal
 use Rattle.aprs_history.specs.Setting.{Setting}
 use Rattle.aprs_history.specs.declared.verdicts.Admission.{Admission}
-use Rattle.aprs_history.specs.declared.verdicts.Admission.TheVariants.{NoPort, NotAsked, TurnedAway, Served}
-use Rattle.aprs_history.specs.Trace.{Trace, Entry, RoundBegan, Dated, Looked, Unjoined, Ticked, Opened, Brought, Said, Roomed, Took, Lost, Ended, is_closing, is_from, is_live, is_member, closed_links, moment_of, placed}
+use Rattle.aprs_history.specs.declared.verdicts.Admission.TheVariants.{Served}
+use Rattle.aprs_history.specs.Trace.{Trace, Entry, RoundBegan, Dated, Opened, Said, Took, Lost, Ended, is_closing, is_from, is_live, is_member, closed_links, moment_of, placed}
 use Rattle.aprs_history.specs.Links.{is_client, is_submitted, opening_of, session_of, taken_by}
 use Rattle.aprs_history.specs.Messages.{is_asked}
 use Rattle.aprs_history.specs.Scenes.{packet_of}

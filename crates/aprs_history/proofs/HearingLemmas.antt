@@ -17,11 +17,11 @@ use Rattle.station_table.proofs.LastSeen.{told_more}
 use Rattle.heard_routing.specs.LastHeard.{heard_by, last_heard}
 use Rattle.heard_routing.specs.LastHeard as routed
 use Rattle.aprs_history.specs.declared.verdicts.Verdict.{Verdict}
-use Rattle.aprs_history.specs.declared.verdicts.Verdict.TheVariants.{PassedOver, Refused, LoggedIn, Filtered, Accepted}
+use Rattle.aprs_history.specs.declared.verdicts.Verdict.TheVariants.{Accepted}
 use Rattle.aprs_history.specs.Setting.{Setting}
 use Rattle.aprs_history.specs.declared.verdicts.Admission.{Admission}
-use Rattle.aprs_history.specs.declared.verdicts.Admission.TheVariants.{NoPort, NotAsked, TurnedAway, Served}
-use Rattle.aprs_history.specs.Trace.{Trace, Door, Entry, AtListener, ByUplink, RoundBegan, Dated, Looked, Unjoined, Ticked, Opened, Brought, Said, Roomed, Took, Lost, Ended, is_from, is_member, is_other, live_links, moment_of, opened_link}
+use Rattle.aprs_history.specs.declared.verdicts.Admission.TheVariants.{Served}
+use Rattle.aprs_history.specs.Trace.{Trace, Door, Entry, AtListener, ByUplink, Opened, Brought, Said, Roomed, Took, Lost, Ended, is_from, is_member, is_other, live_links, moment_of, opened_link}
 use Rattle.aprs_history.specs.declared.verdicts.EndReason.TheVariants.{ByStop}
 use Rattle.aprs_history.specs.Scenes.{accepted_of, packet_of}
 use Rattle.aprs_history.specs.Messages.{heard_after, heard_of}

@@ -1,9 +1,9 @@
 -- A promise stands exactly where a message made it and nothing since has renewed or ended it.
 use Rattle.std.proofs.Common.{◌≡◌, ℕ, ◌&&◌, Bool, true, false, List, [], ◌∷◌, ◌++◌, refl, sym, ap, ◌∙◌, subst, Option, Some, None, ⊎_elim, if◌then◌else◌}
 use Rattle.std.proofs.lemmas.Bool.{cases_Bool}
-use Rattle.aprs_history.specs.declared.verdicts.Verdict.TheVariants.{PassedOver, Refused, LoggedIn, Filtered, Accepted}
+use Rattle.aprs_history.specs.declared.verdicts.Verdict.TheVariants.{Accepted}
 use Rattle.dupe_window.specs.Keys.{is_text}
-use Rattle.aprs_history.specs.Trace.{Trace, Entry, RoundBegan, Dated, Looked, Unjoined, Ticked, Opened, Brought, Said, Roomed, Took, Lost, Ended, moment_of}
+use Rattle.aprs_history.specs.Trace.{Trace, Entry, Opened, Said, moment_of}
 use Rattle.aprs_history.specs.Scenes.{packet_of}
 use Rattle.aprs_history.specs.Messages.{is_position, promise_after, promise_of, promises}
 use Rattle.aprs_history.specs.MessageRule.{IsPromised, LeavesPromise, PromisesAreOwed, ends_promise, is_routed_message}

@@ -29,7 +29,7 @@ use Rattle.uplinks_peers.specs.declared.uplinks.UpEvent.TheVariants as up
 use Rattle.uplinks_peers.specs.Uplinks.{Row, UplinksSeen, acts_at, close_of, dialling, ended_at, first_row, is_due, is_rested, is_silent, link_of, no_acts, row, uplinks_after}
 use Rattle.uplinks_peers.specs.Uplinks as table
 use Rattle.aprs_history.specs.declared.verdicts.Admission.{Admission}
-use Rattle.aprs_history.specs.declared.verdicts.Admission.TheVariants.{NoPort, NotAsked, TurnedAway, Served}
+use Rattle.aprs_history.specs.declared.verdicts.Admission.TheVariants.{Served}
 use Rattle.aprs_history.specs.declared.verdicts.LinkKind.{LinkKind}
 use Rattle.aprs_history.specs.declared.verdicts.LinkKind.TheVariants.{Client, Uplink}
 use Rattle.aprs_history.specs.declared.verdicts.Refusal.{Refusal}
@@ -38,17 +38,17 @@ use Rattle.aprs_history.specs.declared.verdicts.Session.{Session}
 use Rattle.aprs_history.specs.declared.verdicts.Verdict.{Verdict}
 use Rattle.aprs_history.specs.declared.verdicts.Verdict.TheVariants.{PassedOver, Refused, LoggedIn, Filtered, Accepted}
 use Rattle.aprs_history.specs.Setting.{Peer, Setting}
-use Rattle.aprs_history.specs.Trace.{Trace, AtListener, ByUplink, Door, Entry, RoundBegan, Dated, Looked, Unjoined, Ticked, Opened, Brought, Said, Roomed, Took, Lost, Ended, closed_links, is_from, is_live, moment_of}
+use Rattle.aprs_history.specs.Trace.{Trace, AtListener, ByUplink, Door, Entry, RoundBegan, Dated, Looked, Unjoined, Opened, Brought, Said, Took, Lost, Ended, closed_links, is_from, is_live, moment_of}
 use Rattle.aprs_history.specs.declared.verdicts.EndReason.TheVariants.{ByStop}
 use Rattle.aprs_history.specs.Links.{Opening, is_client, is_client_link, is_client_of, is_submitted, opening_by, opening_of, session_of, taken_by}
-use Rattle.aprs_history.specs.Verdicts.{Carrier, Scene, carried_verdict, is_comment, is_duplicate, packet_verdict, read_and_routed, routed, verdict_of}
+use Rattle.aprs_history.specs.Verdicts.{Carrier, Scene, carried_verdict, is_comment, packet_verdict, read_and_routed, routed, verdict_of}
 use Rattle.aprs_history.specs.Scenes.{packet_of, scene_of, speaker_by, speaker_of}
 use Rattle.aprs_history.specs.Sights.{filter_passes}
 use Rattle.aprs_history.specs.Messages.{is_asked}
 use Rattle.aprs_history.specs.Dials.{CastSeen, cast_by, casts_of, casts_to, dial_of, joined_by, uplinks_of}
-use Rattle.aprs_history.specs.Texts.{Banner, Comment, LineKind, Login, Relayed, Reply, Shown, Text, TextLine, added_by, comment_line, filter_reply, first_line, first_lines, is_dupe_of, is_shown, link_wants, login_filter_reply, login_reply, opening_wants, refusal_reply, refused_lines, relayed, reply_lines, reply_of, shown, shows_duplicates, text_to, wants}
+use Rattle.aprs_history.specs.Texts.{LineKind, Login, Relayed, Text, TextLine, added_by, comment_line, filter_reply, first_line, first_lines, is_dupe_of, is_shown, link_wants, login_filter_reply, login_reply, opening_wants, refusal_reply, refused_lines, relayed, reply_lines, reply_of, shown, shows_duplicates, text_to, wants}
 use Rattle.aprs_history.specs.History.{History, ends_round, is_stopped, open_events, trace_of}
-use Rattle.aprs_history.specs.Acts.{Act, Listens, Dials, Casts, Offers, Closes, MayCome, acts_after, but_first, cast_act, dials, due, listens_from, offer_to, offered_links}
+use Rattle.aprs_history.specs.Acts.{Act, Dials, Casts, Closes, MayCome, acts_after, but_first, cast_act, dials, due, listens_from, offer_to, offered_links}
 use Rattle.aprs_history.specs.Headline.{DialsAreOfUplinks, IsForPeer, IsForUplink, IsLineForUplink, PeersGetSubmissions, UplinksGetSubmissions, WasSubmitted, is_round_start}
 use Rattle.aprs_history.proofs.EntryLemmas.{IsJudged, MayAdd, any_link, kept_after}
 use Rattle.aprs_history.proofs.HeadlineLemmas.{if_all, line_alone, lines_all, run_before}

@@ -1,5 +1,5 @@
 -- What a history counts: packets that are accepted, duplicates, what else is refused, and the packet lines in the texts of links.
-use Rattle.std.specs.Prelude.{ℕ, ◌+◌, ◌-◌, ◌^◌, Bool, true, false, nat_lt, List, [], ◌∷◌, length, filter, min, Option, Some, None}
+use Rattle.std.specs.Prelude.{ℕ, ◌+◌, ◌-◌, ◌^◌, Bool, true, false, List, [], ◌∷◌, length, filter, min, Option, Some, None}
 use Rattle.aprs_base.specs.declared.totals.Totals.{Totals}
 use Rattle.aprs_base.specs.declared.events.Happening.TheVariants as did
 use Rattle.aprs_base.specs.declared.events.Sent.TheVariants as sent
@@ -8,10 +8,10 @@ use Rattle.aprs_history.specs.declared.verdicts.FilterAnswer.TheVariants.{Active
 use Rattle.aprs_history.specs.declared.verdicts.Refusal.{Refusal}
 use Rattle.aprs_history.specs.declared.verdicts.Refusal.TheVariants as refusal
 use Rattle.aprs_history.specs.declared.verdicts.Verdict.{Verdict}
-use Rattle.aprs_history.specs.declared.verdicts.Verdict.TheVariants.{PassedOver, Refused, LoggedIn, Filtered, Accepted}
+use Rattle.aprs_history.specs.declared.verdicts.Verdict.TheVariants.{Refused, LoggedIn, Filtered, Accepted}
 use Rattle.aprs_history.specs.Setting.{Setting}
 use Rattle.aprs_history.specs.Trace.{Trace, Entry, Said, live_links}
-use Rattle.aprs_history.specs.Texts.{Text, TextLine, LineKind, Banner, Login, Reply, Comment, Relayed, Shown, text_to}
+use Rattle.aprs_history.specs.Texts.{Text, TextLine, LineKind, Relayed, Shown, text_to}
 use Rattle.aprs_history.specs.History.{History}
 
 -- ---- verdicts

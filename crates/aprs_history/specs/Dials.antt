@@ -3,7 +3,7 @@ use Rattle.std.specs.Prelude.{ℕ, ◌+◌, Bool, List, [], ◌∷◌, ◌++◌,
 use Rattle.uplinks_peers.specs.declared.uplinks.UpEvent.TheVariants as up
 use Rattle.uplinks_peers.specs.Uplinks.{UplinksSeen, acts_at, untried, uplinks_after}
 use Rattle.aprs_history.specs.declared.verdicts.Verdict.{Verdict}
-use Rattle.aprs_history.specs.declared.verdicts.Verdict.TheVariants.{PassedOver, Refused, LoggedIn, Filtered, Accepted}
+use Rattle.aprs_history.specs.declared.verdicts.Verdict.TheVariants.{Accepted}
 use Rattle.aprs_history.specs.Setting.{Peer, Setting}
 use Rattle.aprs_history.specs.Trace.{Trace, AtListener, ByUplink, Door, RoundBegan, Opened, Brought, Said, Ended, Looked, Unjoined, moment_of}
 use Rattle.aprs_history.specs.Links.{is_submitted}

@@ -9,7 +9,7 @@ use Rattle.heard_routing.specs.Heard.{heard_age, is_recent, promise_age}
 use Rattle.dupe_window.specs.Keys.{is_text}
 use Rattle.aprs_history.specs.declared.verdicts.Session.{Session}
 use Rattle.aprs_history.specs.declared.verdicts.Verdict.{Verdict}
-use Rattle.aprs_history.specs.declared.verdicts.Verdict.TheVariants.{PassedOver, Refused, LoggedIn, Filtered, Accepted}
+use Rattle.aprs_history.specs.declared.verdicts.Verdict.TheVariants.{Accepted}
 use Rattle.aprs_history.specs.Trace.{Trace, Opened, Said, is_from, is_live, moment_of}
 use Rattle.aprs_history.specs.Links.{has_filters, opening_of, session_of}
 use Rattle.aprs_history.specs.Scenes.{packet_of}

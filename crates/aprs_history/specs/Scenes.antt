@@ -14,7 +14,7 @@ use Rattle.aprs_history.specs.declared.verdicts.LinkKind.{LinkKind}
 use Rattle.aprs_history.specs.declared.verdicts.LinkKind.TheVariants.{Client, Uplink}
 use Rattle.aprs_history.specs.declared.verdicts.Session.{Session}
 use Rattle.aprs_history.specs.declared.verdicts.Verdict.{Verdict}
-use Rattle.aprs_history.specs.declared.verdicts.Verdict.TheVariants.{PassedOver, Refused, LoggedIn, Filtered, Accepted}
+use Rattle.aprs_history.specs.declared.verdicts.Verdict.TheVariants.{Accepted}
 use Rattle.aprs_history.specs.Trace.{Trace, Said, live_links, is_other, moment_of}
 use Rattle.aprs_history.specs.Links.{Opening, opening_of, session_of}
 use Rattle.aprs_history.specs.Verdicts.{Carrier, Scene, Speaker, Visitor, is_duplicate}

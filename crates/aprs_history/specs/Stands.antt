@@ -1,7 +1,6 @@
 -- What it is that a core stands for a history.
 use Rattle.std.specs.Prelude.{◌≡◌, ℕ, ◌≤◌, Bool, List, [], length, map, Option, None, if◌then◌else◌}
 use Rattle.aprs_base.specs.Held.{Held, held_after}
-use Rattle.aprs_base.specs.PacketSeen.{PacketSeen}
 use Rattle.aprs_base.specs.declared.totals.Totals.{Totals}
 use Rattle.filter_lang.specs.Terms.{TermSeen}
 use Rattle.filter_eval.specs.declared.seen.Seen.{Seen}

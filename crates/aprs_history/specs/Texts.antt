@@ -22,7 +22,7 @@ use Rattle.aprs_history.specs.declared.verdicts.Refusal.TheVariants as refusal
 use Rattle.aprs_history.specs.declared.verdicts.Verdict.{Verdict}
 use Rattle.aprs_history.specs.declared.verdicts.Verdict.TheVariants.{PassedOver, Refused, LoggedIn, Filtered, Accepted}
 use Rattle.aprs_history.specs.declared.verdicts.Admission.{Admission}
-use Rattle.aprs_history.specs.declared.verdicts.Admission.TheVariants.{NoPort, NotAsked, TurnedAway, Served}
+use Rattle.aprs_history.specs.declared.verdicts.Admission.TheVariants.{Served}
 use Rattle.aprs_history.specs.Trace.{Trace, Opened, Said, Dated, is_from, is_live, live_links, moment_of}
 use Rattle.aprs_history.specs.Links.{Opening, is_client, is_submitted, opening_of, session_of, taken_by}
 use Rattle.aprs_history.specs.Scenes.{packet_of}

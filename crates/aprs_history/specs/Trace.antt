@@ -6,9 +6,9 @@ use Rattle.aprs_base.specs.declared.cutting.Cut.{Cut}
 use Rattle.aprs_base.specs.declared.packets.Source.{Source}
 use Rattle.aprs_base.specs.declared.packets.Source.TheVariants as source
 use Rattle.aprs_history.specs.declared.verdicts.Admission.{Admission}
-use Rattle.aprs_history.specs.declared.verdicts.Admission.TheVariants.{NoPort, NotAsked, Served, TurnedAway}
+use Rattle.aprs_history.specs.declared.verdicts.Admission.TheVariants.{NotAsked, Served, TurnedAway}
 use Rattle.aprs_history.specs.declared.verdicts.EndReason.{EndReason}
-use Rattle.aprs_history.specs.declared.verdicts.EndReason.TheVariants.{ByPeer, FoundGone, NoLogin, Silent, Overfull, Full, Unasked, ByStop}
+use Rattle.aprs_history.specs.declared.verdicts.EndReason.TheVariants.{ByPeer, FoundGone, ByStop}
 use Rattle.aprs_history.specs.declared.verdicts.Verdict.{Verdict}
 
 -- where a link comes from: it was opened at a listener, or an uplink has joined
