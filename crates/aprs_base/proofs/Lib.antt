@@ -2,3 +2,4 @@ pub mod CallLemmas
 pub mod CutLemmas
 pub mod PlaceLemmas
 pub mod SlotLemmas
+pub mod StepLemmas

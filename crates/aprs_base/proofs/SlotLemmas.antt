@@ -1,5 +1,5 @@
 -- What becomes of slots by lines: piece by piece, and as a whole.
-use Rattle.std.proofs.Common.{◌≡◌, ℕ, zero, suc, ◌+◌, ◌≤◌, ◌<◌, ◌^◌, ◌-◌, min, true, false, Option, Some, None, List, [], ◌∷◌, ◌++◌, length, refl, ap, sym, cond, get_or, slice_set, take, drop, add-one, arith, ◌∙◌}
+use Rattle.std.proofs.Common.{◌≡◌, ℕ, zero, suc, ◌+◌, ◌≤◌, ◌<◌, ◌-◌, true, false, Option, Some, None, List, [], ◌∷◌, ◌++◌, length, refl, ap, sym, cond, get_or, slice_set, take, drop, add-one, arith, ◌∙◌}
 use Rattle.std.specs.Prelude.{IfSome}
 use Rattle.std.specs.Fn.{iterate}
 use Rattle.std.specs.List.{AllZip, filter, flat_map}
@@ -40,11 +40,6 @@ taken_more old between new line lines first more = record {
     counts : (left : Option ℕ) → option_map (λ n. n + 1) (option_map (λ n. n + length lines) left) ≡ option_map (λ n. n + length (line ∷ lines)) left
     counts None = refl
     counts (Some n) = ap Some (omega arith)
-
--- a count that goes on by lines stays at the greatest u64
-pub counted_is : (k n : ℕ) → n ≤ 2 ^ 64 - 1 → iterate one_more k n ≡ min (n + k) (2 ^ 64 - 1)
-counted_is zero n within = grind arith
-counted_is (suc k) n within = counted_is k (one_more n) (grind arith) ∙ grind arith
 
 module _ {V : Type 0} {X : V → Type 0} (journal : (v : V) × X v → JournalShown) where
   -- lines that come in two lots

@@ -5,9 +5,11 @@ pub mod Held
 pub mod Journals
 pub mod MemJournals
 pub mod MemStores
+pub mod OptionSteps
 pub mod Outside
 pub mod PacketSeen
 pub mod PartsSeen
+pub mod ResultSteps
 pub mod Slots
 pub mod Stores
 pub mod UplinkSeen

@@ -22,7 +22,7 @@ pub use packets::{
 };
 pub use sinks::{MemSink, Sink, SinkError};
 pub use texts::{
-    Addr, Call, Chunk, Failed, Line, Memory, Text, Word9, copy_call, first_place,
+    Addr, Call, Chunk, Failed, Line, Memory, Text, Word9, all_digits, copy_call, first_place,
     is_construct_text, leading_blanks, trailing_blanks,
 };
 pub use totals::Totals;

@@ -2,7 +2,7 @@
 ghost use Rattle.std.specs.Prelude.{◌≡◌, ℕ, ◌≤◌, ◌<◌, ◌∷◌, [], List, length, IsSome, IfOk, IfSome, IsTrue, ◌↔◌};
 ghost use Rattle.std.specs.List.{list_all, position_or_len, prefix_len, suffix_len};
 ghost use Rattle.memchr.specs.Find.{is_byte};
-ghost use Rattle.aprs_base.specs.Bytes.{IsCall, IsLine, as_words, base_of, is_alphanumeric, is_blank, is_call, is_construct, is_inner, is_ssid_text, is_station};
+ghost use Rattle.aprs_base.specs.Bytes.{IsCall, IsLine, as_words, base_of, is_alphanumeric, is_blank, is_call, is_construct, is_digit, is_inner, is_ssid_text, is_station};
 
 use arrayvec::ArrayVec;
 use memchr::memchr;
@@ -155,6 +155,13 @@ pub fn trailing_blanks(text: &[u8]) -> usize
     ensures within { result ≤ length text.now }
 {
     text.iter().rev().take_while(|byte| **byte == b' ').count()
+}
+
+/// Whether `text` is digits alone.
+pub fn all_digits(text: &[u8]) -> bool
+    ensures { result ≡ list_all is_digit text.now }
+{
+    text.iter().all(|byte| byte.is_ascii_digit())
 }
 
 /// The part of `text` before its first dash, or all of it.

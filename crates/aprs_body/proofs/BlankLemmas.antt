@@ -14,9 +14,6 @@ pub cut_blank : (xs : List ℕ) → 1 ≤ length xs → get_or xs (length xs - 1
     without_trailing_blanks (take (length xs - 1) xs) ≡ without_trailing_blanks xs
 cut_blank xs some blank = cut_at xs (length xs - 1) (omega arith) blank
 
-put_kept : (x b : ℕ) (bs : List ℕ) → put x (b ∷ bs) ≡ x ∷ b ∷ bs
-put_kept x b bs = refl
-
 kept_at : (xs : List ℕ) (n : ℕ) → length xs ≡ suc n → eqb (get_or xs n 0) 32 ≡ false → xs ≡ without_trailing_blanks xs
 kept_at [] n len other = absurd (omega arith)
 kept_at (x ∷ []) zero len other = rw other refl

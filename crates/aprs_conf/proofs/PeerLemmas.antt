@@ -2,7 +2,8 @@
 use Rattle.std.proofs.Common.{◌≡◌, ℕ, List, [], ◌∷◌, ◌++◌, Result, Ok, ap, ◌∙◌}
 use Rattle.aprs_conf.specs.declared.errors.ConfFault.{ConfFault}
 use Rattle.aprs_conf.specs.declared.types.PeerSpec.{PeerSpec}
-use Rattle.aprs_conf.specs.Grammar.{peers_from, peer_of, ◌>>=◌}
+use Rattle.aprs_conf.specs.Grammar.{peers_from, peer_of}
+use Rattle.aprs_base.specs.ResultSteps.{◌>>=◌}
 
 pub one_peer : (name address number : List ℕ) (peer : PeerSpec) (args rest more : List (List ℕ)) → args ≡ address ∷ rest → rest ≡ number ∷ more
     → peer_of name address number ≡ Ok peer → (peers : List PeerSpec) → peers_from peers (name ∷ args) ≡ peers_from (peers ++ peer ∷ []) more

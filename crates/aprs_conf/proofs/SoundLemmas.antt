@@ -7,7 +7,8 @@ use Rattle.aprs_base.specs.Bytes.{is_station}
 use Rattle.aprs_base.specs.declared.texts.Addr.{Addr}
 use Rattle.aprs_conf.specs.declared.errors.ConfError.{ConfError}
 use Rattle.aprs_conf.specs.declared.types.PeerSpec.{PeerSpec}
-use Rattle.aprs_conf.specs.Grammar.{◌>>=◌, conf_of, conf_with, drafted, empty}
+use Rattle.aprs_conf.specs.Grammar.{conf_of, conf_with, drafted, empty}
+use Rattle.aprs_base.specs.ResultSteps.{◌>>=◌}
 use Rattle.aprs_conf.specs.Seen.{ConfSeen, DraftSeen}
 use Rattle.aprs_conf.specs.Sound.{IsGroup, IsSound}
 use Rattle.aprs_conf.specs.Words.{lines_of}

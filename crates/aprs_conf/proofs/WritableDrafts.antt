@@ -18,7 +18,8 @@ use Rattle.aprs_conf.specs.declared.reading.LineWord.TheVariants as word
 use Rattle.aprs_conf.specs.declared.types.Listen.{Listen}
 use Rattle.aprs_conf.specs.declared.types.PeerSpec.{PeerSpec}
 use Rattle.aprs_conf.specs.Arguments.{PortRow, clients_of, code_of, host_of, ip_of, kind_of, port_of, ports, same, station_of, time_of, udp}
-use Rattle.aprs_conf.specs.Grammar.{◌>>=◌, after, at_line, at_of, conf_of, conf_with, drafted, empty, filled, five_of, group_in, is_full, is_group, is_hidden_at_most, line_says, listen_in, listen_of, need, next, one_of, peer_of, peers_from, says, time_in_line, unless, uplink_in, was_said, with_listen, with_uplink, word_of, group_says}
+use Rattle.aprs_conf.specs.Grammar.{after, at_line, at_of, conf_of, conf_with, drafted, empty, filled, five_of, group_in, is_full, is_group, is_hidden_at_most, line_says, listen_in, listen_of, need, next, one_of, peer_of, peers_from, says, time_in_line, unless, uplink_in, was_said, with_listen, with_uplink, word_of, group_says}
+use Rattle.aprs_base.specs.ResultSteps.{◌>>=◌}
 use Rattle.aprs_conf.specs.Seen.{ConfSeen, DraftSeen}
 use Rattle.aprs_conf.specs.Sound.{IsWithin}
 use Rattle.aprs_conf.specs.Words.{closed, has_open, is_remark, lines_of, words_of}

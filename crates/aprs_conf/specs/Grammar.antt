@@ -4,6 +4,7 @@ use Rattle.std.specs.List.{find, list_any}
 use Rattle.std.specs.Option.{option_map}
 use Rattle.aprs_base.specs.UplinkSeen.{UplinkSeen}
 use Rattle.aprs_base.specs.declared.texts.Addr.{Addr}
+use Rattle.aprs_base.specs.ResultSteps.{◌>>=◌}
 use Rattle.login_pass.specs.Login.{is_keyword}
 use Rattle.aprs_conf.specs.declared.reading.LineWord.{LineWord}
 use Rattle.aprs_conf.specs.declared.reading.LineWord.TheVariants as word
@@ -17,11 +18,6 @@ use Rattle.aprs_conf.specs.declared.types.PeerSpec.{PeerSpec}
 use Rattle.aprs_conf.specs.Arguments.{same, udp, tcp, station_of, code_of, clients_of, port_of, time_of, ip_of, host_of, kind_of}
 use Rattle.aprs_conf.specs.Seen.{ConfSeen, DraftSeen}
 use Rattle.aprs_conf.specs.Words.{Word, words_of, lines_of, is_remark, has_open, closed}
-
-infixl 10 ◌>>=◌
-abbrev pub ◌>>=◌ : {E A B : Type 0} → Result A E → (A → Result B E) → Result B E
-(Ok x) >>= f = f x
-(Err e) >>= f = Err e
 
 -- what is wanted, or else this fault
 abbrev pub need : {E A : Type 0} → E → Option A → Result A E

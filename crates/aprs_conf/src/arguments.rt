@@ -6,7 +6,7 @@ ghost use Rattle.aprs_base.specs.Bytes.{is_digit};
 ghost use Rattle.login_pass.specs.Login.{number_from};
 ghost use Rattle.aprs_conf.specs.Arguments.{clients_of, host_of, ip_of, is_dot, is_plain, kind_of, last_in, octet_of, octets_in, port_of, same, seconds_of, station_of, time_of};
 
-use aprs_base::{Call, PortKind, first_place};
+use aprs_base::{Call, PortKind, all_digits, first_place};
 use arrayvec::ArrayVec;
 use login_pass::code_number;
 
@@ -26,12 +26,6 @@ pub fn station(text: &[u8]) -> Option<Call>
 {
     let call = Call::read(text)?;
     if call.is_station() { Some(call) } else { None }
-}
-
-fn all_digits(text: &[u8]) -> bool
-    ensures { result ≡ list_all is_digit text.now }
-{
-    text.iter().all(|byte| byte.is_ascii_digit())
 }
 
 /// A number of one to five digits without leading zeros.

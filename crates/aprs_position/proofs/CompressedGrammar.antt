@@ -11,13 +11,14 @@ use Rattle.aprs_position.specs.Places.{is_code, is_table, place_at}
 use Rattle.aprs_position.specs.Compressed.{base91, compressed_place, is_base91, scaled_of, table_of}
 use Rattle.aprs_position.specs.Grammar.{BeginsCompressed, NamesTable, WritesScaled}
 use Rattle.aprs_position.proofs.PlaceLemmas.{place_at_numbers, place_at_used}
-use Rattle.aprs_position.proofs.Steps.{bound, chosen, guarded, three, unless}
+use Rattle.aprs_base.proofs.StepLemmas.{bind_some, cond_not_some, cond_some}
+use Rattle.aprs_position.proofs.Steps.{chosen, three}
 
 scaled_read : (text : List ℕ) (units : ℕ) → scaled_of text ≡ Some units → WritesScaled text units
 scaled_read (a ∷ b ∷ c ∷ d ∷ []) units h =
     let all = list_all is_base91 (a ∷ b ∷ c ∷ d ∷ []) in
     let small = leb (base91 (a ∷ b ∷ c ∷ d ∷ [])) 68566680 in
-    let test = guarded (all && small) (Some (base91 (a ∷ b ∷ c ∷ d ∷ []))) units h in
+    let test = cond_some (all && small) (Some (base91 (a ∷ b ∷ c ∷ d ∷ []))) units h in
     let tests = and_parts all small test.0 in
     let ar : (33 ≤ a) × (a ≤ 123) = grind (arith, nat_tests) in
     let br : (33 ≤ b) × (b ≤ 123) = grind (arith, nat_tests) in
@@ -54,7 +55,7 @@ table_read byte table h =
           let same : byte - 97 + 48 ≡ table = same_Some _ _ letter.1 in
           inl (and_from _ _ (le-leb 48 table (omega arith)) (le-leb table 57 (omega arith)), omega arith)
       | inr other ↦
-          let plain = guarded (is_table byte && not (is_digit byte)) (Some byte) table other.1 in
+          let plain = cond_some (is_table byte && not (is_digit byte)) (Some byte) table other.1 in
           let tests = and_parts (is_table byte) (not (is_digit byte)) plain.0 in
           let same : byte ≡ table = same_Some _ _ plain.1 in
           inr (ap is_digit (sym same) ∙ not-true _ tests.1, ap is_table (sym same) ∙ tests.0, same)
@@ -88,11 +89,11 @@ lon_of east = pos (east * 1000000 / 190463) -ℤ pos 180000000
 pub compressed_read : (text : List ℕ) (place : Place) → compressed_place text ≡ Some place → BeginsCompressed text place
 unfolding compressed_place
 compressed_read text place given =
-    let sized = unless (ltb (length text) 13) _ place given in
-    let table = bound (table_of (get_or text 0 0)) _ place sized.1 in
-    let south = bound (scaled_of (take 4 (drop 1 text))) _ place table.2 in
-    let east = bound (scaled_of (take 4 (drop 5 text))) _ place south.2 in
-    let test = guarded (is_code (get_or text 9 0)) _ place east.2 in
+    let sized = cond_not_some (ltb (length text) 13) _ place given in
+    let table = bind_some (table_of (get_or text 0 0)) _ place sized.1 in
+    let south = bind_some (scaled_of (take 4 (drop 1 text))) _ place table.2 in
+    let east = bind_some (scaled_of (take 4 (drop 5 text))) _ place south.2 in
+    let test = cond_some (is_code (get_or text 9 0)) _ place east.2 in
     let at = columns_of text sized.0 in
     let p = place_at_numbers (lat_of south.0) (lon_of east.0) table.0 (get_or text 9 0) 13 place test.1 in
     record {
@@ -155,6 +156,6 @@ compressed_again text place begins =
 pub compressed_first : (text : List ℕ) (place : Place) → compressed_place text ≡ Some place → is_digit (get_or text 0 0) ≡ false
 unfolding compressed_place
 compressed_first text place h =
-    let sized = unless (ltb (length text) 13) _ place h in
-    let table = bound (table_of (get_or text 0 0)) _ place sized.1 in
+    let sized = cond_not_some (ltb (length text) 13) _ place h in
+    let table = bind_some (table_of (get_or text 0 0)) _ place sized.1 in
     no_digit_first (get_or text 0 0) table.0 (table_read _ _ table.1)

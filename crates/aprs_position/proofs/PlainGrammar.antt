@@ -9,7 +9,8 @@ use Rattle.aprs_position.specs.Places.{is_code, is_table, place_at}
 use Rattle.aprs_position.specs.Plain.{angle, angle_of, digit_value, degrees_of, ends_in_blanks, hundredths_of, number, plain_place, toward}
 use Rattle.aprs_position.specs.Grammar.{BeginsPlain, IsToward, WritesAngle}
 use Rattle.aprs_position.proofs.PlaceLemmas.{place_at_numbers, place_at_used}
-use Rattle.aprs_position.proofs.Steps.{bound, chosen, guarded, mapped, three, two, unless}
+use Rattle.aprs_base.proofs.StepLemmas.{bind_some, cond_not_some, cond_some, map_some}
+use Rattle.aprs_position.proofs.Steps.{chosen, three, two}
 
 -- digits and then blanks
 abbrev EndsInBlanks : List ℕ → Type 0
@@ -44,8 +45,8 @@ value_parts : (a b c d : ℕ) → ((((0 * 10 + a) * 10 + b) * 10 + c) * 10 + d) 
 value_parts a b c d = omega arith
 
 whole_read : (degrees : List ℕ) (d : ℕ) → degrees_of degrees ≡ Some d → (list_all is_digit degrees ≡ true) × (number degrees ≡ d)
-whole_read (t ∷ o ∷ []) d h = let test = guarded (list_all is_digit (t ∷ o ∷ [])) (Some (number (t ∷ o ∷ []))) d h in (test.0, cc)
-whole_read (x ∷ t ∷ o ∷ []) d h = let test = guarded (list_all is_digit (x ∷ t ∷ o ∷ [])) (Some (number (x ∷ t ∷ o ∷ []))) d h in (test.0, cc)
+whole_read (t ∷ o ∷ []) d h = let test = cond_some (list_all is_digit (t ∷ o ∷ [])) (Some (number (t ∷ o ∷ []))) d h in (test.0, cc)
+whole_read (x ∷ t ∷ o ∷ []) d h = let test = cond_some (list_all is_digit (x ∷ t ∷ o ∷ [])) (Some (number (x ∷ t ∷ o ∷ []))) d h in (test.0, cc)
 whole_read _ d h = cc
 
 -- the tests on `MM.hh`, apart
@@ -58,7 +59,7 @@ hundredths_read : (text : List ℕ) (value : ℕ) → hundredths_of text ≡ Som
 hundredths_read (m ∷ n ∷ p ∷ h ∷ i ∷ []) value given =
     let ends = ends_in_blanks (m ∷ n ∷ h ∷ i ∷ []) in
     let below = ltb (number (m ∷ n ∷ [])) 60 in
-    let test = guarded (eqb p 46 && ends && below) (Some (number (m ∷ n ∷ h ∷ i ∷ []))) value given in
+    let test = cond_some (eqb p 46 && ends && below) (Some (number (m ∷ n ∷ h ∷ i ∷ []))) value given in
     let front = and_parts (eqb p 46 && ends) below test.0 in
     let tests = and_parts (eqb p 46) ends front.0 in
     let point : p ≡ 46 = grind (arith, nat_tests) in
@@ -69,9 +70,9 @@ hundredths_read _ value h = cc
 pub angle_read : (count : ℕ) (degrees minutes : List ℕ) (value : ℕ) → length degrees ≡ count → angle_of degrees minutes ≡ Some value →
     WritesAngle count (degrees ++ minutes) value
 angle_read count degrees minutes value len given =
-    let d = bound (degrees_of degrees) _ value given in
+    let d = bind_some (degrees_of degrees) _ value given in
     let whole = whole_read degrees d.0 d.1 in
-    let n = mapped (hundredths_of minutes) (angle d.0) value d.2 in
+    let n = map_some (angle d.0) (hundredths_of minutes) value d.2 in
     let text = hundredths_read minutes n.0 n.1 in
     let parts = ends_parts _ text.5 in
     let sum = value_parts (digit_value text.0) (digit_value text.1) (digit_value text.2) (digit_value text.3) in
@@ -125,7 +126,7 @@ toward_read : (plus minus letter size : ℕ) (value : ℤ) → toward plus minus
 toward_read plus minus letter size value h =
     elim (chosen (eqb letter plus) (Some (pos size)) _ (Some value) h) [
       | inl positive ↦ inl (eqb-true _ _ positive.0, cc)
-      | inr other ↦ let negative = guarded (eqb letter minus) (Some (neg_ℤ (pos size))) value other.1 in inr (eqb-true _ _ negative.0, cc)
+      | inr other ↦ let negative = cond_some (eqb letter minus) (Some (neg_ℤ (pos size))) value other.1 in inr (eqb-true _ _ negative.0, cc)
     ]
 
 toward_again : (plus minus letter size : ℕ) (value : ℤ) → eqb minus plus ≡ false → IsToward plus minus letter size value → toward plus minus letter size ≡ Some value
@@ -149,12 +150,12 @@ columns_of _ long = absurd (false≢true (sym long))
 pub plain_read : (text : List ℕ) (place : Place) → plain_place text ≡ Some place → BeginsPlain text place
 unfolding plain_place
 plain_read text place given =
-    let sized = unless (ltb (length text) 19) _ place given in
-    let north = bound (angle_of (take 2 text) (take 5 (drop 2 text))) _ place sized.1 in
-    let lat = bound (toward 78 83 (get_or text 7 0) north.0) _ place north.2 in
-    let east = bound (angle_of (take 3 (drop 9 text)) (take 5 (drop 12 text))) _ place lat.2 in
-    let lon = bound (toward 69 87 (get_or text 17 0) east.0) _ place east.2 in
-    let symbol = guarded (is_table (get_or text 8 0) && is_code (get_or text 18 0)) _ place lon.2 in
+    let sized = cond_not_some (ltb (length text) 19) _ place given in
+    let north = bind_some (angle_of (take 2 text) (take 5 (drop 2 text))) _ place sized.1 in
+    let lat = bind_some (toward 78 83 (get_or text 7 0) north.0) _ place north.2 in
+    let east = bind_some (angle_of (take 3 (drop 9 text)) (take 5 (drop 12 text))) _ place lat.2 in
+    let lon = bind_some (toward 69 87 (get_or text 17 0) east.0) _ place east.2 in
+    let symbol = cond_some (is_table (get_or text 8 0) && is_code (get_or text 18 0)) _ place lon.2 in
     let tests = and_parts (is_table (get_or text 8 0)) (is_code (get_or text 18 0)) symbol.0 in
     let at = columns_of text sized.0 in
     let p = place_at_numbers lat.0 lon.0 (get_or text 8 0) (get_or text 18 0) 19 place symbol.1 in
@@ -225,7 +226,7 @@ unfolding plain_place
 plain_first [] place h = cc
 plain_first (a ∷ []) place h = cc
 plain_first (a ∷ b ∷ more) place h =
-    let sized = unless (ltb (length (a ∷ b ∷ more)) 19) _ place h in
-    let north = bound (angle_of (a ∷ b ∷ []) (take 5 more)) _ place sized.1 in
-    let d = bound (degrees_of (a ∷ b ∷ [])) _ north.0 north.1 in
+    let sized = cond_not_some (ltb (length (a ∷ b ∷ more)) 19) _ place h in
+    let north = bind_some (angle_of (a ∷ b ∷ []) (take 5 more)) _ place sized.1 in
+    let d = bind_some (degrees_of (a ∷ b ∷ [])) _ north.0 north.1 in
     (and_parts (is_digit a) (list_all is_digit (b ∷ [])) (whole_read (a ∷ b ∷ []) d.0 d.1).0).0

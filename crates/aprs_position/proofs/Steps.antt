@@ -1,24 +1,7 @@
 -- Steps turned round: what a value at the end says of each step.
 use Rattle.std.proofs.Common.{◌≡◌, ℕ, Bool, true, false, cond, ◌⊎◌, inl, inr, List, [], ◌∷◌, length, Some, None, refl, sym, arith}
 use Rattle.std.specs.declared.option.Option.{Option}
-use Rattle.std.specs.Option.{IfSome, option_map}
-use Rattle.aprs_position.specs.Places.{◌>>=◌}
-
-pub bound : {A B : Type 0} (o : Option A) (f : A → Option B) (y : B) → (o >>= f) ≡ Some y → (x : A) × (o ≡ Some x) × (f x ≡ Some y)
-bound (Some x) f y h = (x, refl, h)
-bound None f y h = cc
-
-pub mapped : {A B : Type 0} (o : Option A) (f : A → B) (y : B) → option_map f o ≡ Some y → (x : A) × (o ≡ Some x) × (f x ≡ y)
-mapped (Some x) f y h = (x, refl, cc)
-mapped None f y h = cc
-
-pub guarded : {A : Type 0} (b : Bool) (x : Option A) (y : A) → cond b x None ≡ Some y → (b ≡ true) × (x ≡ Some y)
-guarded true x y h = (refl, h)
-guarded false x y h = cc
-
-pub unless : {A : Type 0} (b : Bool) (x : Option A) (y : A) → cond b None x ≡ Some y → (b ≡ false) × (x ≡ Some y)
-unless true x y h = cc
-unless false x y h = (refl, h)
+use Rattle.std.specs.Option.{IfSome}
 
 pub chosen : {A : Type 0} (b : Bool) (x y z : A) → cond b x y ≡ z → ((b ≡ true) × (x ≡ z)) ⊎ ((b ≡ false) × (y ≡ z))
 chosen true x y z h = inl (refl, h)

@@ -4,7 +4,8 @@ use Rattle.std.specs.List.{fold, list_all}
 use Rattle.std.specs.declared.option.Option.{Option}
 use Rattle.aprs_base.specs.Bytes.{is_digit}
 use Rattle.aprs_base.specs.declared.packets.Place.{Place}
-use Rattle.aprs_position.specs.Places.{◌>>=◌, is_code, is_table, place_at}
+use Rattle.aprs_position.specs.Places.{is_code, is_table, place_at}
+use Rattle.aprs_base.specs.OptionSteps.{◌>>=◌}
 
 -- the bytes 33 to 123 are the digits 0 to 90 to base 91
 abbrev pub is_base91 : ℕ → Bool

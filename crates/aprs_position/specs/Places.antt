@@ -12,12 +12,6 @@ is_table b = b == 47 || b == 92 || is_digit b || (nat_le 65 b && nat_le b 90)
 abbrev pub is_code : ℕ → Bool
 is_code b = nat_le 33 b && nat_le b 126
 
--- one step after another, as long as each gives a value
-infixl 10 ◌>>=◌
-abbrev pub ◌>>=◌ : {A B : Type 0} → Option A → (A → Option B) → Option B
-(Some x) >>= next = next x
-None >>= next = None
-
 -- a value that stands only where a test holds
 abbrev pub given : {A : Type 0} (test : Bool) → (T test → Option A) → Option A
 given true value = value tt

@@ -5,7 +5,8 @@ use Rattle.std.specs.declared.option.Option.{Option}
 use Rattle.std.specs.Option.{option_map}
 use Rattle.aprs_base.specs.Bytes.{is_blank, is_digit}
 use Rattle.aprs_base.specs.declared.packets.Place.{Place}
-use Rattle.aprs_position.specs.Places.{◌>>=◌, is_code, is_table, place_at}
+use Rattle.aprs_position.specs.Places.{is_code, is_table, place_at}
+use Rattle.aprs_base.specs.OptionSteps.{◌>>=◌}
 
 -- what a digit counts, and a blank counts as 0
 abbrev pub digit_value : ℕ → ℕ

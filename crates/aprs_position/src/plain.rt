@@ -8,7 +8,7 @@ ghost use Rattle.aprs_position.specs.Places.{is_code, is_table};
 ghost use Rattle.aprs_position.specs.Plain.{angle, angle_of, degrees_of, digit_value, ends_in_blanks, hundredths_of, plain_place, toward};
 
 use crate::places::{is_code, is_table, place_at};
-use aprs_base::Place;
+use aprs_base::{Place, all_digits};
 
 /// What a digit counts, and 0 for a blank.
 fn digit_value(byte: u8) -> u32
@@ -32,12 +32,6 @@ fn is_digit(byte: u8) -> bool
     ensures { result ≡ is_digit byte }
 {
     byte.is_ascii_digit()
-}
-
-fn all_digits(text: &[u8]) -> bool
-    ensures { result ≡ list_all is_digit text.now }
-{
-    text.iter().all(|byte| is_digit(*byte))
 }
 
 fn all_blank(text: &[u8]) -> bool

@@ -5,7 +5,7 @@ ghost use Rattle.aprs_base.specs.Bytes.{base_of, is_blank};
 ghost use Rattle.dupe_window.specs.Keys.{key_of, without_last_blanks};
 ghost use Rattle.dupe_window.specs.Packed.{packed};
 
-use aprs_base::{Call, Memory, Parts, first_place};
+use aprs_base::{Call, Memory, Parts, first_place, trailing_blanks};
 use arrayvec::ArrayVec;
 use indexmap::Equivalent;
 use std::alloc::Global;
@@ -33,19 +33,12 @@ impl Model for Key {
     ghost inverse = { λ k. record { text = record { items = packed k } } };
 }
 
-/// How many blanks a text ends with.
-fn last_blanks(text: &[u8]) -> usize
-    ensures { result ≡ suffix_len is_blank text.now }
-{
-    text.iter().rev().take_while(|byte| **byte == b' ').count()
-}
-
 /// The text without the blanks at its end.
 fn without_blanks(text: &[u8]) -> &[u8]
     ensures value { result.now ≡ without_last_blanks text.now }
     ensures within { length result.now ≤ length text.now }
 {
-    &text[..text.len().saturating_sub(last_blanks(text))]
+    &text[..text.len().saturating_sub(trailing_blanks(text))]
 }
 
 /// The call without its SSID.

@@ -30,9 +30,6 @@ call_parts call h =
     let third = and_parts (nat_le (length call) 9) (nat_le 1 (length (base_of call))) second.0 in
     record { some = leb-true 1 (length (base_of call)) third.1; base = second.1; ssid = first.1 }
 
-pub call_some : (call : List ℕ) → is_call call ≡ true → 0 < length call
-call_some call h = let some = (call_parts call h).some in omega (arith, length-take (position_or_len is_dash call) call)
-
 pub call_neat : (call : List ℕ) → is_call call ≡ true → list_all is_clean call ≡ true
 call_neat call h = by (length (base_of call) == length call) refl (parts.ssid)
   where

@@ -13,7 +13,8 @@ use Rattle.filter_lang.specs.Names.{spelled}
 use Rattle.filter_lang.specs.Sets.{mask_of, letters_of, set_of}
 use Rattle.filter_lang.specs.Grammar.{other_of, range_of, area_of, near_of, friend_of, mine_of, class_near, class_of, symbol_of, symbol_if, symbols_of, construct_of, construct_if, is_gates, call_of}
 use Rattle.filter_lang.specs.Canonical.{what_fields, kind_letter, set_text}
-use Rattle.filter_lang.proofs.Tools.{bind_some, map_some, cond_some, cond_not_some, Neat}
+use Rattle.aprs_base.proofs.StepLemmas.{bind_some, cond_not_some, cond_some, map_some}
+use Rattle.filter_lang.proofs.Tools.{Neat}
 use Rattle.filter_lang.proofs.SlashLaws.{slashed, spread, is_neat, ends_some}
 use Rattle.filter_lang.proofs.NumberLaws.{degrees_again, kilometres_again, KeepsKilometres}
 use Rattle.filter_lang.proofs.SetLaws.{symbols_again, KeepsSymbols, letters_again}
@@ -74,10 +75,10 @@ pub range_keeps : (fields : List (List ℕ)) (w : What) → range_of fields ≡ 
 unfolding range_of
 range_keeps (a ∷ b ∷ c ∷ []) w h =
     let lat = bind_some (degrees_of 90000000 a) _ w h in
-    let lon = bind_some (degrees_of 180000000 b) _ w lat.1.1 in
-    let km = bind_some (kilometres_of c) _ w lon.1.1 in
+    let lon = bind_some (degrees_of 180000000 b) _ w lat.2 in
+    let km = bind_some (kilometres_of c) _ w lon.2 in
     let e : what.Range lat.0 lon.0 km.0 ≡ w = cc in
-    subst (Keeps 114 (a ∷ b ∷ c ∷ [])) e (range_by a b c lat.0 lon.0 km.0 lat.1.0 lon.1.0 km.1.0)
+    subst (Keeps 114 (a ∷ b ∷ c ∷ [])) e (range_by a b c lat.0 lon.0 km.0 lat.1 lon.1 km.1)
 range_keeps _ w h = cc
 
 pub area_by : (a b c d : List ℕ) (north west south east : ℤ) → degrees_of 90000000 a ≡ Some north → degrees_of 180000000 b ≡ Some west → degrees_of 90000000 c ≡ Some south → degrees_of 180000000 d ≡ Some east → Keeps 97 (a ∷ b ∷ c ∷ d ∷ []) (what.Area north west south east)
@@ -95,11 +96,11 @@ pub area_keeps : (fields : List (List ℕ)) (w : What) → area_of fields ≡ So
 unfolding area_of
 area_keeps (a ∷ b ∷ c ∷ d ∷ []) w h =
     let north = bind_some (degrees_of 90000000 a) _ w h in
-    let west = bind_some (degrees_of 180000000 b) _ w north.1.1 in
-    let south = bind_some (degrees_of 90000000 c) _ w west.1.1 in
-    let east = bind_some (degrees_of 180000000 d) _ w south.1.1 in
+    let west = bind_some (degrees_of 180000000 b) _ w north.2 in
+    let south = bind_some (degrees_of 90000000 c) _ w west.2 in
+    let east = bind_some (degrees_of 180000000 d) _ w south.2 in
     let e : what.Area north.0 west.0 south.0 east.0 ≡ w = cc in
-    subst (Keeps 97 (a ∷ b ∷ c ∷ d ∷ [])) e (area_by a b c d north.0 west.0 south.0 east.0 north.1.0 west.1.0 south.1.0 east.1.0)
+    subst (Keeps 97 (a ∷ b ∷ c ∷ d ∷ [])) e (area_by a b c d north.0 west.0 south.0 east.0 north.1 west.1 south.1 east.1)
 area_keeps _ w h = cc
 
 -- a call and kilometres
@@ -113,15 +114,15 @@ pub near_is : (fields : List (List ℕ)) (near : List ℕ × ℕ) → near_of fi
 unfolding near_of
 near_is (name ∷ text ∷ []) near h =
     let call = bind_some (call_of name) _ near h in
-    let km = bind_some (kilometres_of text) _ near call.1.1 in
-    let test = cond_some (is_call name) (Some name) call.0 call.1.0 in
+    let km = bind_some (kilometres_of text) _ near call.2 in
+    let test = cond_some (is_call name) (Some name) call.0 call.1 in
     let same : name ≡ call.0 = cc in
     let e : (let pair : List ℕ × ℕ = (call.0, km.0) in pair ≡ near) = cc in
     subst (λ (x : List ℕ × ℕ). Near (name ∷ text ∷ []) x.0 x.1) e (record {
       call_good = rw (← same) test.0;
       text = text;
       fields_are = ap (λ (c : List ℕ). c ∷ text ∷ []) same;
-      km_read = km.1.0;
+      km_read = km.1;
     })
 near_is _ near h = cc
 
@@ -144,8 +145,8 @@ pub friend_keeps : (fields : List (List ℕ)) (w : What) → friend_of fields �
 unfolding friend_of
 friend_keeps fields w h =
     let found = map_some (λ (near : List ℕ × ℕ). what.Friend near.0 near.1) (near_of fields) w h in
-    let near = near_is fields found.0 found.1.0 in
-    rw near.fields_are (subst (Keeps 102 _) found.1.1 (friend_by found.0.0 near.text found.0.1 near.call_good near.km_read))
+    let near = near_is fields found.0 found.1 in
+    rw near.fields_are (subst (Keeps 102 _) found.2 (friend_by found.0.0 near.text found.0.1 near.call_good near.km_read))
 
 pub mine_by : (text : List ℕ) (km : ℕ) → kilometres_of text ≡ Some km → Keeps 109 (text ∷ []) (what.Mine km)
 unfolding other_of mine_of
@@ -158,7 +159,7 @@ unfolding mine_of
 mine_keeps (text ∷ []) w h =
     let km = bind_some (kilometres_of text) _ w h in
     let e : what.Mine km.0 ≡ w = cc in
-    subst (Keeps 109 (text ∷ [])) e (mine_by text km.0 km.1.0)
+    subst (Keeps 109 (text ∷ [])) e (mine_by text km.0 km.1)
 mine_keeps _ w h = cc
 
 pub no_fields : {A : Type 0} (fs : List A) → is_empty fs ≡ true → fs ≡ []
@@ -191,12 +192,12 @@ class_keeps [] w h = cc
 class_keeps (letters ∷ []) w h =
     let mask = bind_some (mask_of letters) _ w h in
     let same : what.Class mask.0 ≡ w = cc in
-    subst (Keeps 116 (letters ∷ [])) same (class_by letters mask.0 mask.1.0)
+    subst (Keeps 116 (letters ∷ [])) same (class_by letters mask.0 mask.1)
 class_keeps (letters ∷ f ∷ fields) w h =
     let mask = bind_some (mask_of letters) _ w h in
-    let found = map_some (λ (near : List ℕ × ℕ). what.ClassNear mask.0 near.0 near.1) (near_of (f ∷ fields)) w (class_more mask.0 f fields w mask.1.1) in
-    let near = near_is (f ∷ fields) found.0 found.1.0 in
-    rw near.fields_are (subst (Keeps 116 _) found.1.1 (class_near_by letters found.0.0 near.text mask.0 found.0.1 mask.1.0 near.call_good near.km_read))
+    let found = map_some (λ (near : List ℕ × ℕ). what.ClassNear mask.0 near.0 near.1) (near_of (f ∷ fields)) w (class_more mask.0 f fields w mask.2) in
+    let near = near_is (f ∷ fields) found.0 found.1 in
+    rw near.fields_are (subst (Keeps 116 _) found.2 (class_near_by letters found.0.0 near.text mask.0 found.0.1 mask.1 near.call_good near.km_read))
 
 -- constructs
 pub construct_by : (letters : List ℕ) (gates : Bool) → list_all is_letter letters ≡ true → (gates || not (is_empty letters)) ≡ true → construct_if (map spelled (set_of letters)) gates ≡ Some (what.Construct (set_of letters) gates)
@@ -317,10 +318,10 @@ unfolding symbol_if
 symbol_if-keeps pri alt over fields w h room =
     let test = cond_not_some (is_empty pri && is_empty alt && is_empty over) _ w h in
     let p = bind_some (symbols_of pri) _ w test.1 in
-    let a = bind_some (symbols_of alt) _ w p.1.1 in
-    let o = bind_some (symbols_of over) _ w a.1.1 in
+    let a = bind_some (symbols_of alt) _ w p.2 in
+    let o = bind_some (symbols_of over) _ w a.2 in
     let e : what.Symbol p.0 a.0 o.0 ≡ w = cc in
-    subst (λ (u : What). Keeps 115 fields u) e (symbol_by pri alt over p.0 a.0 o.0 fields (record { first = symbols_again pri p.0 p.1.0; second = symbols_again alt a.0 a.1.0; third = symbols_again over o.0 o.1.0; some = test.0 }) room)
+    subst (λ (u : What). Keeps 115 fields u) e (symbol_by pri alt over p.0 a.0 o.0 fields (record { first = symbols_again pri p.0 p.1; second = symbols_again alt a.0 a.1; third = symbols_again over o.0 o.1; some = test.0 }) room)
 
 pub symbol_keeps : (fields : List (List ℕ)) (w : What) → symbol_of fields ≡ Some w → Keeps 115 fields w
 unfolding symbol_of

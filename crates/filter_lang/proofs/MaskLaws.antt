@@ -11,7 +11,8 @@ use Rattle.aprs_base.proofs.CallLemmas.{each_weaker}
 use Rattle.filter_lang.specs.Sets.{has, classes, is_class, mask_over, mask_of, mask_text, letters_of}
 use Rattle.filter_lang.proofs.SetLaws.{all_if, has_all, one_more}
 use Rattle.filter_lang.proofs.MemberLemmas.{has_filter, has_none}
-use Rattle.filter_lang.proofs.Tools.{cond_some, is_clean, Neat}
+use Rattle.aprs_base.proofs.StepLemmas.{cond_some}
+use Rattle.filter_lang.proofs.Tools.{is_clean, Neat}
 
 abbrev pub one : Bool → ℕ
 one b = cond b 1 0

@@ -10,7 +10,8 @@ use Rattle.filter_lang.specs.Seen.{NameSeen}
 use Rattle.filter_lang.specs.Parts.{is_empty, ends_in, without_last}
 use Rattle.filter_lang.specs.Names.{meant, spelled, is_plain, is_name, name_if, name_of, starless, star_text}
 use Rattle.filter_lang.proofs.LastLaws.{ends_in-put, without_last-put, ends_in-other, without_last-shorter, without_last-length}
-use Rattle.filter_lang.proofs.Tools.{cond_some, is_clean, clean_append, Neat, map_agree, map_all}
+use Rattle.aprs_base.proofs.StepLemmas.{cond_some}
+use Rattle.filter_lang.proofs.Tools.{is_clean, clean_append, Neat, map_agree, map_all}
 
 -- a name without its slash
 abbrev pub bare : NameSeen → List ℕ
@@ -41,10 +42,6 @@ pub record KeepsName (field : List ℕ) (n : NameSeen) : Type 0 where
   pub again : name_of (bare n) ≡ Some n
   pub neat : Neat field (bare n)
   pub some : 0 < length (bare n)
-
-pub star_size : (wild : Bool) → length (star_text wild) ≤ 1
-star_size true = omega arith
-star_size false = omega arith
 
 pub star_clean : (wild : Bool) → list_all is_clean (star_text wild) ≡ true
 star_clean true = refl

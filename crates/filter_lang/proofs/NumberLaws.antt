@@ -16,10 +16,12 @@ use Rattle.std.proofs.lemmas.Bool.Decides.{nat_tests}
 use Rattle.std.proofs.lemmas.Fmt.{decimal_is_IsNumeral, length-decimal-le}
 use Rattle.aprs_base.proofs.CallLemmas.{each_weaker}
 use Rattle.aprs_base.specs.Bytes.{is_digit}
-use Rattle.filter_lang.specs.Parts.{is_empty, ◌>>=◌}
+use Rattle.filter_lang.specs.Parts.{is_empty}
+use Rattle.aprs_base.specs.OptionSteps.{◌>>=◌}
 use Rattle.filter_lang.specs.Numbers.{are_digits, is_dot, digits_if, dotted_of, fraction_of, fraction_text, fraction_digits, places, shorter, millionths_of, at_most, size_of, has_minus, degrees_of, kilometres_of, dotted_text, millionths_text, degrees_text}
 use Rattle.filter_lang.proofs.NumberLemmas.{value_bound, fraction_of-bound, fraction_end, total}
-use Rattle.filter_lang.proofs.Tools.{bind_some, map_some, cond_some, is_clean, digit_clean, Neat}
+use Rattle.aprs_base.proofs.StepLemmas.{bind_some, cond_some, map_some}
+use Rattle.filter_lang.proofs.Tools.{is_clean, digit_clean, Neat}
 
 -- a number that has a digit for each place, and nothing left after the last
 abbrev pub FitsPlaces : List ℕ → ℕ → Type 0
@@ -145,11 +147,11 @@ pub short_is : {A : Type 0} (most : ℕ) (text : List ℕ) (f : List ℕ × List
 short_is most text f y h =
     let first = bind_some (dotted_of text) (λ number. shorter most number >>= f) y h in
     let number : List ℕ × List ℕ = first.0 in
-    let second = bind_some (shorter most number) f y first.1.1 in
-    let test = cond_some (nat_le (length number.0) most) (Some number) second.0 second.1.0 in
+    let second = bind_some (shorter most number) f y first.2 in
+    let test = cond_some (nat_le (length number.0) most) (Some number) second.0 second.1 in
     let same : number ≡ second.0 = cc in
-    let dotted : Dotted text number.0 number.1 = dotted_is text number first.1.0 in
-    (number, (record { dotted = dotted; short = leb-true (length number.0) most test.0 }, ap f same ∙ second.1.1))
+    let dotted : Dotted text number.0 number.1 = dotted_is text number first.1 in
+    (number, (record { dotted = dotted; short = leb-true (length number.0) most test.0 }, ap f same ∙ second.2))
 
 pub kilometres_again : (text : List ℕ) (km : ℕ) → kilometres_of text ≡ Some km → KeepsKilometres text km
 unfolding kilometres_of
@@ -304,9 +306,9 @@ size_clean b h = grind (arith, nat_tests)
 pub size_again : (limit : ℕ) (text : List ℕ) (n : ℕ) → size_of limit text ≡ Some n → KeepsSize text (millionths_text n) n × (nat_le n limit ≡ true)
 size_again limit text n h =
     let found = bind_some (millionths_of text) (at_most limit) n h in
-    let test = cond_some (nat_le found.0 limit) (Some found.0) n found.1.1 in
+    let test = cond_some (nat_le found.0 limit) (Some found.0) n found.2 in
     let same : found.0 ≡ n = cc in
-    (millionths_again text n (found.1.0 ∙ ap (λ (m : ℕ). Some m) same), rw same at test.0)
+    (millionths_again text n (found.1 ∙ ap (λ (m : ℕ). Some m) same), rw same at test.0)
 
 pub degrees_plus : (limit : ℕ) (text : List ℕ) (n : ℕ) → KeepsSize text (millionths_text n) n → nat_le n limit ≡ true → KeepsDegrees limit text (pos n)
 unfolding degrees_of degrees_text
@@ -342,8 +344,8 @@ degrees_again limit text z h = by_sign (has_minus text) refl h
     by_sign : (c : Bool) → has_minus text ≡ c → cond c (option_map (λ n. neg_ℤ (pos n)) (size_of limit (drop 1 text))) (option_map pos (size_of limit text)) ≡ Some z → KeepsDegrees limit text z
     by_sign true minus h' =
         let found = map_some (λ (n : ℕ). neg_ℤ (pos n)) (size_of limit (drop 1 text)) z h' in
-        subst (λ (y : ℤ). KeepsDegrees limit text y) found.1.1 (zero_or found.0 (minus_size text minus) found.1.0)
+        subst (λ (y : ℤ). KeepsDegrees limit text y) found.2 (zero_or found.0 (minus_size text minus) found.1)
     by_sign false minus h' =
         let found = map_some pos (size_of limit text) z h' in
-        let keeps = size_again limit text found.0 found.1.0 in
-        subst (λ (y : ℤ). KeepsDegrees limit text y) found.1.1 (degrees_plus limit text found.0 keeps.0 keeps.1)
+        let keeps = size_again limit text found.0 found.1 in
+        subst (λ (y : ℤ). KeepsDegrees limit text y) found.2 (degrees_plus limit text found.0 keeps.0 keeps.1)

@@ -7,7 +7,6 @@ use Rattle.std.proofs.lemmas.Bool.Decides.{nat_tests}
 use Rattle.std.proofs.lemmas.Int.Digits.{digits_value-lt, digits_value_more}
 use Rattle.std.proofs.lemmas.List.{take_rest}
 use Rattle.std.proofs.lemmas.Str.Parse.{digits_value-take-le}
-use Rattle.std.proofs.Math.ListN.{drop_of_length-le}
 use Rattle.std.proofs.Math.Nat.{mul-le-mul_right, pow-le-pow_right}
 use Rattle.std.proofs.lemmas.List.Sums.{AllPass-from_list_all}
 use Rattle.aprs_base.specs.Bytes.{is_digit}
@@ -68,6 +67,3 @@ pub fraction_end : (ps ds : List ℕ) → length ds < 1 → fraction_of ps ds �
 fraction_end [] ds h = refl
 fraction_end (p ∷ ps) [] h = refl
 fraction_end (p ∷ ps) (d ∷ ds) h = absurd (omega arith)
-
-pub fraction_past : (i : ℕ) (ds : List ℕ) → 6 ≤ i → fraction_of (drop i places) ds ≡ 0
-fraction_past i ds h = rw (drop_of_length-le places {i = i} h) refl

@@ -14,7 +14,8 @@ use Rattle.filter_lang.specs.Sets.{has, set_of}
 use Rattle.filter_lang.specs.Grammar.{is_printing, symbols_of}
 use Rattle.filter_lang.proofs.SetLemmas.{filter_range}
 use Rattle.filter_lang.proofs.MemberLemmas.{has_members, has_none}
-use Rattle.filter_lang.proofs.Tools.{cond_some, is_clean, Neat, map_all, map_same}
+use Rattle.aprs_base.proofs.StepLemmas.{cond_some}
+use Rattle.filter_lang.proofs.Tools.{is_clean, Neat, map_all, map_same}
 
 pub longer : (c : Bool) (x : ℕ) (xs : List ℕ) → length xs ≤ length (cond c (x ∷ xs) xs)
 longer true x xs = omega arith

@@ -6,10 +6,9 @@ use Rattle.std.proofs.lemmas.List.{length-append}
 use Rattle.std.proofs.lemmas.Bool.{eqb-false, and_parts, not-true}
 use Rattle.std.proofs.lemmas.List.Splits.{slice_split_none, slice_split_at}
 use Rattle.std.proofs.lemmas.List.Sums.{AllPass-from_list_all}
-use Rattle.aprs_base.specs.Bytes.{is_blank}
 use Rattle.filter_lang.specs.Parts.{fields_of, is_slash, ends_in, is_empty}
 use Rattle.filter_lang.proofs.LastLaws.{ends_in-append, ends_in-other}
-use Rattle.filter_lang.proofs.Tools.{is_inside, is_clean, inside_unblank}
+use Rattle.filter_lang.proofs.Tools.{is_inside, is_clean}
 
 abbrev pub slashed : List (List ℕ) → List ℕ
 slashed [] = []
@@ -35,9 +34,6 @@ ends_some (f ∷ g ∷ fields) = ends_some (g ∷ fields)
 
 pub clean_unslashed : (f : List ℕ) → is_neat f ≡ true → All (λ b. is_slash b ≡ false) f
 clean_unslashed f h = λ k d lt. let pass = AllPass-from_list_all is_clean f h k d lt in not-true (is_slash (get_or f k d)) (and_parts (is_inside (get_or f k d)) (not (is_slash (get_or f k d))) pass).1
-
-pub clean_unblank : (f : List ℕ) → is_neat f ≡ true → All (λ b. is_blank b ≡ false) f
-clean_unblank f h = λ k d lt. let pass = AllPass-from_list_all is_clean f h k d lt in inside_unblank (get_or f k d) (and_parts (is_inside (get_or f k d)) (not (is_slash (get_or f k d))) pass).0
 
 pub fields_of-slashed : (front : List ℕ) (fields : List (List ℕ)) → is_neat front ≡ true → list_all is_neat fields ≡ true → fields_of (front ++ slashed fields) ≡ front ∷ fields
 fields_of-slashed front [] h all = rw (append-nil front) (slice_split_none is_slash front (clean_unslashed front h))

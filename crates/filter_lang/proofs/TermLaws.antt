@@ -15,7 +15,8 @@ use Rattle.filter_lang.specs.Numbers.{has_minus}
 use Rattle.filter_lang.specs.Names.{name_of, names_of, names_text, starless}
 use Rattle.filter_lang.specs.Grammar.{other_of, named_of, what_of, what_of_fields, lower, term_of, term_if}
 use Rattle.filter_lang.specs.Canonical.{what_fields, what_text, kind_letter, term_text}
-use Rattle.filter_lang.proofs.Tools.{bind_some, map_some, cond_not_some, is_inside, is_clean}
+use Rattle.aprs_base.proofs.StepLemmas.{bind_some, cond_not_some, map_some}
+use Rattle.filter_lang.proofs.Tools.{is_inside, is_clean}
 use Rattle.filter_lang.proofs.LastLaws.{without_last-length, without_last-same}
 use Rattle.filter_lang.proofs.NumberLaws.{minus_size}
 use Rattle.filter_lang.proofs.NameLaws.{bare, KeepsName, name_again, starless_again, starless_twice}
@@ -36,10 +37,10 @@ names_keep g each [] names h =
     subst (λ (ns : List NameSeen). NamesKeep g [] ns) e (record { again = refl; shorter = omega arith; clean = refl; size = refl; ends = λ some. absurd (some refl) })
 names_keep g each (f ∷ fields) names h =
     let n = bind_some (name_of f) _ names h in
-    let rest = map_some (λ (ns : List NameSeen). n.0 ∷ ns) (all_by name_of fields) names n.1.1 in
-    let first = each f n.0 n.1.0 in
-    let more = names_keep g each fields rest.0 rest.1.0 in
-    subst (λ (ns : List NameSeen). NamesKeep g (f ∷ fields) ns) rest.1.1 (record {
+    let rest = map_some (λ (ns : List NameSeen). n.0 ∷ ns) (all_by name_of fields) names n.2 in
+    let first = each f n.0 n.1 in
+    let more = names_keep g each fields rest.0 rest.1 in
+    subst (λ (ns : List NameSeen). NamesKeep g (f ∷ fields) ns) rest.2 (record {
       again = rw (first.again, more.again) refl;
       shorter = (let x = first.neat.shorter in let y = more.shorter in omega arith);
       clean = rw (first.neat.clean, more.clean) refl;
@@ -90,8 +91,8 @@ module _ (make : List NameSeen → What) (letter : ℕ) (fields : List (List ℕ
   named_keeps text kind read h =
       let found = map_some make (names_of fields) w h in
       let names : List NameSeen = found.0 in
-      let keeps = list_keeps fields names found.1.0 in
-      subst (λ (u : What). Keeps letter fields u) found.1.1 (record {
+      let keeps = list_keeps fields names found.1 in
+      subst (λ (u : What). Keeps letter fields u) found.2 (record {
         canon = map bare names;
         text = text names ∙ names_text-slashed names;
         kind = kind names;
@@ -106,8 +107,8 @@ unfolding other_of named_of
 prefix_keeps fields w h =
     let found = map_some (λ (names : List NameSeen). what.Prefix (map starless names)) (names_of fields) w h in
     let names : List NameSeen = found.0 in
-    let keeps = starless_keeps fields names found.1.0 in
-    subst (λ (u : What). Keeps 112 fields u) found.1.1 (record {
+    let keeps = starless_keeps fields names found.1 in
+    subst (λ (u : What). Keeps 112 fields u) found.2 (record {
       canon = map bare (map starless names);
       text = ap names_text (starless_all names) ∙ names_text-slashed (map starless names);
       kind = refl;
@@ -252,7 +253,7 @@ term_keeps word t h = by (has_minus word) refl h
     by : (c : Bool) → has_minus word ≡ c → cond c (term_if true (drop 1 word)) (term_if false word) ≡ Some t → KeepsTerm word t
     by true e h' =
         let found = map_some (λ (v : What). (let u : TermSeen = record { exclude = true; what = v } in u)) (what_of (drop 1 word)) t h' in
-        subst (λ (u : TermSeen). KeepsTerm word u) found.1.1 (excluding_by word found.0 (minus_size word e) (what_keeps (drop 1 word) found.0 found.1.0))
+        subst (λ (u : TermSeen). KeepsTerm word u) found.2 (excluding_by word found.0 (minus_size word e) (what_keeps (drop 1 word) found.0 found.1))
     by false e h' =
         let found = map_some (λ (v : What). (let u : TermSeen = record { exclude = false; what = v } in u)) (what_of word) t h' in
-        subst (λ (u : TermSeen). KeepsTerm word u) found.1.1 (plain_by word found.0 (what_keeps word found.0 found.1.0))
+        subst (λ (u : TermSeen). KeepsTerm word u) found.2 (plain_by word found.0 (what_keeps word found.0 found.1))

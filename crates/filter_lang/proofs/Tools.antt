@@ -1,6 +1,6 @@
 -- Steps that may fail, tests that hold together, and texts without blanks, line ends and slashes.
-use Rattle.std.proofs.Common.{◌≡◌, ℕ, ◌≤◌, Bool, true, false, cond, ◌&&◌, List, [], ◌∷◌, ◌++◌, Option, Some, None, Result, Ok, Err, map, length, refl, ◌∙◌, arith}
-use Rattle.std.specs.Prelude.{option_map, not}
+use Rattle.std.proofs.Common.{◌≡◌, ℕ, ◌≤◌, Bool, true, false, cond, ◌&&◌, List, [], ◌∷◌, ◌++◌, Result, Ok, Err, map, length, refl, ◌∙◌, arith}
+use Rattle.std.specs.Prelude.{not}
 use Rattle.std.specs.List.{list_all}
 use Rattle.std.proofs.lemmas.List.Folds.{list_all-append, list_all-map}
 use Rattle.std.proofs.lemmas.List.{map-id}
@@ -8,25 +8,9 @@ use Rattle.aprs_base.proofs.CallLemmas.{each_weaker}
 use Rattle.aprs_base.specs.Bytes.{is_blank, is_inner, is_digit}
 use Rattle.std.proofs.lemmas.Bool.{and_parts, not-true}
 use Rattle.std.proofs.lemmas.Bool.Decides.{nat_tests}
-use Rattle.filter_lang.specs.Parts.{◌>>=◌, is_slash}
+use Rattle.filter_lang.specs.Parts.{is_slash}
 
-pub bind_some : {A B : Type 0} (o : Option A) (f : A → Option B) (y : B) → (o >>= f) ≡ Some y → (x : A) × ((o ≡ Some x) × (f x ≡ Some y))
-bind_some (Some x) f y h = (x, (refl, h))
-bind_some None f y h = cc
-
-pub map_some : {A B : Type 0} (f : A → B) (o : Option A) (y : B) → option_map f o ≡ Some y → (x : A) × ((o ≡ Some x) × (f x ≡ y))
-map_some f (Some x) y h = (x, (refl, cc))
-map_some f None y h = cc
-
--- a test before a value, and one that refuses it
-pub cond_some : {A : Type 0} (b : Bool) (o : Option A) (y : A) → cond b o None ≡ Some y → (b ≡ true) × (o ≡ Some y)
-cond_some true o y h = (refl, h)
-cond_some false o y h = cc
-
-pub cond_not_some : {A : Type 0} (b : Bool) (o : Option A) (y : A) → cond b None o ≡ Some y → (b ≡ false) × (o ≡ Some y)
-cond_not_some true o y h = cc
-cond_not_some false o y h = (refl, h)
-
+-- a test that refuses
 pub cond_not_ok : {E A : Type 0} (b : Bool) (e : E) (r : Result A E) (y : A) → cond b (Err e) r ≡ Ok y → (b ≡ false) × (r ≡ Ok y)
 cond_not_ok true e r y h = cc
 cond_not_ok false e r y h = (refl, h)

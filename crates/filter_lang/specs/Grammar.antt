@@ -8,7 +8,8 @@ use Rattle.filter_lang.specs.declared.terms.What.TheVariants as what
 use Rattle.filter_lang.specs.declared.errors.FilterError.{FilterError}
 use Rattle.filter_lang.specs.declared.errors.FilterError.TheVariants as fault
 use Rattle.filter_lang.specs.Terms.{TermSeen}
-use Rattle.filter_lang.specs.Parts.{words_of, fields_of, without_last, is_empty, one_of, two_of, three_of, four_of, ◌>>=◌}
+use Rattle.filter_lang.specs.Parts.{words_of, fields_of, without_last, is_empty, one_of, two_of, three_of, four_of}
+use Rattle.aprs_base.specs.OptionSteps.{◌>>=◌}
 use Rattle.filter_lang.specs.Numbers.{degrees_of, kilometres_of, has_minus}
 use Rattle.filter_lang.specs.Names.{names_of, starless, meant}
 use Rattle.filter_lang.specs.Sets.{set_of, mask_of}

@@ -5,7 +5,8 @@ use Rattle.std.specs.Str.Parse.{digits_value}
 use Rattle.std.specs.Fmt.{decimal}
 use Rattle.std.proofs.Math.IntN.{neg_ℤ}
 use Rattle.aprs_base.specs.Bytes.{is_digit}
-use Rattle.filter_lang.specs.Parts.{is_empty, ◌>>=◌}
+use Rattle.filter_lang.specs.Parts.{is_empty}
+use Rattle.aprs_base.specs.OptionSteps.{◌>>=◌}
 
 abbrev pub are_digits : List ℕ → Bool
 are_digits text = list_all is_digit text && not (is_empty text)

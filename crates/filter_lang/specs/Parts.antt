@@ -2,6 +2,7 @@
 use Rattle.std.specs.Prelude.{ℕ, ◌==◌, ◌-◌, Bool, not, List, [], ◌∷◌, length, take, filter, slice_index, Option, Some, None, option_map, if◌then◌else◌}
 use Rattle.std.specs.List.{slice_split}
 use Rattle.aprs_base.specs.Bytes.{is_blank}
+use Rattle.aprs_base.specs.OptionSteps.{◌>>=◌}
 
 abbrev pub is_empty : {T : Type 0} → List T → Bool
 is_empty xs = length xs == 0
@@ -35,11 +36,6 @@ ends_in c text = slice_index text (length text - 1) == c
 -- the text without its last byte, where that is c
 abbrev pub without_last : ℕ → List ℕ → List ℕ
 without_last c text = if ends_in c text then take (length text - 1) text else text
-
-infixl 10 ◌>>=◌
-abbrev pub ◌>>=◌ : {A B : Type 0} → Option A → (A → Option B) → Option B
-(Some x) >>= f = f x
-None >>= f = None
 
 -- each of them by f, or none
 abbrev pub all_by : {A B : Type 0} → (A → Option B) → List A → Option (List B)

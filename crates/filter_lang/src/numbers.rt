@@ -5,28 +5,16 @@ ghost use Rattle.std.specs.Str.Parse.{digits_value};
 ghost use Rattle.aprs_base.specs.Bytes.{is_digit};
 ghost use Rattle.filter_lang.specs.Numbers.{are_digits, at_most, degrees_of, dotted_of, fraction_of, kilometres_of, millionths_of, places};
 
-use aprs_base::first_place;
+use aprs_base::{all_digits, first_place};
 
 /// What a one counts in each of six places after the dot, in millionths.
 pub const PLACES: [u32; 6] = [100_000, 10_000, 1_000, 100, 10, 1];
-
-fn is_digit_byte(byte: u8) -> bool
-    ensures { result ≡ is_digit byte }
-{
-    byte.is_ascii_digit()
-}
 
 /// Whether the text has digits alone, and one at least.
 fn is_number(text: &[u8]) -> bool
     ensures { result ≡ are_digits text.now }
 {
     !text.is_empty() && all_digits(text)
-}
-
-fn all_digits(text: &[u8]) -> bool
-    ensures { result ≡ list_all is_digit text.now }
-{
-    text.iter().all(|byte| is_digit_byte(*byte))
 }
 
 /// The digits before and after the dot, of which the second are none where there is no dot.

@@ -10,7 +10,7 @@ ghost use Rattle.tnc2_line.specs.Packet.{IsParts, text_of};
 
 use crate::replies::active_line;
 use crate::voices::Voice;
-use aprs_base::{Call, Line, Memory, Parts};
+use aprs_base::{Call, Line, Memory, Parts, leading_blanks, trailing_blanks};
 use aprs_history::{FilterAnswer, FilterFault, Refusal, Session, Verdict};
 use filter_lang::FilterError;
 use login_pass::read_login;
@@ -22,14 +22,6 @@ pub fn is_comment_line(line: &Line) -> bool
     ensures { result ≡ is_comment line.now }
 {
     line.bytes().starts_with(b"#")
-}
-
-/// How many blanks a text begins with.
-fn first_blanks(text: &[u8]) -> usize
-    ensures count { result ≡ prefix_len is_blank text.now }
-    ensures within { result ≤ length text.now }
-{
-    text.iter().take_while(|byte| **byte == b' ').count()
 }
 
 /// So many bytes from there on, as far as there are.
@@ -44,11 +36,11 @@ fn text_at(text: &[u8], start: usize, count: usize) -> &[u8]
 fn unpadded(text: &[u8]) -> &[u8]
     ensures { result.now ≡ unpadded text.now }
 {
-    let first = first_blanks(text);
+    let first = leading_blanks(text);
     let count = text
         .len()
         .saturating_sub(first)
-        .saturating_sub(last_blanks(text));
+        .saturating_sub(trailing_blanks(text));
     text_at(text, first, count)
 }
 
@@ -72,7 +64,7 @@ fn filter_command(line: &Line) -> Option<&[u8]>
 {
     let text = line.bytes();
     let command = &text[text.len().min(1)..];
-    let rest = after_filter(&command[first_blanks(command)..])?;
+    let rest = after_filter(&command[leading_blanks(command)..])?;
     Some(unpadded(rest))
 }
 
@@ -161,13 +153,6 @@ pub fn judge_login(
             Ok(Verdict::LoggedIn(session, answer))
         }
     }
-}
-
-/// How many blanks a text ends with.
-fn last_blanks(text: &[u8]) -> usize
-    ensures { result ≡ suffix_len is_blank text.now }
-{
-    text.iter().rev().take_while(|byte| **byte == b' ').count()
 }
 
 /// The line of a packet that isn't too long.

@@ -7,7 +7,7 @@ ghost use Rattle.login_pass.specs.Words.{words_from};
 
 use crate::pass::passcode;
 use crate::words::{is_word, next_word};
-use aprs_base::{Call, Line, leading_blanks, trailing_blanks};
+use aprs_base::{Call, Line, all_digits, leading_blanks, trailing_blanks};
 
 /// Who logs in, by which code, and with which filter.
 #[derive(Clone, PartialEq, Eq, Debug, Drop)]
@@ -42,12 +42,6 @@ impl Login {
             None => false,
         }
     }
-}
-
-fn all_digits(text: &[u8]) -> bool
-    ensures { result ≡ list_all is_digit text.now }
-{
-    text.iter().all(|byte| byte.is_ascii_digit())
 }
 
 fn is_number(text: &[u8]) -> bool

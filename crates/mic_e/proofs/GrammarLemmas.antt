@@ -10,7 +10,8 @@ use Rattle.aprs_base.specs.declared.packets.Place.{Place}
 use Rattle.aprs_position.specs.Places.{is_code, is_table, place_at}
 use Rattle.aprs_position.specs.Plain.{angle}
 use Rattle.aprs_position.proofs.PlaceLemmas.{place_at_numbers, place_at_used}
-use Rattle.aprs_position.proofs.Steps.{bound, chosen, guarded, mapped, unless}
+use Rattle.aprs_base.proofs.StepLemmas.{bind_some, cond_not_some, cond_some, map_some}
+use Rattle.aprs_position.proofs.Steps.{chosen}
 use Rattle.mic_e.specs.Grammar.{IsDegrees, IsMinutes, Says, WritesMicE}
 use Rattle.mic_e.specs.Grammar.Says.{custom_blank, custom_letter, figure, plain_blank, standard_blank, standard_letter}
 use Rattle.mic_e.specs.MicE.{between, degrees_of, digit_of, from_equator, from_greenwich, is_custom, is_mark, is_set, late_digit_of, minutes_of, pair, place_of, signed}
@@ -24,7 +25,7 @@ range low high b h = let tests = and_parts (leb low b) (leb b high) h in (leb-tr
 -- a byte's digit, its place and its bit
 blank_read : (b n : ℕ) → cond (eqb b 75 || eqb b 76 || eqb b 90) (Some 0) None ≡ Some n → Says b n (is_custom b) (is_set b)
 blank_read b n h =
-    let test = guarded (eqb b 75 || eqb b 76 || eqb b 90) (Some 0) n h in
+    let test = cond_some (eqb b 75 || eqb b 76 || eqb b 90) (Some 0) n h in
     let zero : n ≡ 0 = sym (same_Some _ _ test.1) in
     elim (or_cases (eqb b 75 || eqb b 76) (eqb b 90) test.0) [
       | inr z ↦ let is = eqb-true b 90 z in standard_blank is zero (ap is_custom is) (ap is_set is)
@@ -66,7 +67,7 @@ letter_again b n early set (standard_blank is zero e s) = (ap digit_of is ∙ ap
 
 late_read : (b n : ℕ) → late_digit_of b ≡ Some n → Says b n false (is_set b)
 late_read b n h =
-    let test = unless (is_custom b) (digit_of b) n h in
+    let test = cond_not_some (is_custom b) (digit_of b) n h in
     subst (λ e. Says b n e (is_set b)) test.0 (letter_read b n test.1)
 
 late_again : (b n : ℕ) (set : Bool) → Says b n false set → (late_digit_of b ≡ Some n) × (is_set b ≡ set)
@@ -76,8 +77,8 @@ late_again b n set says =
 
 pair_read : (p q : Option ℕ) (n : ℕ) → pair p q ≡ Some n → (t o : ℕ) × (p ≡ Some t) × (q ≡ Some o) × (n ≡ t * 10 + o)
 pair_read p q n h =
-    let t = bound p _ n h in
-    let o = mapped q _ n t.2 in
+    let t = bind_some p _ n h in
+    let o = map_some _ q n t.2 in
     (t.0, o.0, t.1, o.1, sym o.2)
 
 outside : (low high b : ℕ) → between low high b ≡ false → (b < low) ⊎ (high < b)
@@ -129,7 +130,7 @@ record IsSent (text : List ℕ) (more value : ℕ) : Type 0 where
 
 sent_read : (text : List ℕ) (more value : ℕ) → from_greenwich more text ≡ Some value → IsSent text more value
 sent_read (a ∷ b ∷ c ∷ []) more value h =
-    let test = guarded (list_all (between 28 127) (a ∷ b ∷ c ∷ [])) _ value h in
+    let test = cond_some (list_all (between 28 127) (a ∷ b ∷ c ∷ [])) _ value h in
     let a_all = and_parts (between 28 127 a) (list_all (between 28 127) (b ∷ c ∷ [])) test.0 in
     let b_all = and_parts (between 28 127 b) (list_all (between 28 127) (c ∷ [])) a_all.1 in
     let c_all = and_parts (between 28 127 c) true b_all.1 in
@@ -191,17 +192,17 @@ read_six : (a b c d e f : ℕ) (body : List ℕ) (place : Place) → place_of (a
     WritesMicE (a ∷ b ∷ c ∷ d ∷ e ∷ f ∷ []) body place
 unfolding place_of
 read_six a b c d e f body place h =
-    let sized = unless (ltb (length body) 9 || not (is_mark (get_or body 0 0))) _ place h in
+    let sized = cond_not_some (ltb (length body) 9 || not (is_mark (get_or body 0 0))) _ place h in
     let tests = or_parts (ltb (length body) 9) (not (is_mark (get_or body 0 0))) sized.0 in
-    let lat = bound (from_equator (a ∷ b ∷ c ∷ d ∷ e ∷ f ∷ [])) _ place sized.1 in
-    let lon = bound (from_greenwich (cond (is_set e) 100 0) (take 3 (drop 1 body))) _ place lat.2 in
-    let symbol = guarded (is_code (get_or body 7 0) && is_table (get_or body 8 0)) _ place lon.2 in
+    let lat = bind_some (from_equator (a ∷ b ∷ c ∷ d ∷ e ∷ f ∷ [])) _ place sized.1 in
+    let lon = bind_some (from_greenwich (cond (is_set e) 100 0) (take 3 (drop 1 body))) _ place lat.2 in
+    let symbol = cond_some (is_code (get_or body 7 0) && is_table (get_or body 8 0)) _ place lon.2 in
     let both_pass = and_parts (is_code (get_or body 7 0)) (is_table (get_or body 8 0)) symbol.0 in
     let n = place_at_numbers (signed (is_set d) lat.0) (signed (not (is_set f)) lon.0) (get_or body 8 0) (get_or body 7 0) 9 place symbol.1 in
-    let whole = bound (pair (digit_of a) (digit_of b)) _ lat.0 lat.1 in
-    let before = bound (pair (digit_of c) (late_digit_of d)) _ lat.0 whole.2 in
-    let after = bound (pair (late_digit_of e) (late_digit_of f)) _ lat.0 before.2 in
-    let test = guarded (ltb before.0 60) (Some (angle whole.0 (before.0 * 100 + after.0))) lat.0 after.2 in
+    let whole = bind_some (pair (digit_of a) (digit_of b)) _ lat.0 lat.1 in
+    let before = bind_some (pair (digit_of c) (late_digit_of d)) _ lat.0 whole.2 in
+    let after = bind_some (pair (late_digit_of e) (late_digit_of f)) _ lat.0 before.2 in
+    let test = cond_some (ltb before.0 60) (Some (angle whole.0 (before.0 * 100 + after.0))) lat.0 after.2 in
     let p = pair_read (digit_of a) (digit_of b) whole.0 whole.1 in
     let r = pair_read (digit_of c) (late_digit_of d) before.0 before.1 in
     let t = pair_read (late_digit_of e) (late_digit_of f) after.0 after.1 in

@@ -5,7 +5,8 @@ use Rattle.std.specs.declared.option.Option.{Option}
 use Rattle.std.specs.Option.{option_map}
 use Rattle.aprs_base.specs.Bytes.{base_of}
 use Rattle.aprs_base.specs.declared.packets.Place.{Place}
-use Rattle.aprs_position.specs.Places.{◌>>=◌, is_code, is_table, place_at}
+use Rattle.aprs_position.specs.Places.{is_code, is_table, place_at}
+use Rattle.aprs_base.specs.OptionSteps.{◌>>=◌}
 use Rattle.aprs_position.specs.Plain.{angle}
 
 -- a byte from the lowest to the highest

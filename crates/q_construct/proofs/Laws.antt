@@ -9,7 +9,8 @@ use Rattle.std.proofs.lemmas.List.Sums.{sum_by-append, sum_by-cons}
 use Rattle.std.proofs.lemmas.List.{take-append-drop, append-nil, length-drop, drop-append-le, map-append}
 use Rattle.aprs_base.specs.Bytes.{is_call, is_construct, is_station}
 use Rattle.aprs_base.specs.declared.packets.Via.{Via}
-use Rattle.tnc2_line.specs.Packet.{IsParts, text_of, names_construct, from_construct, is_element, has_no_star, ◌>>=◌}
+use Rattle.tnc2_line.specs.Packet.{IsParts, text_of, names_construct, from_construct, is_element, has_no_star}
+use Rattle.aprs_base.specs.ResultSteps.{◌>>=◌}
 use Rattle.q_construct.specs.declared.origins.Origin.{Origin}
 use Rattle.q_construct.specs.Rule.{Row, first_row, rows, built_row, common_rows, name_of, is_udp, is_unverified, same, plain, starred, ending, has_construct, first_call, before, given_path, ends_in_gate, gate_front, gate_call, construct_of, among, names_after, with_name, with_path, traced, refused, when, is_submission, keeps_names, is_alone, bars, begins_with, given_drops, built_drops, is_long, process_of}
 use Rattle.q_construct.specs.declared.drops.QDrop.{QDrop}

@@ -7,7 +7,8 @@ use Rattle.aprs_base.specs.Bytes.{is_station}
 use Rattle.aprs_base.specs.declared.texts.Addr.{Addr}
 use Rattle.aprs_base.specs.declared.packets.Via.{Via}
 use Rattle.aprs_base.specs.PartsSeen.{PartsSeen}
-use Rattle.tnc2_line.specs.Packet.{names_construct, from_construct, text_of, ◌>>=◌}
+use Rattle.tnc2_line.specs.Packet.{names_construct, from_construct, text_of}
+use Rattle.aprs_base.specs.ResultSteps.{◌>>=◌}
 use Rattle.q_construct.specs.declared.origins.Origin.{Origin}
 use Rattle.q_construct.specs.declared.origins.Origin.TheVariants.{Udp, Client, Uplink, Peer}
 use Rattle.q_construct.specs.declared.drops.QDrop.{QDrop}

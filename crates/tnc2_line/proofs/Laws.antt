@@ -10,7 +10,8 @@ use Rattle.aprs_base.specs.Bytes.{is_call, is_inner, IsLine}
 use Rattle.std.proofs.lemmas.List.{length-append}
 use Rattle.aprs_base.specs.declared.packets.Via.{Via}
 use Rattle.aprs_base.specs.PartsSeen.{PartsSeen}
-use Rattle.tnc2_line.specs.Packet.{text_of, is_parts, IsParts, IsPacket, is_path, parts_of, head_of, path_of, vias_of, call_of, checked_path, checked_body, cut_at, is_colon, is_arrow, is_comma, is_element, has_no_star, names_construct, from_construct, with_comma, via_text, ◌>>=◌}
+use Rattle.tnc2_line.specs.Packet.{text_of, is_parts, IsParts, IsPacket, is_path, parts_of, head_of, path_of, vias_of, call_of, checked_path, checked_body, cut_at, is_colon, is_arrow, is_comma, is_element, has_no_star, names_construct, from_construct, with_comma, via_text}
+use Rattle.aprs_base.specs.ResultSteps.{◌>>=◌}
 use Rattle.tnc2_line.specs.Pieces.{Fills}
 use Rattle.tnc2_line.specs.declared.reading.LineFault.{LineFault}
 use Rattle.tnc2_line.specs.declared.reading.LineFault.TheVariants as fault

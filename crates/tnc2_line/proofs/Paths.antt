@@ -10,7 +10,8 @@ use Rattle.std.proofs.lemmas.List.Folds.{list_all-append, list_any-append}
 use Rattle.std.proofs.Math.Bool.{and-true, and-false, or-false}
 use Rattle.aprs_base.specs.Bytes.{is_call}
 use Rattle.aprs_base.specs.declared.packets.Via.{Via}
-use Rattle.tnc2_line.specs.Packet.{via_of, via_text, with_comma, is_star, is_comma, is_element, has_no_star, names_construct, from_construct, may_follow, next_via, vias_of, ◌>>=◌}
+use Rattle.tnc2_line.specs.Packet.{via_of, via_text, with_comma, is_star, is_comma, is_element, has_no_star, names_construct, from_construct, may_follow, next_via, vias_of}
+use Rattle.aprs_base.specs.ResultSteps.{◌>>=◌}
 use Rattle.tnc2_line.specs.declared.reading.LineFault.TheVariants as fault
 use Rattle.tnc2_line.proofs.Calls.{call_without, no_star, no_comma}
 use Rattle.tnc2_line.proofs.Cuts.{position_at, position_none, any_at, any_none, cut_whole, cut_there, split_cut, split_none, parted}

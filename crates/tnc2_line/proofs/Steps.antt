@@ -4,7 +4,8 @@ use Rattle.std.specs.List.{slice_split}
 use Rattle.std.specs.Option.{ok_or}
 use Rattle.aprs_base.specs.declared.packets.Via.{Via}
 use Rattle.aprs_base.specs.PartsSeen.{PartsSeen}
-use Rattle.tnc2_line.specs.Packet.{◌>>=◌, call_of, checked_body, checked_path, cut_at, head_of, is_arrow, is_colon, is_comma, parts_of, path_of, vias_of}
+use Rattle.tnc2_line.specs.Packet.{call_of, checked_body, checked_path, cut_at, head_of, is_arrow, is_colon, is_comma, parts_of, path_of, vias_of}
+use Rattle.aprs_base.specs.ResultSteps.{◌>>=◌}
 use Rattle.tnc2_line.specs.Pieces.{Fills, path_at, with_vias}
 use Rattle.tnc2_line.specs.declared.reading.LineFault.{LineFault}
 use Rattle.tnc2_line.specs.declared.reading.LineFault.TheVariants as fault

@@ -5,6 +5,7 @@ use Rattle.std.specs.Option.{ok_or, option_and_then}
 use Rattle.aprs_base.specs.Bytes.{is_call, is_construct, is_inner}
 use Rattle.aprs_base.specs.declared.packets.Via.{Via}
 use Rattle.aprs_base.specs.PartsSeen.{PartsSeen}
+use Rattle.aprs_base.specs.ResultSteps.{◌>>=◌}
 use Rattle.tnc2_line.specs.declared.reading.LineFault.{LineFault}
 use Rattle.tnc2_line.specs.declared.reading.LineFault.TheVariants as fault
 
@@ -74,11 +75,6 @@ abbrev pub construct_at : PartsSeen → Option ℕ
 construct_at parts = position is_construct_via parts.vias
 
 -- ---- the reading of a text, with the first fault
-
-infixl 10 ◌>>=◌
-abbrev pub ◌>>=◌ : {E A B : Type 0} → Result A E → (A → Result B E) → Result B E
-(Ok x) >>= f = f x
-(Err e) >>= f = Err e
 
 -- the text before and the text after its first such byte, where there is one
 abbrev pub cut_at : (ℕ → Bool) → List ℕ → Option (List ℕ × List ℕ)

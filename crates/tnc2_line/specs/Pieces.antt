@@ -2,7 +2,8 @@
 use Rattle.std.specs.Prelude.{ℕ, ◌≡◌, List, [], Option, Some, None, Result, Ok, Err}
 use Rattle.std.specs.List.{slice_split}
 use Rattle.aprs_base.specs.declared.packets.Via.{Via}
-use Rattle.tnc2_line.specs.Packet.{◌>>=◌, checked_path, head_of, is_comma, vias_of}
+use Rattle.tnc2_line.specs.Packet.{checked_path, head_of, is_comma, vias_of}
+use Rattle.aprs_base.specs.ResultSteps.{◌>>=◌}
 use Rattle.tnc2_line.specs.declared.reading.LineFault.{LineFault}
 
 -- the texts between the commas of a text, and none where there is no text

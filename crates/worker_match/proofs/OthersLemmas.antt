@@ -77,11 +77,3 @@ module _ (items : List Item) (lines : List (List ℕ)) (start link : LinkSeen) (
             (sym (others_left ∙ ap (λ b. cond b [] (fresh offer.dupe offer.packet.line) ++ later) other))
             ∙ is.so_far few under;
       }
-
--- the last stretch
-pub around_done : (items : List Item) (lines : List (List ℕ)) (start link : LinkSeen) (i from place : ℕ) → IsAround items lines start link i from place → length items ≤ i
-    → length link.queue.lines ≤ link.queue.limit → link.put < 2 ^ 64 → with_run (take (place - from) (drop from lines)) link ≡ walked (items_seen items) start
-around_done items lines start link i from place is past few under =
-    ap (λ all. with_run all link) (sym (append-nil (take (place - from) (drop from lines))))
-    ∙ ap (λ left. with_run (take (place - from) (drop from lines) ++ flat_map (line_of_others start.link) (items_seen left)) link) (sym (drop_all i items past))
-    ∙ is.so_far few under

@@ -295,12 +295,3 @@ module _ (items : List Item) (i : ℕ) (x : Item) (lt : i < length items) (at : 
         marks = gathered mark_of run.marks _ is.marks;
         few = let size = length-append run.lines (line_of (item_seen x)) in let most = line_at_most (item_seen x) in let few = is.few in omega arith;
       })
-
-pub begun_done : (items : List Item) (i : ℕ) (run : RunSeen) → length items ≤ i → IsBegun items i run → IsRunOf (items_seen items) run
-begun_done items i run past is =
-    let none = drop_all i items past in record {
-      packets = sym is.packets ∙ ap (λ left. list_all is_packet (items_seen left)) none;
-      lines = sym (append-nil run.lines) ∙ ap (λ left. run.lines ++ flat_map line_of (items_seen left)) (sym none) ∙ is.lines;
-      senders = sym (append-nil run.senders) ∙ ap (λ left. run.senders ++ flat_map sender_of (items_seen left)) (sym none) ∙ is.senders;
-      marks = sym (append-nil run.marks) ∙ ap (λ left. run.marks ++ flat_map mark_of (items_seen left)) (sym none) ∙ is.marks;
-    }

@@ -26,10 +26,6 @@ walk_more items i x link new total lt at open' is so_far =
     ∙ sym (ap (λ left. walked (items_seen left) link) (drop_more items i x lt))
     ∙ so_far
 
--- the end of the items
-pub walk_done : (items : List Item) (i : ℕ) (link total : LinkSeen) → length items ≤ i → walked (items_seen (drop i items)) link ≡ total → link ≡ total
-walk_done items i link total past so_far = sym (ap (λ left. walked (items_seen left) link) (drop_all i items past)) ∙ so_far
-
 pub ordered_at : (items : List Item) (i : ℕ) (x : Item) → All IsOrdered (items_seen items) → i < length items → x ≡ get_or items i x → IsOrdered (item_seen x)
 ordered_at [] i x all lt at = absurd (omega arith)
 ordered_at (y ∷ items) zero x all lt at = subst (λ z. IsOrdered (item_seen z)) (sym at) (all 0 (item_seen y) (omega arith))

@@ -22,8 +22,23 @@ const MOST: usize = 1000;
 /// them as a run.
 const FEW: usize = 8;
 
-/// A run of a block is made where the block has so many items, and so many links may want their lines.
+/// A run of a block is made where the block has so many items, and so many links of a part may want their lines.
 const LEAST: usize = 4;
+
+/// How parts are walked.
+#[derive(Clone, Copy)]
+struct Course {
+    /// Other parts are walked at the same time. Then each link takes what it wants from a run of its own part, so that no two
+    /// processors count who shares a line. A run stays as long as one of its lines is wanted, so else only links that take most of it do.
+    apart: bool,
+}
+
+impl Course {
+    /// Whether a run pays for the link.
+    fn needs_run(self, link: &LinkState) -> bool {
+        link.is_plain() || (self.apart && link.is_eager())
+    }
+}
 
 /// Each link meets the items in their order. The links are split into at most `workers` parts, which are walked at the same
 /// time, each between its entering and its leaving the gate. After `Memory` nothing is said of the links.
@@ -39,7 +54,8 @@ pub fn spread<R: Threads + Sync, G: Gate + Sync>(
     ensures { OnOk result (links.new ≡ map (walked (items_seen items.now)) links.old) }
 {
     let parts = most_parts(links.len(), workers);
-    split(rt, links, items, parts, 0, gate)
+    let course = Course { apart: parts > 1 };
+    split(rt, links, items, parts, 0, course, gate)
 }
 
 /// No more parts than workers, and none without a link where there are links.
@@ -70,6 +86,7 @@ fn split<R: Threads + Sync, G: Gate + Sync>(
     items: &[Item],
     workers: u32,
     part: u32,
+    course: Course,
     gate: &G,
 ) -> Result<(), Memory>
     requires workers { (1 ≤ workers) × (part + workers ≤ 64) }
@@ -77,7 +94,7 @@ fn split<R: Threads + Sync, G: Gate + Sync>(
     ensures { OnOk result (links.new ≡ map (walked (items_seen items.now)) links.old) }
 {
     if workers == 1 {
-        return pass(links, items, part, gate);
+        return pass(links, items, part, course, gate);
     }
     let less = workers / 2;
     let more = workers - less;
@@ -88,29 +105,35 @@ fn split<R: Threads + Sync, G: Gate + Sync>(
         &mut || -> Result<(), Memory>
             requires { IsSync R.row × IsSync G.row × (1 ≤ less) × (part + less ≤ 64) × All IsOrdered (items_seen items.now) }
             ensures { OnOk result (front.exit.now ≡ map (walked (items_seen items.entry.now)) front.entry.now) }
-        { split(rt, front, items, less, part, gate) },
+        { split(rt, front, items, less, part, course, gate) },
         &mut || -> Result<(), Memory>
             requires { IsSync R.row × IsSync G.row × (1 ≤ more) × (part + less + more ≤ 64) × All IsOrdered (items_seen items.now) }
             ensures { OnOk result (back.exit.now ≡ map (walked (items_seen items.entry.now)) back.entry.now) }
-        { split(rt, back, items, more, part + less, gate) },
+        { split(rt, back, items, more, part + less, course, gate) },
     );
     first?;
     second
 }
 
 /// One part, through the gate.
-fn pass<G: Gate>(links: &mut [LinkState], items: &[Item], part: u32, gate: &G) -> Result<(), Memory>
+fn pass<G: Gate>(
+    links: &mut [LinkState],
+    items: &[Item],
+    part: u32,
+    course: Course,
+    gate: &G,
+) -> Result<(), Memory>
     requires { All IsOrdered (items_seen items.now) }
     ensures { OnOk result (links.new ≡ map (walked (items_seen items.now)) links.old) }
 {
     gate.enter(part);
-    let done = walk(links, items);
+    let done = walk(links, items, course);
     gate.leave(part);
     done
 }
 
 /// Each link meets the items in their order, a block of them after another.
-fn walk(links: &mut [LinkState], items: &[Item]) -> Result<(), Memory>
+fn walk(links: &mut [LinkState], items: &[Item], course: Course) -> Result<(), Memory>
     requires { All IsOrdered (items_seen items.now) }
     ensures { OnOk result (links.new ≡ map (walked (items_seen items.now)) links.old) }
 {
@@ -118,7 +141,7 @@ fn walk(links: &mut [LinkState], items: &[Item]) -> Result<(), Memory>
     let mut rest = items;
     while !rest.is_empty() {
         let (block, later) = rest.split_at(rest.len().min(size));
-        walk_block(links, block)?;
+        walk_block(links, block, course)?;
         rest = later;
     }
     Ok(())
@@ -128,6 +151,9 @@ fn walk(links: &mut [LinkState], items: &[Item]) -> Result<(), Memory>
 fn block_size(links: &[LinkState], items: &[Item]) -> usize
     ensures { (1 ≤ result) × (result ≤ 1000) }
 {
+    if items.len() <= BLOCK {
+        return BLOCK;
+    }
     let plain = links.iter().filter(|link| link.is_plain()).count();
     let eager = links.iter().filter(|link| link.is_eager()).count();
     let packets = items.iter().all(|item| matches!(item, Item::Packet { .. }));
@@ -139,40 +165,50 @@ fn block_size(links: &[LinkState], items: &[Item]) -> usize
 }
 
 /// Each link meets the items in their order.
-fn walk_block(links: &mut [LinkState], items: &[Item]) -> Result<(), Memory>
+fn walk_block(links: &mut [LinkState], items: &[Item], course: Course) -> Result<(), Memory>
     requires few { length items.now ≤ 1000 }
     requires ordered { All IsOrdered (items_seen items.now) }
     ensures { OnOk result (links.new ≡ map (walked (items_seen items.now)) links.old) }
 {
-    let run = run_for(links, items)?;
-    walk_links(links, items, &run)
+    let run = run_for(links, items, course)?;
+    walk_links(links, items, &run, course)
 }
 
 /// The same, one link after another.
-fn walk_links(links: &mut [LinkState], items: &[Item], run: &Option<Run>) -> Result<(), Memory>
+fn walk_links(
+    links: &mut [LinkState],
+    items: &[Item],
+    run: &Option<Run>,
+    course: Course,
+) -> Result<(), Memory>
     requires ordered { All IsOrdered (items_seen items.now) }
     requires run { IfSome run.now (λ run. IsRunOf (items_seen items.now) run) }
     ensures { OnOk result (links.new ≡ map (walked (items_seen items.now)) links.old) }
 {
     for link in links.iter_mut() {
-        meet_block(link, items, run)?;
+        meet_block(link, items, run, course)?;
     }
     Ok(())
 }
 
 /// The items as one run, where they are packets alone and a run pays.
-fn run_for(links: &[LinkState], items: &[Item]) -> Result<Option<Run>, Memory>
+fn run_for(links: &[LinkState], items: &[Item], course: Course) -> Result<Option<Run>, Memory>
     requires { length items.now ≤ 1000 }
     ensures { IfOk result (λ run. IfSome run (λ run. IsRunOf (items_seen items.now) run)) }
 {
-    if items.len() < LEAST || links.iter().filter(|link| link.is_eager()).count() < LEAST {
+    if items.len() < LEAST || links.iter().filter(|link| course.needs_run(link)).count() < LEAST {
         return Ok(None);
     }
     run_of(items)
 }
 
 /// One link meets the items, or takes their run's lines where that comes to the same.
-fn meet_block(link: &mut LinkState, items: &[Item], run: &Option<Run>) -> Result<(), Memory>
+fn meet_block(
+    link: &mut LinkState,
+    items: &[Item],
+    run: &Option<Run>,
+    course: Course,
+) -> Result<(), Memory>
     requires ordered { All IsOrdered (items_seen items.now) }
     requires run { IfSome run.now (λ run. IsRunOf (items_seen items.now) run) }
     ensures { OnOk result (link.new ≡ walked (items_seen items.now) link.old) }
@@ -180,8 +216,8 @@ fn meet_block(link: &mut LinkState, items: &[Item], run: &Option<Run>) -> Result
     match run {
         Some(run) if run.suits(link) => link.take_run(&run.batch),
         Some(run) if run.suits_others(link) => take_others(link, items, run),
-        Some(run) => walk_along(link, items, run),
-        None => walk_link(link, items),
+        Some(run) if course.apart => walk_along(link, items, run),
+        _ => walk_link(link, items),
     }
 }
 

@@ -21,7 +21,7 @@ use std::alloc::Global;
 use std::marker::Sync;
 use std::thread::Threads;
 
-/// So many things for each worker are matched at once: what they take stays small, and near the processor.
+/// So many things for each worker are matched at once, as many as the lines of a round of the real wire, and no more wait.
 const ENOUGH: usize = 400;
 
 /// How many things may wait to be matched by so many workers.
