@@ -58,16 +58,26 @@ impl Run {
     }
 }
 
+/// All are looked at, since it is mostly none of them: so several are compared at once.
 fn is_among(number: u32, numbers: &[u32]) -> bool
     ensures { result ≡ list_any (λ other. number == other) numbers.now }
 {
-    numbers.iter().any(|other| number == *other)
+    let mut found = false;
+    for other in numbers {
+        found |= number == *other;
+    }
+    found
 }
 
+/// The same for marks.
 fn is_marked(mark: u64, marks: &[u64]) -> bool
     ensures { result ≡ list_any (λ other. mark == other) marks.now }
 {
-    marks.iter().any(|other| mark == *other)
+    let mut found = false;
+    for other in marks {
+        found |= mark == *other;
+    }
+    found
 }
 
 /// Equal calls have equal marks.

@@ -1,0 +1,7 @@
+use Rattle.std.proofs.Common.{◌≡◌, ◌==◌, ◌||◌, drop}
+use Rattle.std.specs.List.{list_any}
+use Rattle.worker_match.proofs.runs.is_among.Given as goal
+
+abbrev pub invariant-loop-other : goal.invariant-loop-other
+invariant-loop-other l =
+    (l.found || list_any (λ other. l.number == other) (drop l.other-index l.numbers)) ≡ list_any (λ other. l.number == other) l.numbers
