@@ -1,10 +1,15 @@
 //! A bare broadcast server, to compare with: each line that a link sends goes to all other links, as it is.
 //!
 //! One thread, epoll, no parsing beyond line ends and the login, and one write a link for all lines of a turn.
+//!
+//! With the word `packets` it is a plain server: it reads each line as a packet, drops copies, and adds to its path. With
+//! `read=N` it reads at most so many bytes at a time.
 
 mod epoll;
+mod packets;
 
 use epoll::{Epoll, Event, READABLE, WRITABLE};
+use packets::Packets;
 use std::env;
 use std::io::{self, ErrorKind, Read, Write};
 use std::net::{TcpListener, TcpStream};
@@ -13,6 +18,9 @@ use std::os::fd::AsRawFd;
 
 /// The token of the listener; those of links begin at 0.
 const LISTENER: usize = usize::MAX;
+
+/// How many bytes are read at a time where nothing is said of it.
+const MOST_READ: usize = 65_536;
 
 /// How many links may wait to be opened; the system may hold fewer.
 const BACKLOG: i32 = 4096;
@@ -51,10 +59,12 @@ struct Server {
     feed: Vec<u8>,
     said: Vec<Said>,
     buffer: Vec<u8>,
+    /// Lines are read as packets.
+    packets: Option<Packets>,
 }
 
 impl Server {
-    fn new(address: &str) -> io::Result<Server> {
+    fn new(address: &str, most_read: usize, packets: Option<Packets>) -> io::Result<Server> {
         let listener = TcpListener::bind(address)?;
         listener.set_nonblocking(true)?;
         // SAFETY: the call takes no memory, and the descriptor is open.
@@ -68,7 +78,8 @@ impl Server {
             free: Vec::new(),
             feed: Vec::new(),
             said: Vec::new(),
-            buffer: vec![0; 65_536],
+            buffer: vec![0; most_read],
+            packets,
         })
     }
 
@@ -141,7 +152,10 @@ impl Server {
             }
             if link.is_named {
                 let start = self.feed.len();
-                self.feed.extend_from_slice(&link.line);
+                match &mut self.packets {
+                    Some(packets) => packets.push(&mut self.feed, &link.line).unwrap_or(()),
+                    None => self.feed.extend_from_slice(&link.line),
+                }
                 let at = start..self.feed.len();
                 self.said.push(Said { link: token, at });
                 link.has_said = true;
@@ -230,6 +244,15 @@ fn write_some(stream: &mut TcpStream, bytes: &[u8]) -> io::Result<usize> {
 }
 
 fn main() -> io::Result<()> {
-    let address = env::args().nth(1).unwrap_or("127.0.0.1:14580".to_owned());
-    Server::new(&address)?.serve()
+    let mut words = env::args().skip(1);
+    let address = words.next().unwrap_or("127.0.0.1:14580".to_owned());
+    let (mut most_read, mut packets) = (MOST_READ, None);
+    for word in words {
+        match word.strip_prefix("read=").map(str::parse) {
+            Some(Ok(count)) => most_read = count,
+            None if word == "packets" => packets = Some(Packets::new()),
+            _ => return Err(io::Error::other(format!("{word}: read=N or packets"))),
+        }
+    }
+    Server::new(&address, most_read, packets)?.serve()
 }

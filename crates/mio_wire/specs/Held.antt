@@ -1,5 +1,6 @@
 -- What the sockets hold.
 use Rattle.std.specs.Prelude.{◌≡◌, ℕ, ⊤, Bool, true, false, if◌then◌else◌, List, [], ◌∷◌, ◌++◌, length, map, Contains, slice_get, Option, Some, None}
+use Rattle.std.specs.List.{list_any}
 use Rattle.aprs_base.specs.declared.events.Event.{Event}
 use Rattle.aprs_base.specs.declared.events.Event.TheVariants as event
 use Rattle.aprs_base.specs.declared.packets.PortKind.{PortKind}
@@ -9,13 +10,18 @@ use Rattle.mio_wire.specs.declared.sockets.Ear.{Ear}
 use Rattle.mio_wire.specs.declared.sockets.Sockets.{Sockets}
 use Rattle.mio_wire.specs.declared.turns.Ready.{Ready}
 use Rattle.mio_wire.specs.Mail.{greater}
-use Rattle.mio_wire.specs.Sources.{with_waiting}
+use Rattle.mio_wire.specs.Sources.{reads_link, with_waiting}
 use Rattle.mio_wire.specs.Unread.{Brought, nothing}
 
 -- the bytes that were read and are not handed up
 abbrev pub unread : Option Sockets → Brought
 unread None = nothing
 unread (Some sockets) = sockets.inbox
+
+-- a link has more than one read took, and is to be read on in the next turn
+abbrev pub reads_on : Option Sockets → Bool
+reads_on None = false
+reads_on (Some sockets) = list_any reads_link sockets.turns.later.items
 
 -- the numbers of the listeners for links and for datagrams, in the order in which they listen, and where datagrams are cast from
 pub record Listening : Type 0 where

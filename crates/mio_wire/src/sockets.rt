@@ -5,7 +5,9 @@ ghost use Rattle.aprs_base.specs.declared.packets.PortKind.TheVariants.{Core, Su
 ghost use Rattle.mio_wire.specs.Arrivals.{after_sent};
 ghost use Rattle.mio_wire.specs.Linked.{TakesOf, dropped, numbers, without};
 ghost use Rattle.mio_wire.specs.Held.{listening_after, listening_of, with_deaf, woken};
+ghost use Rattle.mio_wire.specs.Sources.{reads_link};
 ghost use Rattle.mio_wire.specs.Unread.{IsHeld, forgotten, nothing, unread_after};
+ghost use Rattle.std.specs.List.{list_any};
 
 mod serving;
 
@@ -234,6 +236,13 @@ impl Sockets {
     /// Whether a source of this turn is not served yet.
     pub(crate) fn has_ready(&self) -> bool {
         self.turns.current().is_some()
+    }
+
+    /// Whether more is to be read from a link that was read in this turn.
+    pub(crate) fn reads_on(&self) -> bool
+        ensures { result ≡ list_any reads_link self.now.turns.later.items }
+    {
+        self.turns.reads_on()
     }
 
     /// Lets go a link with what it brought.

@@ -2,7 +2,7 @@
 ghost use Rattle.std.specs.Prelude.{◌≡◌, ◌==◌, ◌≢◌, ◌↔◌, ◌+◌, ◌-◌, ◌^◌, true, false, List, [], ◌∷◌, ◌++◌, OnOk, OnErr, IsTrue, min, slice_get, ◌<◌, ◌≤◌, vec_len, vec_capacity};
 ghost use Rattle.std.specs.List.{list_any};
 ghost use Rattle.mio_wire.specs.declared.turns.Ready.{Ready};
-ghost use Rattle.mio_wire.specs.Sources.{source_of, to_read, with_waiting};
+ghost use Rattle.mio_wire.specs.Sources.{reads_link, source_of, to_read, with_waiting};
 
 use mio::Events;
 use mio::event::Event;
@@ -159,6 +159,15 @@ impl Turns {
             return Ok(());
         }
         self.put_off(Ready::to_read(token))
+    }
+
+    /// Whether more is to be read from a link that was read in this turn.
+    pub(crate) fn reads_on(&self) -> bool
+        ensures { result ≡ list_any reads_link self.now.later.items }
+    {
+        self.later
+            .iter()
+            .any(|waiting| waiting.readable && waiting.token < FIRST_EAR)
     }
 
     pub(crate) fn has_later(&self) -> bool

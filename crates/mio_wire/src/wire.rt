@@ -1,5 +1,5 @@
 //! The wire over the sockets of the system.
-ghost use Rattle.std.specs.Prelude.{◌≡◌, ◌≢◌, ◌<◌, ℕ, ◌+◌, ◌-◌, ◌^◌, ◌≤◌, ◌++◌, [], ◌∷◌, Some, None, true, false, length, OnOk, OnErr, IfOk, IfSome, IsErrOf};
+ghost use Rattle.std.specs.Prelude.{◌≡◌, ◌≢◌, ◌<◌, ℕ, ◌+◌, ◌-◌, ◌^◌, ◌≤◌, ◌++◌, ◌&&◌, not, [], ◌∷◌, Some, None, true, false, length, OnOk, OnErr, IfOk, IfSome, IsErrOf};
 ghost use Rattle.aprs_base.specs.Outside.{AfterAct, AfterListen, AfterNext, AfterSend, IsOutcome, Rose, with_cast, with_closed, with_dial};
 ghost use Rattle.aprs_base.specs.declared.events.Event.TheVariants.{Tick};
 ghost use Rattle.aprs_base.specs.declared.events.WireError.TheVariants as WireError;
@@ -12,7 +12,7 @@ ghost use Rattle.mio_wire.specs.Dialled.{Answers, AnswersStep, Begins};
 ghost use Rattle.mio_wire.specs.Linked.{TakesOf, TellsOfOne, TellsStep, numbers, numbers_after, without};
 ghost use Rattle.mio_wire.specs.Arrivals.{IsArrival, Steps, after_sent, counts, gones_after, stops_after, stops_with};
 ghost use Rattle.mio_wire.specs.Unread.{HandsUp, IsHeld, Leaves, forgotten, unread_after};
-ghost use Rattle.mio_wire.specs.Held.{NamesListener, NamesStep, Retries, listening, listening_after, unread};
+ghost use Rattle.mio_wire.specs.Held.{NamesListener, NamesStep, Retries, listening, listening_after, reads_on, unread};
 
 use crate::course::Course;
 use crate::dials::{Dial, Dials};
@@ -142,6 +142,16 @@ impl<'a, R: Net + Clock> MioWire<'a, R> {
         }
     }
 
+    /// Whether a link has more than one read took: then not all that came is handed up.
+    fn reads_on(&self) -> bool
+        ensures { result ≡ reads_on self.now.sockets }
+    {
+        match &self.sockets {
+            Some(sockets) => sockets.reads_on(),
+            None => false,
+        }
+    }
+
     /// The next thing to hand up of what has come: bytes that were read, or what a socket has.
     fn arrived(&mut self) -> Result<Option<Event>, WireError>
         ensures steps { IfOk result (Steps (numbers self.old.links.list.items) (numbers self.new.links.list.items) self.old.links.made self.new.links.made) }
@@ -204,7 +214,8 @@ impl<'a, R: Net + Clock> MioWire<'a, R> {
             return self.arrived();
         }
         let now = self.clock();
-        if self.course.pace.is_due() || now.as_secs() != second {
+        let all_handed = self.course.pace.is_due() && !self.reads_on();
+        if all_handed || now.as_secs() != second {
             return Ok(Some(self.tick(now.as_secs())));
         }
         self.wait(now)?;
@@ -292,7 +303,7 @@ impl<'a, R: Net + Clock> MioWire<'a, R> {
 
     /// Waits for the sockets, but not beyond the second that `now` is in.
     fn wait(&mut self, now: Duration) -> Result<(), WireError>
-        requires { is_due self.old.course.pace ≡ false }
+        requires { (is_due self.old.course.pace && not (reads_on self.old.sockets)) ≡ false }
         ensures stops { (self.old.stops ≤ self.new.stops) × (IsErrOf result WireError.Failed → Rose self.old.stops self.new.stops) }
         ensures counted { self.new.stops ≡ stops_after result self.old.stops }
         ensures kept { self.new ≡ record self.old { sockets = self.new.sockets; stops = self.new.stops } }
