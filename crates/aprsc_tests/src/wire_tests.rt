@@ -127,12 +127,13 @@ fn serves_a_link_and_stops(rt: HostRuntime) -> Result<(), Fail> {
     Ok(())
 }
 
-/// The client says that it ends, and hears on.
+/// The client says that it ends, and hears on. A tick comes before its end, so that it gets what its last bytes bring.
 fn hears_on<W: Wire>(wire: &mut W, client: &mut TcpStream) -> io::Result<bool> {
     client.write_all(b"x")?;
     client.shutdown(Shutdown::Write)?;
     let served = gives(wire, Seen::Bytes(1, b'x'))
         && takes(wire, 1, b"1")
+        && next(wire) == Seen::Tick
         && gives(wire, Seen::Ended(1))
         && is_gone(wire, 1);
     let mut heard = [0; 2];

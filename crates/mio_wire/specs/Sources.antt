@@ -1,5 +1,5 @@
 -- What the tokens of the poll stand for.
-use Rattle.std.specs.Prelude.{ℕ, ◌-◌, ◌*◌, ◌^◌, ◌==◌, ◌&&◌, nat_le, nat_lt, Bool, true, false, List, [], ◌∷◌, ◌++◌, if◌then◌else◌}
+use Rattle.std.specs.Prelude.{ℕ, ◌-◌, ◌*◌, ◌^◌, ◌==◌, ◌&&◌, not, nat_le, nat_lt, Bool, true, false, List, [], ◌∷◌, ◌++◌, if◌then◌else◌}
 use Rattle.std.specs.List.{list_any}
 use Rattle.mio_wire.specs.declared.turns.Ready.{Ready}
 use Rattle.mio_wire.specs.declared.turns.Source.{Source}
@@ -17,9 +17,9 @@ source_of token =
 abbrev pub to_read : (token : ℕ) → Ready
 to_read token = record { token = token; readable = true; writable = false; closed = false; again = true }
 
--- a link of which more can be read in another turn
+-- a link of which more can be read in another turn, and not only its end
 abbrev pub reads_link : Ready → Bool
-reads_link r = r.readable && nat_lt r.token (2 ^ 32)
+reads_link r = r.readable && not r.closed && nat_lt r.token (2 ^ 32)
 
 -- what waits for the next turn with one source more, which waits once
 abbrev pub with_waiting : (token : ℕ) → List Ready → List Ready

@@ -30,6 +30,8 @@ pub(crate) enum Reading {
     End,
     /// There may be more.
     More,
+    /// The peer will send no more: one read more tells of the end.
+    Last,
     /// There is no more, until the poll tells of it.
     All,
 }
@@ -54,15 +56,17 @@ impl Link {
         ensures link { inbox.new.link ≡ self.old.number }
         ensures end { result ≡ End → length inbox.new.left ≡ 0 }
     {
-        let more = match inbox.fill(self.number, &mut self.stream) {
+        let reading = match inbox.fill(self.number, &mut self.stream) {
             Ok(0) => return Reading::End,
-            Ok(count) => count == MOST_READ || self.closed,
-            Err(error) if error.kind() == ErrorKind::WouldBlock => false,
-            Err(error) if error.kind() == ErrorKind::Interrupted => true,
+            Ok(MOST_READ) => Reading::More,
+            Ok(_) if self.closed => Reading::Last,
+            Ok(_) => Reading::All,
+            Err(error) if error.kind() == ErrorKind::WouldBlock => Reading::All,
+            Err(error) if error.kind() == ErrorKind::Interrupted => Reading::More,
             Err(_) => return Reading::End,
         };
-        self.later = more;
-        if more { Reading::More } else { Reading::All }
+        self.later = matches!(reading, Reading::More | Reading::Last);
+        reading
     }
 
     /// Offers bytes to the link.

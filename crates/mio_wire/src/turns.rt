@@ -75,6 +75,16 @@ impl Ready {
         }
     }
 
+    /// A link whose end is to be read.
+    pub(crate) fn to_end(token: usize) -> Ready
+        ensures { result ≡ record (to_read token) { closed = true } }
+    {
+        Ready {
+            closed: true,
+            ..Ready::to_read(token)
+        }
+    }
+
     /// A link to which more can be written.
     pub(crate) fn to_write(token: usize) -> Ready
         ensures { result ≡ record { token = token; readable = false; writable = true; closed = false; again = true } }
@@ -161,13 +171,13 @@ impl Turns {
         self.put_off(Ready::to_read(token))
     }
 
-    /// Whether more is to be read from a link that was read in this turn.
+    /// Whether more is to be read from a link that was read in this turn, and not only its end.
     pub(crate) fn reads_on(&self) -> bool
         ensures { result ≡ list_any reads_link self.now.later.items }
     {
-        self.later
-            .iter()
-            .any(|waiting| waiting.readable && waiting.token < FIRST_EAR)
+        self.later.iter().any(|waiting| waiting.readable
+            && !waiting.closed
+            && waiting.token < FIRST_EAR)
     }
 
     pub(crate) fn has_later(&self) -> bool

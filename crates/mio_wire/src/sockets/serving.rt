@@ -329,6 +329,10 @@ impl Sockets {
                 self.turns.put_off(Ready::to_read(number as usize))?;
                 Ok(None)
             }
+            Reading::Last => {
+                self.turns.put_off(Ready::to_end(number as usize))?;
+                Ok(None)
+            }
             Reading::All => Ok(None),
         }
     }
