@@ -1,10 +1,12 @@
 -- The links by their numbers.
-use Rattle.std.specs.Prelude.{◌==◌, ◌&&◌, ◌||◌, ⊤, Contains, Option, Some, None, ℕ, ◌<◌, ◌≤◌, not, List, [], ◌∷◌, ◌++◌, All, AllPairs, map, filter}
+use Rattle.std.specs.Prelude.{Bool, if◌then◌else◌, ◌==◌, ◌&&◌, ◌||◌, ⊤, Contains, Option, Some, None, ℕ, ◌<◌, ◌≤◌, not, List, [], ◌∷◌, ◌++◌, All, AllPairs, map, filter}
 use Rattle.aprs_base.specs.declared.events.Event.{Event}
 use Rattle.aprs_base.specs.declared.events.Event.TheVariants as event
 use Rattle.aprs_base.specs.declared.events.Sent.{Sent}
 use Rattle.aprs_base.specs.declared.events.Sent.TheVariants as sent
 use Rattle.mio_wire.specs.declared.links.Link.{Link}
+use Rattle.mio_wire.specs.declared.links.Reading.{Reading}
+use Rattle.mio_wire.specs.declared.links.Reading.TheVariants as reading
 use Rattle.mio_wire.specs.declared.turns.Ready.{Ready}
 
 abbrev pub numbers : List Link → List ℕ
@@ -25,6 +27,11 @@ without number links = filter (λ l. not (l.number == number)) links
 -- a link once the poll told of it: one that was blocked has room again where it can be written to
 abbrev pub noted : Ready → Link → Link
 noted ready link = record link { closed = link.closed || ready.closed; blocked = link.blocked && not ready.writable }
+
+-- what a read tells that brought so many bytes: there may be more where they were a whole read, and else the end is next where the peer has ended
+-- its side
+abbrev pub reading_of : (count : ℕ) (closed : Bool) → Reading
+reading_of count closed = if count == 65536 then reading.More else (if closed then reading.Last else reading.All)
 
 -- the numbers but for that one
 abbrev pub dropped : ℕ → List ℕ → List ℕ

@@ -1,6 +1,8 @@
 -- What the tokens of the poll stand for.
 use Rattle.std.specs.Prelude.{ℕ, ◌-◌, ◌*◌, ◌^◌, ◌==◌, ◌&&◌, not, nat_le, nat_lt, Bool, true, false, List, [], ◌∷◌, ◌++◌, if◌then◌else◌}
 use Rattle.std.specs.List.{list_any}
+use Rattle.mio_wire.specs.declared.links.Reading.{Reading}
+use Rattle.mio_wire.specs.declared.links.Reading.TheVariants as reading
 use Rattle.mio_wire.specs.declared.turns.Ready.{Ready}
 use Rattle.mio_wire.specs.declared.turns.Source.{Source}
 use Rattle.mio_wire.specs.declared.turns.Source.TheVariants.{Dial, Ear, Link, Mailbox}
@@ -16,6 +18,17 @@ source_of token =
 -- a source of which more can be read in another turn
 abbrev pub to_read : (token : ℕ) → Ready
 to_read token = record { token = token; readable = true; writable = false; closed = false; again = true }
+
+-- a link whose end is to be read in another turn
+abbrev pub to_end : (token : ℕ) → Ready
+to_end token = record (to_read token) { closed = true }
+
+-- what waits once a link was read, by what the read tells: the rest, its end, or nothing, since the poll tells when it brings more
+abbrev pub after_read : Reading → (token : ℕ) → List Ready → List Ready
+after_read reading.More token later = later ++ to_read token ∷ []
+after_read reading.Last token later = later ++ to_end token ∷ []
+after_read reading.All token later = later
+after_read reading.End token later = later
 
 -- a link of which more can be read in another turn, and not only its end
 abbrev pub reads_link : Ready → Bool

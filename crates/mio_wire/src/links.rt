@@ -2,7 +2,7 @@
 ghost use Rattle.std.specs.Prelude.{◌≡◌, ◌≢◌, ℕ, ◌+◌, ◌≤◌, ◌<◌, ◌^◌, [], ◌∷◌, ◌++◌, Some, OnOk, OnErr, OnSome, IfSome, IfNone, IfOk, All, Contains, false, ◌&&◌, ◌||◌, nat_lt, length, take, option_map, slice_get, vec_len, vec_capacity};
 ghost use Rattle.std.specs.Io.KnownBytes.{Appends};
 ghost use Rattle.mio_wire.specs.declared.links.Reading.TheVariants.{End};
-ghost use Rattle.mio_wire.specs.Linked.{IsCounted, IsRising, dropped, noted, numbers, without};
+ghost use Rattle.mio_wire.specs.Linked.{IsCounted, IsRising, dropped, noted, numbers, reading_of, without};
 
 use crate::inbox::{Inbox, MOST_READ};
 use crate::turns::Ready;
@@ -55,6 +55,7 @@ impl Link {
         ensures number { self.new.number ≡ self.old.number }
         ensures link { inbox.new.link ≡ self.old.number }
         ensures end { result ≡ End → length inbox.new.left ≡ 0 }
+        ensures reading { 1 ≤ length inbox.new.left → result ≡ reading_of (length inbox.new.left) self.old.closed }
     {
         let reading = match inbox.fill(self.number, &mut self.stream) {
             Ok(0) => return Reading::End,
@@ -166,6 +167,7 @@ impl Links {
         ensures link { Contains (numbers self.old.list.items) inbox.new.link }
         ensures number { option_map (λ l. l.number) (slice_get self.old.list.items place) ≡ Some inbox.new.link }
         ensures end { result ≡ End → length inbox.new.left ≡ 0 }
+        ensures reading { 1 ≤ length inbox.new.left → IfSome (slice_get self.old.list.items place) (λ l. result ≡ reading_of (length inbox.new.left) l.closed) }
         ensures same { (numbers self.new.list.items ≡ numbers self.old.list.items) × (self.new.made ≡ self.old.made) }
         ensures others { (number : ℕ) → option_map (λ l. l.number) (slice_get self.old.list.items place) ≡ Some number → without number self.new.list.items ≡ without number self.old.list.items }
     {

@@ -2,7 +2,7 @@
 ghost use Rattle.std.specs.Prelude.{◌≡◌, ◌==◌, ◌≢◌, ◌↔◌, ◌+◌, ◌-◌, ◌^◌, true, false, List, [], ◌∷◌, ◌++◌, OnOk, OnErr, IsTrue, min, slice_get, ◌<◌, ◌≤◌, vec_len, vec_capacity};
 ghost use Rattle.std.specs.List.{list_any};
 ghost use Rattle.mio_wire.specs.declared.turns.Ready.{Ready};
-ghost use Rattle.mio_wire.specs.Sources.{reads_link, source_of, to_read, with_waiting};
+ghost use Rattle.mio_wire.specs.Sources.{reads_link, source_of, to_end, to_read, with_waiting};
 
 use mio::Events;
 use mio::event::Event;
@@ -77,7 +77,7 @@ impl Ready {
 
     /// A link whose end is to be read.
     pub(crate) fn to_end(token: usize) -> Ready
-        ensures { result ≡ record (to_read token) { closed = true } }
+        ensures { result ≡ to_end token }
     {
         Ready {
             closed: true,

@@ -3,8 +3,8 @@ ghost use Rattle.std.specs.Prelude.{◌≡◌, ◌+◌, ◌<◌, ◌≤◌, ◌^
 ghost use Rattle.mio_wire.specs.Arrivals.{IsArrival, IsMail, IsUnasked, Steps};
 ghost use Rattle.mio_wire.specs.Dialled.{AnswersStep};
 ghost use Rattle.mio_wire.specs.Held.{BringsAt, NamesStep, OpensAt, listening_of};
-ghost use Rattle.mio_wire.specs.Linked.{TellsStep, numbers, without};
-ghost use Rattle.mio_wire.specs.Sources.{waiting_after};
+ghost use Rattle.mio_wire.specs.Linked.{TellsStep, numbers, reading_of, without};
+ghost use Rattle.mio_wire.specs.Sources.{after_read, waiting_after};
 ghost use Rattle.mio_wire.specs.Unread.{IsHeld};
 
 use super::Sockets;
@@ -309,6 +309,7 @@ impl Sockets {
         requires at { option_map (λ l. l.number) (slice_get links.old.list.items place) ≡ Some number }
         requires there { Contains (numbers links.old.list.items) number }
         ensures link { 1 ≤ length self.new.inbox.left → self.new.inbox.link ≡ number }
+        ensures later { OnOk result (1 ≤ length self.new.inbox.left → IfSome (slice_get links.old.list.items place) (λ l. self.new.turns.later.items ≡ after_read (reading_of (length self.new.inbox.left) l.closed) number self.old.turns.later.items)) }
         ensures others { without number links.new.list.items ≡ without number links.old.list.items }
         ensures tells { IfOk result (TellsStep (numbers links.old.list.items)) }
         ensures names { IfOk result (NamesStep (listening_of self.old)) }
