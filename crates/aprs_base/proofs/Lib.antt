@@ -1,5 +1,6 @@
 pub mod CallLemmas
 pub mod CutLemmas
 pub mod PlaceLemmas
+pub mod ScriptLemmas
 pub mod SlotLemmas
 pub mod StepLemmas

@@ -1,6 +1,6 @@
 //! The network: listeners, links that come and go, and datagrams.
 ghost use Rattle.std.specs.Prelude.{◌≡◌, ◌↔◌, ℕ, ◌+◌, ◌≤◌, ◌∷◌, ◌++◌, [], Some, None, IsErr, IsOk, OnOk, OnErr, IsErrOf, IfOk, IsTrue, true, false, drop};
-ghost use Rattle.aprs_base.specs.WireScript.{after_act, after_listen, after_next, after_send, next_event, outcome_of, script_of, shown_by};
+ghost use Rattle.aprs_base.specs.WireScript.{after_act, after_listen, after_next, after_send, links_after, next_event, outcome_of, script_of, shown_by};
 ghost use Rattle.aprs_base.specs.Outside.{AfterAct, AfterListen, AfterNext, AfterSend, Told, WireShown, are_numbered, new_link, with_cast, with_closed, with_dial};
 
 use crate::events::{Came, Event, Happening, Sent, WireError, copy_event};
@@ -106,6 +106,27 @@ fn new_link_of(event: &Event) -> Option<u32>
     }
 }
 
+/// The event at a place, and Stop after the last.
+fn event_at(events: &[Event], at: usize) -> Event
+    ensures { result ≡ next_event (drop at events.now) }
+{
+    events.get(at).map_or(Event::Stop, copy_event)
+}
+
+/// The place of the event after, and the same past the last.
+fn place_after(events: &[Event], at: usize) -> usize
+    ensures { drop result events.now ≡ drop 1 (drop at events.now) }
+{
+    if at < events.len() { at + 1 } else { at }
+}
+
+/// How many links were made, with the one that an event brings.
+fn links_with(links: u32, event: &Event) -> u32
+    ensures { result ≡ links_after links (new_link event.now) }
+{
+    new_link_of(event).unwrap_or(links)
+}
+
 /// Whether the links that the events bring are numbered in order from 1.
 fn are_in_order(events: &[Event]) -> bool
     ensures { result ≡ are_numbered 0 events.now }
@@ -183,9 +204,7 @@ impl MemWire {
         let came = Came::of(self.alloc, event)?;
         self.done.push(Happening::Event(came))?;
         self.nexts = self.nexts.saturating_add(1);
-        if let Some(link) = new_link_of(event) {
-            self.links = link;
-        }
+        self.links = links_with(self.links, event);
         Ok(())
     }
 }
@@ -213,6 +232,7 @@ impl Wire for MemWire {
         Ok(())
     }
 
+    #[tactic(auto, using(crate::proofs::ScriptLemmas::numbered_next))]
     fn next(&mut self) -> Result<Event, WireError>
         ensures next { AfterNext (shown_by self.old) (shown_by self.new) result }
         ensures failed { IsErrOf result WireError.Failed ↔ (self.old.fail_next ≡ Some self.old.nexts) }
@@ -225,20 +245,12 @@ impl Wire for MemWire {
             self.stops = self.stops.saturating_add(1);
             return Err(WireError::Failed);
         }
-        let Some(event) = self.events.get(self.at) else {
-            let came = Came::of(self.alloc, &Event::Stop)?;
-            self.done.push(Happening::Event(came))?;
-            self.nexts = calls.saturating_add(1);
-            return Ok(Event::Stop);
-        };
-        let came = Came::of(self.alloc, event)?;
-        let event = copy_event(event);
+        let event = event_at(self.events.as_slice(), self.at);
+        let came = Came::of(self.alloc, &event)?;
         self.done.push(Happening::Event(came))?;
         self.nexts = calls.saturating_add(1);
-        self.at += 1;
-        if let Some(link) = new_link_of(&event) {
-            self.links = link;
-        }
+        self.at = place_after(self.events.as_slice(), self.at);
+        self.links = links_with(self.links, &event);
         Ok(event)
     }
 

@@ -9,7 +9,7 @@ use Rattle.aprs_conf.specs.declared.types.Listen.{Listen}
 use Rattle.aprs_conf.specs.Seen.{ConfSeen}
 use Rattle.aprs_conf.specs.Words.{words_of}
 use Rattle.aprs_conf.specs.Arguments.{time_of, ip_of, code_of, port_of}
-use Rattle.aprs_conf.specs.Grammar.{conf_of, after}
+use Rattle.aprs_conf.specs.Grammar.{after, conf_of, group_says, listen_says, uplink_says}
 
 listen : List ℕ → PortKind → List ℕ → ℕ → Bool → Listen
 listen name kind ip port idle = record { name = name; spec = record { kind = kind; at = record { ip = ip; port = port } }; idle = idle }
@@ -31,12 +31,12 @@ plain listens = record {
 }
 
 five_listens : conf_of (codes "ServerId T2TEST" ++ (10 ∷ [] ++ (codes "PassCode 8385" ++ (10 ∷ [] ++ (codes "Listen \"full\" fullfeed tcp 0.0.0.0 10152" ++ (10 ∷ [] ++ (codes "Listen \"filt\" igate tcp 0.0.0.0 14580" ++ (10 ∷ [] ++ (codes "Listen \"sub\" udpsubmit udp 0.0.0.0 8080" ++ (10 ∷ [] ++ (codes "Listen \"dup\" dupefeed tcp 0.0.0.0 20152" ++ (10 ∷ [] ++ (codes "Listen \"only\" clientonly tcp 0.0.0.0 14579" ++ (10 ∷ [])))))))))))))) ≡ Ok (plain (listen (codes "full") kind.Full (0 ∷ 0 ∷ 0 ∷ 0 ∷ []) 10152 false ∷ listen (codes "filt") kind.Igate (0 ∷ 0 ∷ 0 ∷ 0 ∷ []) 14580 false ∷ listen (codes "sub") kind.Submit (0 ∷ 0 ∷ 0 ∷ 0 ∷ []) 8080 false ∷ listen (codes "dup") kind.Dupe (0 ∷ 0 ∷ 0 ∷ 0 ∷ []) 20152 false ∷ listen (codes "only") kind.Only (0 ∷ 0 ∷ 0 ∷ 0 ∷ []) 14579 false ∷ []))
-unfolding listen plain conf_of after
+unfolding listen plain conf_of after group_says listen_says uplink_says
 five_listens = refl
 
 -- lines may end in CR LF
 ends_with_return : conf_of (codes "ServerId T2TEST" ++ (13 ∷ [] ++ (10 ∷ [] ++ (codes "PassCode 8385" ++ (13 ∷ [] ++ (10 ∷ [] ++ (codes "Listen \"full\" fullfeed tcp 0.0.0.0 10152" ++ (13 ∷ [] ++ (10 ∷ [] ++ (codes "Listen \"filt\" igate tcp 0.0.0.0 14580" ++ (13 ∷ [] ++ (10 ∷ [] ++ (codes "Listen \"sub\" udpsubmit udp 0.0.0.0 8080" ++ (13 ∷ [] ++ (10 ∷ [] ++ (codes "Listen \"dup\" dupefeed tcp 0.0.0.0 20152" ++ (13 ∷ [] ++ (10 ∷ [] ++ (codes "Listen \"only\" clientonly tcp 0.0.0.0 14579" ++ (13 ∷ [] ++ (10 ∷ []))))))))))))))))))))) ≡ Ok (plain (listen (codes "full") kind.Full (0 ∷ 0 ∷ 0 ∷ 0 ∷ []) 10152 false ∷ listen (codes "filt") kind.Igate (0 ∷ 0 ∷ 0 ∷ 0 ∷ []) 14580 false ∷ listen (codes "sub") kind.Submit (0 ∷ 0 ∷ 0 ∷ 0 ∷ []) 8080 false ∷ listen (codes "dup") kind.Dupe (0 ∷ 0 ∷ 0 ∷ 0 ∷ []) 20152 false ∷ listen (codes "only") kind.Only (0 ∷ 0 ∷ 0 ∷ 0 ∷ []) 14579 false ∷ []))
-unfolding listen plain conf_of after
+unfolding listen plain conf_of after group_says listen_says uplink_says
 ends_with_return = refl
 
 nothing : conf_of ([]) ≡ Err (cause.Missing needed.ServerId)
@@ -68,19 +68,19 @@ unfolding listen plain conf_of after
 no_time = refl
 
 no_host : conf_of (codes "Uplink u full tcp \"\" 1") ≡ Err (cause.Line 1 fault.BadHost)
-unfolding listen plain conf_of after
+unfolding listen plain conf_of after group_says listen_says uplink_says
 no_host = refl
 
 seventeen : conf_of (codes "Listen a fullfeed tcp :: 1" ++ (10 ∷ [] ++ (codes "Listen a fullfeed tcp :: 1" ++ (10 ∷ [] ++ (codes "Listen a fullfeed tcp :: 1" ++ (10 ∷ [] ++ (codes "Listen a fullfeed tcp :: 1" ++ (10 ∷ [] ++ (codes "Listen a fullfeed tcp :: 1" ++ (10 ∷ [] ++ (codes "Listen a fullfeed tcp :: 1" ++ (10 ∷ [] ++ (codes "Listen a fullfeed tcp :: 1" ++ (10 ∷ [] ++ (codes "Listen a fullfeed tcp :: 1" ++ (10 ∷ [] ++ (codes "Listen a fullfeed tcp :: 1" ++ (10 ∷ [] ++ (codes "Listen a fullfeed tcp :: 1" ++ (10 ∷ [] ++ (codes "Listen a fullfeed tcp :: 1" ++ (10 ∷ [] ++ (codes "Listen a fullfeed tcp :: 1" ++ (10 ∷ [] ++ (codes "Listen a fullfeed tcp :: 1" ++ (10 ∷ [] ++ (codes "Listen a fullfeed tcp :: 1" ++ (10 ∷ [] ++ (codes "Listen a fullfeed tcp :: 1" ++ (10 ∷ [] ++ (codes "Listen a fullfeed tcp :: 1" ++ (10 ∷ [] ++ (codes "Listen a fullfeed tcp :: 1"))))))))))))))))))))))))))))))))) ≡ Err (cause.Line 17 fault.TooMany)
-unfolding listen plain conf_of after
+unfolding listen plain conf_of after group_says listen_says uplink_says
 seventeen = refl
 
 no_kind : conf_of (codes "ServerId T2TEST" ++ (10 ∷ [] ++ (codes "PassCode 8385" ++ (10 ∷ [] ++ (codes "Listen \"full\" fullfeed tcp 0.0.0.0 10152" ++ (10 ∷ [] ++ (codes "Listen \"x\" fullfed tcp 0.0.0.0 1" ++ (10 ∷ [])))))))) ≡ Err (cause.Line 4 fault.BadKind)
-unfolding listen plain conf_of after
+unfolding listen plain conf_of after group_says listen_says uplink_says
 no_kind = refl
 
 no_server : conf_of (codes "PassCode 8385" ++ (10 ∷ [] ++ (codes "Listen \"full\" fullfeed tcp 0.0.0.0 10152" ++ (10 ∷ [] ++ (codes "Listen \"filt\" igate tcp 0.0.0.0 14580" ++ (10 ∷ [] ++ (codes "Listen \"sub\" udpsubmit udp 0.0.0.0 8080" ++ (10 ∷ [] ++ (codes "Listen \"dup\" dupefeed tcp 0.0.0.0 20152" ++ (10 ∷ [] ++ (codes "Listen \"only\" clientonly tcp 0.0.0.0 14579" ++ (10 ∷ [])))))))))))) ≡ Err (cause.Missing needed.ServerId)
-unfolding listen plain conf_of after
+unfolding listen plain conf_of after group_says listen_says uplink_says
 no_server = refl
 
 no_code : conf_of (codes "ServerId T2TEST" ++ (10 ∷ [])) ≡ Err (cause.Missing needed.PassCode)
@@ -92,12 +92,12 @@ unfolding listen plain conf_of after
 no_listen = refl
 
 name_with_blanks : conf_of (codes "ServerId T2TEST" ++ (10 ∷ [] ++ (codes "PassCode 8385" ++ (10 ∷ [] ++ (codes "Listen \"a b\" fullfeed tcp :: 1"))))) ≡ Ok (plain (listen (codes "a b") kind.Full (0 ∷ 0 ∷ 0 ∷ 0 ∷ []) 1 false ∷ []))
-unfolding listen plain conf_of after
+unfolding listen plain conf_of after group_says listen_says uplink_says
 name_with_blanks = refl
 
 -- remarks and empty lines are skipped
 remarks : conf_of (codes "# a \"remark" ++ (10 ∷ [] ++ (10 ∷ [] ++ (codes "ServerId T2TEST" ++ (10 ∷ [] ++ (codes "PassCode 8385" ++ (10 ∷ [] ++ (9 ∷ [] ++ (codes "#  x" ++ (10 ∷ [] ++ (codes "\"#y\" z" ++ (10 ∷ [] ++ (codes "  " ++ (9 ∷ [] ++ (codes " " ++ (10 ∷ [] ++ (codes "Listen a fullfeed tcp 1.2.3.4 1 hidden" ++ (10 ∷ [])))))))))))))))))) ≡ Ok (plain (listen (codes "a") kind.Full (1 ∷ 2 ∷ 3 ∷ 4 ∷ []) 1 false ∷ []))
-unfolding listen plain conf_of after
+unfolding listen plain conf_of after group_says listen_says uplink_says
 remarks = refl
 
 -- but a word without its end is none
@@ -107,12 +107,12 @@ remark_in_open_quote = refl
 
 -- an idle listen is enough
 idle : conf_of (codes "ServerId T2TEST" ++ (10 ∷ [] ++ (codes "PassCode 8385" ++ (10 ∷ [] ++ (codes "listen a igate udp 0.0.0.0 8080" ++ (10 ∷ [])))))) ≡ Ok (plain (listen (codes "a") kind.Igate (0 ∷ 0 ∷ 0 ∷ 0 ∷ []) 8080 true ∷ []))
-unfolding listen plain conf_of after
+unfolding listen plain conf_of after group_says listen_says uplink_says
 idle = refl
 
 -- `hidden` has case
 sixth : conf_of (codes "ServerId T2TEST" ++ (10 ∷ [] ++ (codes "PassCode 8385" ++ (10 ∷ [] ++ (codes "Listen a igate tcp :: 1 Hidden" ++ (10 ∷ [])))))) ≡ Err (cause.Line 3 fault.BadCount)
-unfolding listen plain conf_of after
+unfolding listen plain conf_of after group_says listen_says uplink_says
 sixth = refl
 
 text_twice : conf_of (codes "MyAdmin a b" ++ (10 ∷ [])) ≡ Err (cause.Line 1 fault.BadCount)
@@ -134,11 +134,11 @@ unfolding listen plain conf_of after
 repeated_first = refl
 
 count_first : conf_of (codes "Listen a b" ++ (10 ∷ [])) ≡ Err (cause.Line 1 fault.BadCount)
-unfolding listen plain conf_of after
+unfolding listen plain conf_of after group_says listen_says uplink_says
 count_first = refl
 
 from_the_left : conf_of (codes "Listen a igate tcp 1.2.3 x" ++ (10 ∷ [])) ≡ Err (cause.Line 1 fault.BadAddr)
-unfolding listen plain conf_of after
+unfolding listen plain conf_of after group_says listen_says uplink_says
 from_the_left = refl
 
 -- of two bad lines the first
@@ -147,35 +147,35 @@ unfolding listen plain conf_of after
 first_line = refl
 
 dupes_by_datagram : conf_of (codes "Listen a dupefeed udp :: 1") ≡ Err (cause.Line 1 fault.BadKind)
-unfolding listen plain conf_of after
+unfolding listen plain conf_of after group_says listen_says uplink_says
 dupes_by_datagram = refl
 
 submissions_by_stream : conf_of (codes "Listen a udpsubmit tcp :: 1") ≡ Err (cause.Line 1 fault.BadKind)
-unfolding listen plain conf_of after
+unfolding listen plain conf_of after group_says listen_says uplink_says
 submissions_by_stream = refl
 
 port_zero : conf_of (codes "Listen a igate tcp :: 0") ≡ Err (cause.Line 1 fault.BadNumber)
-unfolding listen plain conf_of after
+unfolding listen plain conf_of after group_says listen_says uplink_says
 port_zero = refl
 
 leading_zero : conf_of (codes "Listen a igate tcp :: 01") ≡ Err (cause.Line 1 fault.BadNumber)
-unfolding listen plain conf_of after
+unfolding listen plain conf_of after group_says listen_says uplink_says
 leading_zero = refl
 
 ninth_uplink : conf_of (codes "Uplink u full tcp h 1" ++ (10 ∷ [] ++ (codes "Uplink u full tcp h 1" ++ (10 ∷ [] ++ (codes "Uplink u full tcp h 1" ++ (10 ∷ [] ++ (codes "Uplink u full tcp h 1" ++ (10 ∷ [] ++ (codes "Uplink u full tcp h 1" ++ (10 ∷ [] ++ (codes "Uplink u full tcp h 1" ++ (10 ∷ [] ++ (codes "Uplink u full tcp h 1" ++ (10 ∷ [] ++ (codes "Uplink u full tcp h 1" ++ (10 ∷ [] ++ (codes "Uplink u full tcp h 1" ++ (10 ∷ [])))))))))))))))))) ≡ Err (cause.Line 9 fault.TooMany)
-unfolding listen plain conf_of after
+unfolding listen plain conf_of after group_says listen_says uplink_says
 ninth_uplink = refl
 
 no_peers : conf_of (codes "PeerGroup g udp :: 1" ++ (10 ∷ [])) ≡ Err (cause.Line 1 fault.BadCount)
-unfolding listen plain conf_of after
+unfolding listen plain conf_of after group_says listen_says uplink_says
 no_peers = refl
 
 ninth_peer : conf_of (codes "PeerGroup g udp :: 1 A :: 1 A :: 1 A :: 1 A :: 1 A :: 1 A :: 1 A :: 1 A :: 1 A :: 1") ≡ Err (cause.Line 1 fault.BadCount)
-unfolding listen plain conf_of after
+unfolding listen plain conf_of after group_says listen_says uplink_says
 ninth_peer = refl
 
 peer_construct : conf_of (codes "PeerGroup g udp :: 1 qAC :: 1") ≡ Err (cause.Line 1 fault.BadCall)
-unfolding listen plain conf_of after
+unfolding listen plain conf_of after group_says listen_says uplink_says
 peer_construct = refl
 
 -- every kind of line once
@@ -192,7 +192,7 @@ whole : conf_of (codes "ServerId T2TEST" ++ (10 ∷ codes "PASSCODE 08385" ++ (1
   client_timeout = 172800;
   max_clients = 10000;
 })
-unfolding listen conf_of after
+unfolding listen conf_of after group_says listen_says uplink_says
 whole = refl
 
 -- words

@@ -18,7 +18,7 @@ use Rattle.aprs_conf.specs.declared.reading.LineWord.TheVariants as word
 use Rattle.aprs_conf.specs.declared.types.Listen.{Listen}
 use Rattle.aprs_conf.specs.declared.types.PeerSpec.{PeerSpec}
 use Rattle.aprs_conf.specs.Arguments.{PortRow, clients_of, code_of, host_of, ip_of, kind_of, port_of, ports, same, station_of, time_of, udp}
-use Rattle.aprs_conf.specs.Grammar.{after, at_line, at_of, conf_of, conf_with, drafted, empty, filled, five_of, group_in, is_full, is_group, is_hidden_at_most, line_says, listen_in, listen_of, need, next, one_of, peer_of, peers_from, says, time_in_line, unless, uplink_in, was_said, with_listen, with_uplink, word_of, group_says}
+use Rattle.aprs_conf.specs.Grammar.{after, at_line, at_of, conf_of, conf_with, drafted, empty, filled, five_of, group_in, group_says, is_full, is_group, is_hidden_at_most, line_says, listen_in, listen_of, listen_says, need, next, one_of, peer_of, peers_from, says, time_in_line, unless, uplink_in, uplink_says, was_said, with_listen, with_uplink, word_of}
 use Rattle.aprs_base.specs.ResultSteps.{◌>>=◌}
 use Rattle.aprs_conf.specs.Seen.{ConfSeen, DraftSeen}
 use Rattle.aprs_conf.specs.Sound.{IsWithin}
@@ -241,6 +241,7 @@ group_in_writable (name ∷ proto ∷ address ∷ port ∷ more) words =
 group_in_writable _ words = tt
 
 group_writable : (draft : DraftSeen) (args : List (List ℕ)) → WritableDraft draft → Each IsWord args → IfOk (group_says draft args) WritableDraft
+unfolding group_says
 group_writable draft args s words =
     unless_ok WritableDraft (not (is_group args)) fault.BadCount _ (λ count.
     then_ok (ReadGroup args) _ (group_in args) _ (group_in_writable args words) (λ group own.
@@ -257,6 +258,7 @@ group_writable draft args s words =
 -- ---- lines
 
 says_writable : (w : LineWord) (draft : DraftSeen) (args : List (List ℕ)) → WritableDraft draft → Each IsWord args → IfOk (says w draft args) WritableDraft
+unfolding group_says listen_says uplink_says
 says_writable word.ServerId draft args s words =
     wanted IsWord _ fault.BadCount (one_of args) _ (one_word args words) (λ text own. wanted WritableCall _ fault.BadCall (station_of text) _ (station_writable text own) (λ call is. assumption))
 says_writable word.PassCode draft args s words =

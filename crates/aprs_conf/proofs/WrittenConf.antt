@@ -14,7 +14,7 @@ use Rattle.aprs_conf.specs.declared.errors.ConfFault.TheVariants as fault
 use Rattle.aprs_conf.specs.declared.types.Listen.{Listen}
 use Rattle.aprs_conf.specs.declared.types.PeerSpec.{PeerSpec}
 use Rattle.aprs_conf.specs.Arguments.{port_of, tcp, udp}
-use Rattle.aprs_conf.specs.Grammar.{after, at_line, at_of, conf_of, conf_with, drafted, empty, is_group, line_says, listen_in, next, peer_of, peers_from, unless, uplink_in, with_listen, with_uplink, words_say, group_says}
+use Rattle.aprs_conf.specs.Grammar.{after, at_line, at_of, conf_of, conf_with, drafted, empty, group_says, is_group, line_says, listen_in, listen_says, next, peer_of, peers_from, unless, uplink_in, uplink_says, with_listen, with_uplink, words_say}
 use Rattle.aprs_base.specs.ResultSteps.{◌>>=◌}
 use Rattle.aprs_conf.specs.Seen.{ConfSeen, DraftSeen}
 use Rattle.aprs_conf.specs.Words.{closed, has_open, lines_of}
@@ -97,6 +97,7 @@ listen_is_line : (listen : Listen) → WritableListen listen → IsLine (listen_
 listen_is_line listen is = (refl, rw (is.name, is.service.kind, is.service.proto, ip_word listen.spec.at.ip is.at.ip, port_word listen.spec.at.port is.at.port) refl)
 
 one_listen_says : (draft : DraftSeen) (listen : Listen) → WritableListen listen → length draft.listens < 16 → line_says draft (listen_line listen) ≡ Ok (record draft { listens = draft.listens ++ listen ∷ [] })
+unfolding listen_says group_says uplink_says
 one_listen_says draft listen is room =
     ap (λ (r : Result Listen ConfFault). r >>= with_listen draft) (listen_again listen is)
     ∙ ap (λ full. unless full fault.TooMany (Ok (record draft { listens = draft.listens ++ listen ∷ [] }))) (lt-leb 16 (length draft.listens) room)
@@ -119,6 +120,7 @@ uplink_is_line : (uplink : UplinkSeen) → WritableUplink uplink → IsLine (upl
 uplink_is_line uplink is = (refl, rw (is.word, port_word uplink.port is.port) refl)
 
 one_uplink_says : (draft : DraftSeen) (uplink : UplinkSeen) → WritableUplink uplink → length draft.uplinks < 8 → line_says draft (uplink_line uplink) ≡ Ok (record draft { uplinks = draft.uplinks ++ uplink ∷ [] })
+unfolding uplink_says group_says listen_says
 one_uplink_says draft uplink is room =
     ap (λ (r : Result UplinkSeen ConfFault). r >>= with_uplink draft) (uplink_again uplink is)
     ∙ ap (λ full. unless full fault.TooMany (Ok (record draft { uplinks = draft.uplinks ++ uplink ∷ [] }))) (lt-leb 8 (length draft.uplinks) room)
@@ -170,6 +172,7 @@ group_counted at peers is =
     rw (le-leb 7 n low, le-leb n 28 high, eq-eqb (n % 3) 1 third) refl
 
 one_group_says : (draft : DraftSeen) (at : Addr) (peers : List PeerSpec) → WritablePeers at peers → group_says draft (group_args at peers) ≡ Ok (record draft { group = Some at; peers = peers })
+unfolding group_says
 one_group_says draft at peers is = rw (group_counted at peers is, at_again at is.at, peers_again [] peers is.each) refl
 
 group_is_line : (at : Addr) (peers : List PeerSpec) → WritablePeers at peers → IsLine (group_line at peers)

@@ -26,6 +26,7 @@ spelled_feed true word h = rw (list_all-append no_feed word (32 ∷ []), h) refl
 spelled_feed false word h = rw (append_assoc word (34 ∷ []) (32 ∷ []), list_all-append no_feed word (34 ∷ 32 ∷ []), h) refl
 
 line_feed : (words : List (List ℕ)) → list_all is_word words ≡ true → list_all no_feed (flat_map word_text words) ≡ true
+unfolding word_text
 line_feed [] h = refl
 line_feed (word ∷ words) h =
     let parts = and_parts (is_word word) (list_all is_word words) h in
@@ -34,6 +35,7 @@ line_feed (word ∷ words) h =
 
 -- and ends in a blank
 ends : (words : List (List ℕ)) (word : List ℕ) → (front : List ℕ) × (flat_map word_text (word ∷ words) ≡ front ++ 32 ∷ [])
+unfolding word_text
 ends [] word = (spelled word, append-nil (word_text word))
 ends (next ∷ words) word =
     let more = ends words next in
@@ -47,6 +49,7 @@ keeps_blank front =
 
 -- so a written line is a line
 pub line_read : (word : List ℕ) (words : List (List ℕ)) (rest : List ℕ) → list_all is_word (word ∷ words) ≡ true → lines_of (line_text (word ∷ words) ++ rest) ≡ flat_map word_text (word ∷ words) ∷ lines_of rest
+unfolding line_text
 line_read word words rest h =
     let line : List ℕ = flat_map word_text (word ∷ words) in
     let end = ends words word in

@@ -47,6 +47,7 @@ written_by true word rest is h = bare_first word rest is
 written_by false word rest is h = rw (append_assoc word (34 ∷ []) (32 ∷ rest)) (quoted_read word (32 ∷ rest) h)
 
 pub word_read : (word rest : List ℕ) → is_word word ≡ true → words_of (word_text word ++ rest) ≡ Some word ∷ words_of rest
+unfolding word_text
 word_read word rest h =
     let parts = and_parts (list_all no_feed word) _ h in
     rw (append_assoc (spelled word) (32 ∷ []) rest) (written_by (is_bare word) word rest refl parts.1)

@@ -71,7 +71,7 @@ abbrev pub with_listen : DraftSeen → Listen → Result DraftSeen ConfFault
 with_listen draft listen =
     unless (nat_le 16 (length draft.listens)) fault.TooMany (Ok (record draft { listens = draft.listens ++ listen ∷ [] }))
 
-abbrev pub listen_says : DraftSeen → List (List ℕ) → Result DraftSeen ConfFault
+unfoldable pub listen_says : DraftSeen → List (List ℕ) → Result DraftSeen ConfFault
 listen_says draft args = listen_in args >>= with_listen draft
 
 -- `Uplink NAME full tcp HOST PORT`
@@ -90,7 +90,7 @@ abbrev pub with_uplink : DraftSeen → UplinkSeen → Result DraftSeen ConfFault
 with_uplink draft uplink =
     unless (nat_le 8 (length draft.uplinks)) fault.TooMany (Ok (record draft { uplinks = draft.uplinks ++ uplink ∷ [] }))
 
-abbrev pub uplink_says : DraftSeen → List (List ℕ) → Result DraftSeen ConfFault
+unfoldable pub uplink_says : DraftSeen → List (List ℕ) → Result DraftSeen ConfFault
 uplink_says draft args = uplink_in args >>= with_uplink draft
 
 abbrev pub peer_of : List ℕ → List ℕ → List ℕ → Result PeerSpec ConfFault
@@ -111,7 +111,7 @@ group_in (name ∷ proto ∷ address ∷ port ∷ more) = unless (not (same prot
 group_in _ = Err fault.BadCount
 
 -- and behind it `CALL ADDR PORT` for each peer
-abbrev pub group_says : DraftSeen → List (List ℕ) → Result DraftSeen ConfFault
+unfoldable pub group_says : DraftSeen → List (List ℕ) → Result DraftSeen ConfFault
 group_says draft args = unless (not (is_group args)) fault.BadCount (do
   group ← group_in args
   peers ← peers_from [] group.1

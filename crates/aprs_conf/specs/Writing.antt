@@ -26,10 +26,10 @@ abbrev pub spelled : List ℕ → List ℕ
 spelled word = if is_bare word then word else in_quotes word
 
 -- a blank stands behind each word, so a CR that ends a word is no part of the line's end
-abbrev pub word_text : List ℕ → List ℕ
+unfoldable pub word_text : List ℕ → List ℕ
 word_text word = spelled word ++ 32 ∷ []
 
-abbrev pub line_text : List (List ℕ) → List ℕ
+unfoldable pub line_text : List (List ℕ) → List ℕ
 line_text words = flat_map word_text words ++ 10 ∷ []
 
 -- ---- arguments

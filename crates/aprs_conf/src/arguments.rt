@@ -4,7 +4,7 @@ ghost use Rattle.std.specs.List.{list_all, slice_split};
 ghost use Rattle.std.specs.Option.{option_map};
 ghost use Rattle.aprs_base.specs.Bytes.{is_digit};
 ghost use Rattle.login_pass.specs.Login.{number_from};
-ghost use Rattle.aprs_conf.specs.Arguments.{clients_of, host_of, ip_of, is_dot, is_plain, kind_of, last_in, octet_of, octets_in, port_of, same, seconds_of, station_of, time_of};
+ghost use Rattle.aprs_conf.specs.Arguments.{clients_of, four, host_of, ip_of, is_dot, is_plain, kind_of, last_in, octet_of, octets_in, port_of, same, seconds_of, station_of, time_of};
 
 use aprs_base::{Call, PortKind, all_digits, first_place};
 use arrayvec::ArrayVec;
@@ -14,7 +14,7 @@ use login_pass::code_number;
 const LONGEST: u32 = 10_000_000;
 
 /// What a listener serves, and whether it is idle.
-#[derive(Clone, Copy, PartialEq, Eq, Debug)]
+#[derive(Clone, Copy)]
 pub struct Service {
     pub kind: PortKind,
     pub idle: bool,
@@ -132,18 +132,25 @@ fn last_octet(text: &[u8]) -> Option<u8>
     }
 }
 
+/// The numbers of four parts, where no dot follows the last.
+fn four_octets(first: &[u8], second: &[u8], third: &[u8], last: &[u8]) -> Option<[u8; 4]>
+    ensures { result ≡ four (octet_of first.now) (octet_of second.now) (octet_of third.now) (last_in (slice_split is_dot last.now)) }
+{
+    Some([
+        octet(first)?,
+        octet(second)?,
+        octet(third)?,
+        last_octet(last)?,
+    ])
+}
+
 fn octets(text: &[u8]) -> Option<[u8; 4]>
     ensures { result ≡ octets_in (slice_split is_dot text.now) }
 {
     let (first, rest) = cut_dot(text)?;
     let (second, rest) = cut_dot(rest)?;
-    let (third, rest) = cut_dot(rest)?;
-    Some([
-        octet(first)?,
-        octet(second)?,
-        octet(third)?,
-        last_octet(rest)?,
-    ])
+    let (third, last) = cut_dot(rest)?;
+    four_octets(first, second, third, last)
 }
 
 /// An IPv4 address; `::` stands for every address.

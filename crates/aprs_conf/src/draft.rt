@@ -1,16 +1,17 @@
 //! What the lines so far have said, and what each kind of line adds.
-ghost use Rattle.std.specs.Prelude.{◌≡◌, ◌<◌, ◌∷◌, ◌++◌, List, Ok, Err, IfOk, MatchResult, [], length};
-ghost use Rattle.aprs_conf.specs.Grammar.{at_of, empty, group_in, group_says, is_group, listen_in, listen_says, nothing_says, peer_of, peers_from, uplink_in, uplink_says};
+ghost use Rattle.std.specs.Prelude.{◌≡◌, Some, ◌<◌, ◌∷◌, ◌++◌, List, Ok, Err, IfOk, MatchResult, [], length};
+ghost use Rattle.aprs_conf.specs.Grammar.{admin_says, at_of, clients_say, code_says, email_says, empty, group_in, group_says, is_group, listen_in, listen_says, nothing_says, peer_of, peers_from, server_says, time_in_line, timeout_says, uplink_in, uplink_says};
 ghost use Rattle.aprs_conf.specs.declared.types.PeerSpec.{PeerSpec};
 ghost use Rattle.aprs_conf.specs.Seen.{DraftSeen};
 ghost use Rattle.aprs_conf.specs.Reading.{Becomes, BecomesUnless, Fails};
 ghost use Rattle.aprs_conf.specs.Words.{arguments_of};
 
-use crate::arguments::{host, ip, is_pair, kind, port, station};
+use crate::arguments::{clients, host, ip, is_pair, kind, port, station, time};
 use crate::errors::{ConfFault, LineError};
 use crate::types::{Listen, PeerSpec};
-use crate::words::{count_arguments, five, next_argument};
+use crate::words::{count_arguments, five, four, next_argument, one};
 use aprs_base::{Addr, Call, ListenSpec, Text, UplinkSpec};
+use login_pass::code_number;
 use std::alloc::Global;
 use std::marker::Model;
 
@@ -19,7 +20,7 @@ const MOST_LISTENS: usize = 16;
 const MOST_UPLINKS: usize = 8;
 
 /// What the lines so far have said.
-#[derive(Debug, Drop)]
+#[derive(Drop)]
 pub struct Draft {
     pub server: Option<Call>,
     pub code: Option<u32>,
@@ -63,6 +64,69 @@ impl Draft {
     }
 }
 
+/// `ServerId CALL`
+pub fn add_server(draft: &mut Draft, args: &[u8]) -> Result<(), LineError>
+    ensures { BecomesUnless result draft.new (server_says draft.old (arguments_of args.now)) }
+{
+    draft.server = Some(station(one(args)?).ok_or(ConfFault::BadCall)?);
+    Ok(())
+}
+
+/// `PassCode NUMBER`
+pub fn add_code(draft: &mut Draft, args: &[u8]) -> Result<(), LineError>
+    ensures { BecomesUnless result draft.new (code_says draft.old (arguments_of args.now)) }
+{
+    draft.code = Some(code_number(one(args)?).ok_or(ConfFault::BadNumber)?);
+    Ok(())
+}
+
+/// `MyAdmin TEXT`
+pub fn add_admin(alloc: Global, draft: &mut Draft, args: &[u8]) -> Result<(), LineError>
+    ensures { BecomesUnless result draft.new (admin_says draft.old (arguments_of args.now)) }
+{
+    draft.admin = Some(Text::copied(alloc, one(args)?)?);
+    Ok(())
+}
+
+/// `MyEmail TEXT`
+pub fn add_email(alloc: Global, draft: &mut Draft, args: &[u8]) -> Result<(), LineError>
+    ensures { BecomesUnless result draft.new (email_says draft.old (arguments_of args.now)) }
+{
+    draft.email = Some(Text::copied(alloc, one(args)?)?);
+    Ok(())
+}
+
+/// The one argument as a time.
+fn one_time(args: &[u8]) -> Result<u32, ConfFault>
+    ensures { result ≡ time_in_line (arguments_of args.now) }
+{
+    time(one(args)?).ok_or(ConfFault::BadTime)
+}
+
+/// `UpstreamTimeout TIME`
+pub fn add_up_timeout(draft: &mut Draft, args: &[u8]) -> Result<(), LineError>
+    ensures { BecomesUnless result draft.new (timeout_says (λ time. record draft.old { up_timeout = Some time }) (arguments_of args.now)) }
+{
+    draft.up_timeout = Some(one_time(args)?);
+    Ok(())
+}
+
+/// `ClientTimeout TIME`
+pub fn add_client_timeout(draft: &mut Draft, args: &[u8]) -> Result<(), LineError>
+    ensures { BecomesUnless result draft.new (timeout_says (λ time. record draft.old { client_timeout = Some time }) (arguments_of args.now)) }
+{
+    draft.client_timeout = Some(one_time(args)?);
+    Ok(())
+}
+
+/// `MaxClients NUMBER`
+pub fn add_max_clients(draft: &mut Draft, args: &[u8]) -> Result<(), LineError>
+    ensures { BecomesUnless result draft.new (clients_say draft.old (arguments_of args.now)) }
+{
+    draft.max_clients = Some(clients(one(args)?).ok_or(ConfFault::BadNumber)?);
+    Ok(())
+}
+
 /// An address and a port.
 fn at(address: &[u8], number: &[u8]) -> Result<Addr, ConfFault>
     ensures { result ≡ at_of address.now number.now }
@@ -96,7 +160,24 @@ fn read_listen(args: &[u8]) -> Result<ListenRead<'_>, ConfFault>
     })
 }
 
+/// Adds a listener, whose name becomes a text of its own.
+fn push_listen(
+    alloc: Global,
+    listens: &mut Vec<Listen>,
+    read: ListenRead<'_>,
+) -> Result<(), LineError>
+    ensures { MatchResult result (λ _. listens.new.items ≡ listens.old.items ++ record { name = read.entry.name.now; spec = read.entry.spec; idle = read.entry.idle } ∷ []) (λ e. e ≡ LineError.Memory) }
+{
+    listens.push(Listen {
+        name: Text::copied(alloc, read.name)?,
+        spec: read.spec,
+        idle: read.idle,
+    })?;
+    Ok(())
+}
+
 /// `Listen NAME KIND PROTO ADDR PORT`, perhaps `hidden`
+#[tactic(auto, unfolding(crate::specs::Grammar::listen_says))]
 pub fn add_listen(alloc: Global, draft: &mut Draft, args: &[u8]) -> Result<(), LineError>
     ensures { BecomesUnless result draft.new (listen_says draft.old (arguments_of args.now)) }
 {
@@ -104,12 +185,7 @@ pub fn add_listen(alloc: Global, draft: &mut Draft, args: &[u8]) -> Result<(), L
     if draft.listens.len() >= MOST_LISTENS {
         return Err(LineError::Fault(ConfFault::TooMany));
     }
-    draft.listens.push(Listen {
-        name: Text::copied(alloc, read.name)?,
-        spec: read.spec,
-        idle: read.idle,
-    })?;
-    Ok(())
+    push_listen(alloc, &mut draft.listens, read)
 }
 
 fn read_uplink(args: &[u8]) -> Result<UplinkSpec, ConfFault>
@@ -125,6 +201,7 @@ fn read_uplink(args: &[u8]) -> Result<UplinkSpec, ConfFault>
 }
 
 /// `Uplink NAME full tcp HOST PORT`
+#[tactic(auto, unfolding(crate::specs::Grammar::uplink_says))]
 pub fn add_uplink(draft: &mut Draft, args: &[u8]) -> Result<(), LineError>
     ensures { BecomesUnless result draft.new (uplink_says draft.old (arguments_of args.now)) }
 {
@@ -183,10 +260,9 @@ fn is_group(args: &[u8]) -> bool
 fn read_group(args: &[u8]) -> Result<(Addr, &[u8]), ConfFault>
     ensures { MatchResult result (λ g. group_in (arguments_of args.now) ≡ Ok (g.0, arguments_of g.1.now)) (λ f. group_in (arguments_of args.now) ≡ Err f) }
 {
-    let (_, behind) = next_argument(args).ok_or(ConfFault::BadCount)?;
-    let (proto, behind) = next_argument(behind).ok_or(ConfFault::BadCount)?;
-    let (address, behind) = next_argument(behind).ok_or(ConfFault::BadCount)?;
-    let (number, behind) = next_argument(behind).ok_or(ConfFault::BadCount)?;
+    let Some((_, proto, address, number, behind)) = four(args) else {
+        return Err(ConfFault::BadCount);
+    };
     if proto != b"udp".as_slice() {
         return Err(ConfFault::BadKind);
     }
@@ -194,6 +270,7 @@ fn read_group(args: &[u8]) -> Result<(Addr, &[u8]), ConfFault>
 }
 
 /// `PeerGroup NAME udp ADDR PORT`, and `CALL ADDR PORT` for each peer
+#[tactic(auto, unfolding(crate::specs::Grammar::group_says))]
 pub fn add_group(alloc: Global, draft: &mut Draft, args: &[u8]) -> Result<(), LineError>
     ensures { BecomesUnless result draft.new (group_says draft.old (arguments_of args.now)) }
 {

@@ -90,7 +90,7 @@ impl<T: Drop> From<AllocFailed<T>> for ConfError {
 }
 
 /// Why a line says nothing.
-#[derive(Clone, Copy, PartialEq, Eq, Debug)]
+#[derive(Clone, Copy)]
 pub enum LineError {
     Fault(ConfFault),
     Memory,

@@ -8,17 +8,18 @@ ghost use Rattle.aprs_conf.specs.Sound.{IsSound};
 ghost use Rattle.aprs_conf.specs.Words.{arguments_of, lines_of};
 ghost use Rattle.login_pass.specs.Login.{is_keyword};
 
-use crate::arguments::{clients, station, time};
-use crate::draft::{Draft, add_group, add_listen, add_uplink, expect_argument};
+use crate::draft::{
+    Draft, add_admin, add_client_timeout, add_code, add_email, add_group, add_listen,
+    add_max_clients, add_server, add_up_timeout, add_uplink, expect_argument,
+};
 use crate::errors::{ConfError, ConfFault, ConfWord, LineError};
 use crate::types::Conf;
-use crate::words::{begins_remark, cut_line, is_unended, next_argument, one};
+use crate::words::{begins_remark, cut_line, is_unended, next_argument};
 use aprs_base::Text;
-use login_pass::code_number;
 use std::alloc::Global;
 
 /// The words that begin a line. Those without effect are one.
-#[derive(Clone, Copy, PartialEq, Eq, Debug)]
+#[derive(Clone, Copy)]
 pub enum LineWord {
     ServerId,
     PassCode,
@@ -104,27 +105,18 @@ fn add(alloc: Global, word: LineWord, draft: &mut Draft, args: &[u8]) -> Result<
     ensures { BecomesUnless result draft.new (says word draft.old (arguments_of args.now)) }
 {
     match word {
-        LineWord::ServerId => draft.server = Some(station(one(args)?).ok_or(ConfFault::BadCall)?),
-        LineWord::PassCode => draft.code = Some(code_number(one(args)?).ok_or(
-            ConfFault::BadNumber,
-        )?),
-        LineWord::MyAdmin => draft.admin = Some(Text::copied(alloc, one(args)?)?),
-        LineWord::MyEmail => draft.email = Some(Text::copied(alloc, one(args)?)?),
-        LineWord::Listen => add_listen(alloc, draft, args)?,
-        LineWord::Uplink => add_uplink(draft, args)?,
-        LineWord::PeerGroup => add_group(alloc, draft, args)?,
-        LineWord::UpstreamTimeout => draft.up_timeout = Some(time(one(args)?).ok_or(
-            ConfFault::BadTime,
-        )?),
-        LineWord::ClientTimeout => draft.client_timeout = Some(time(one(args)?).ok_or(
-            ConfFault::BadTime,
-        )?),
-        LineWord::MaxClients => draft.max_clients = Some(clients(one(args)?).ok_or(
-            ConfFault::BadNumber,
-        )?),
-        LineWord::Unused => expect_argument(args)?,
+        LineWord::ServerId => add_server(draft, args),
+        LineWord::PassCode => add_code(draft, args),
+        LineWord::MyAdmin => add_admin(alloc, draft, args),
+        LineWord::MyEmail => add_email(alloc, draft, args),
+        LineWord::Listen => add_listen(alloc, draft, args),
+        LineWord::Uplink => add_uplink(draft, args),
+        LineWord::PeerGroup => add_group(alloc, draft, args),
+        LineWord::UpstreamTimeout => add_up_timeout(draft, args),
+        LineWord::ClientTimeout => add_client_timeout(draft, args),
+        LineWord::MaxClients => add_max_clients(draft, args),
+        LineWord::Unused => Ok(expect_argument(args)?),
     }
-    Ok(())
 }
 
 /// Adds what the line of this first word says.
@@ -175,7 +167,9 @@ fn read_lines(alloc: Global, text: &[u8]) -> Result<Draft, ConfError>
     let mut rest = Some(text);
     while let Some(lines) = rest {
         let (line, behind) = cut_line(lines);
-        add_line(alloc, &mut draft, line).map_err(|error| at_line(number, error))?;
+        if let Err(error) = add_line(alloc, &mut draft, line) {
+            return Err(at_line(number, error));
+        }
         number = number.saturating_add(1);
         rest = behind;
     }

@@ -180,17 +180,32 @@ fn may_end(text: &[u8], may_hide: bool) -> bool
     }
 }
 
-/// Five arguments, from the left.
+/// The first two arguments of a text, and what stands behind them.
+fn two(text: &[u8]) -> Option<(&[u8], &[u8], &[u8])>
+    ensures { MatchOption result (length (arguments_of text.now) < 2) (λ p. arguments_of text.now ≡ p.0.now ∷ p.1.now ∷ arguments_of p.2.now) }
+{
+    let (first, behind) = next_argument(text)?;
+    let (second, behind) = next_argument(behind)?;
+    Some((first, second, behind))
+}
+
+/// Five parts of a text, from the left.
 pub type Five<'a> = (&'a [u8], &'a [u8], &'a [u8], &'a [u8], &'a [u8]);
+
+/// The first four arguments of a text, and what stands behind them.
+pub fn four(text: &[u8]) -> Option<Five<'_>>
+    ensures { MatchOption result (length (arguments_of text.now) < 4) (λ p. arguments_of text.now ≡ p.0.now ∷ p.1.now ∷ p.2.now ∷ p.3.now ∷ arguments_of p.4.now) }
+{
+    let (first, second, behind) = two(text)?;
+    let (third, fourth, behind) = two(behind)?;
+    Some((first, second, third, fourth, behind))
+}
 
 /// The five arguments of a text that has five, and perhaps `hidden` where that may stand behind them.
 pub fn five(text: &[u8], may_hide: bool) -> Option<Five<'_>>
     ensures { option_map (λ p. (p.0.now, p.1.now, p.2.now, p.3.now, p.4.now)) result ≡ (if may_hide then listen_of (arguments_of text.now) else five_of (arguments_of text.now)) }
 {
-    let (first, behind) = next_argument(text)?;
-    let (second, behind) = next_argument(behind)?;
-    let (third, behind) = next_argument(behind)?;
-    let (fourth, behind) = next_argument(behind)?;
+    let (first, second, third, fourth, behind) = four(text)?;
     let (fifth, behind) = next_argument(behind)?;
     if may_end(behind, may_hide) {
         Some((first, second, third, fourth, fifth))

@@ -81,6 +81,7 @@ impl ConfText {
     }
 
     /// A word and a blank, which keeps a CR that ends the word from the end of the line.
+    #[tactic(auto, unfolding(crate::specs::Writing::word_text))]
     fn word(&mut self, word: &[u8]) -> Result<(), AllocError>
         ensures { OnOk result (self.new ≡ self.old ++ word_text word.now) }
     {
@@ -109,9 +110,7 @@ impl ConfText {
         self.octet(first)?;
         self.octet(second)?;
         self.octet(third)?;
-        self.text
-            .extend_from_slice(Buffer::new().format(fourth).as_bytes())?;
-        Ok(self.text.push(b' ')?)
+        self.number(u32::from(fourth))
     }
 
     /// An address and its port.
@@ -123,6 +122,7 @@ impl ConfText {
     }
 
     /// A line of a word and a text.
+    #[tactic(auto, unfolding(crate::specs::Writing::line_text))]
     fn text_line(&mut self, name: &[u8], text: &[u8]) -> Result<(), AllocError>
         ensures { OnOk result (self.new ≡ self.old ++ line_text (name.now ∷ text.now ∷ [])) }
     {
@@ -138,6 +138,7 @@ impl ConfText {
         self.text_line(name, Buffer::new().format(number).as_bytes())
     }
 
+    #[tactic(auto, unfolding(crate::specs::Writing::line_text))]
     fn listen(&mut self, listen: &Listen) -> Result<(), AllocError>
         ensures { OnOk result (self.new ≡ self.old ++ line_text (listen_line listen.now)) }
     {
@@ -166,13 +167,11 @@ impl ConfText {
         self.number(u32::from(uplink.port))
     }
 
+    #[tactic(auto, unfolding(crate::specs::Writing::line_text, crate::specs::Writing::word_text))]
     fn uplink(&mut self, uplink: &UplinkSpec) -> Result<(), AllocError>
         ensures { OnOk result (self.new ≡ self.old ++ line_text (uplink_line uplink.now)) }
     {
-        self.word(b"Uplink")?;
-        self.word(b"uplink")?;
-        self.word(b"full")?;
-        self.word(b"tcp")?;
+        self.text.extend_from_slice(b"Uplink uplink full tcp ")?;
         self.host(uplink)?;
         Ok(self.text.push(b'\n')?)
     }
@@ -203,15 +202,14 @@ impl ConfText {
     }
 
     /// The line of a group, where there is one.
+    #[tactic(auto, unfolding(crate::specs::Writing::line_text, crate::specs::Writing::word_text))]
     fn group(&mut self, group: Option<Addr>, peers: &[PeerSpec]) -> Result<(), AllocError>
         ensures { OnOk result (self.new ≡ self.old ++ flat_map line_text (group_lines group peers.now)) }
     {
         let Some(at) = group else {
             return Ok(());
         };
-        self.word(b"PeerGroup")?;
-        self.word(b"peers")?;
-        self.word(b"udp")?;
+        self.text.extend_from_slice(b"PeerGroup peers udp ")?;
         self.at(at)?;
         self.peers(peers)?;
         Ok(self.text.push(b'\n')?)

@@ -1,5 +1,5 @@
 -- What the wire tells grows from call to call, and the events with it.
-use Rattle.std.proofs.Common.{◌≡◌, List, [], ◌∷◌, ◌++◌, refl, sym, ap, ◌∙◌, subst, append-nil, append_assoc, Option, Some, None}
+use Rattle.std.proofs.Common.{◌≡◌, List, [], ◌∷◌, ◌++◌, refl, ap, ◌∙◌, subst, append-nil, append_assoc, Option, Some, None}
 use Rattle.std.specs.Option.{option_map}
 use Rattle.aprs_base.specs.Outside.{Told, with_done}
 use Rattle.aprs_base.specs.declared.events.Event.{Event}

@@ -1,11 +1,11 @@
 -- A drill's wire gives the events of its plan in order, and takes every offer whole; so what it tells at last is a drill.
-use Rattle.std.proofs.Common.{◌≡◌, ℕ, ◌+◌, Bool, false, true, List, [], ◌∷◌, ◌++◌, length, drop, length-drop, refl, sym, ap, ◌∙◌, subst, arith, append-nil, append_assoc, codes, Some, None, Result, Ok, Err}
+use Rattle.std.proofs.Common.{◌≡◌, ℕ, ◌+◌, false, true, List, [], ◌∷◌, ◌++◌, length, drop, refl, sym, ap, ◌∙◌, subst, arith, append-nil, append_assoc, codes, Some, None, Result, Ok, Err}
 use Rattle.std.specs.Prelude.{◌==◌, ◌&&◌, reverse}
 use Rattle.std.proofs.lemmas.Bool.{and_parts}
 use Rattle.std.proofs.lemmas.Bool.Decides.{nat_tests}
 use Rattle.std.proofs.lemmas.List.{reverse-append, reverse-reverse}
 use Rattle.aprs_base.specs.Outside.{Told, are_numbered, new_link}
-use Rattle.aprs_base.specs.WireScript.{WireScript, links_after, after_act, after_listen, after_next, after_send, next_event, outcome_of}
+use Rattle.aprs_base.specs.WireScript.{WireScript, links_after, after_act, after_listen, after_next, after_send, outcome_of}
 use Rattle.aprs_base.specs.declared.events.Event.{Event}
 use Rattle.aprs_base.specs.declared.events.Event.TheVariants as event
 use Rattle.aprs_base.specs.declared.events.Happening.{Happening}
@@ -16,7 +16,7 @@ use Rattle.aprs_base.specs.declared.events.WireError.{WireError}
 use Rattle.aprs_base.specs.declared.events.WireError.TheVariants as wire_error
 use Rattle.aprs_base.specs.declared.packets.PortKind.TheVariants as kind
 use Rattle.aprs_base.specs.declared.packets.ListenSpec.{ListenSpec}
-use Rattle.aprs_conf.specs.Grammar.{conf_of, after}
+use Rattle.aprs_conf.specs.Grammar.{after, conf_of, listen_says}
 use Rattle.aprs_conf.specs.Seen.{ConfSeen}
 use Rattle.aprs_history.specs.Counts.{taken_in, totals_of}
 use Rattle.aprs_history.specs.History.{History, trace_of}
@@ -168,5 +168,5 @@ drill_conf = record {
 }
 
 pub drill_conf_reads : conf_of (codes "ServerId DRILL\nPassCode 13052\nMaxClients 1000\nListen \"full\" fullfeed tcp 0.0.0.0 1\nListen \"igate\" igate tcp 0.0.0.0 2\n") ≡ Ok drill_conf
-unfolding conf_of after
+unfolding conf_of after listen_says
 drill_conf_reads = refl

@@ -16,7 +16,7 @@ use Rattle.aprs_history.specs.Setting.{Setting}
 use Rattle.aprs_history.specs.History.{History, is_stopped, trace_of}
 use Rattle.aprs_history.specs.Acts.{Act, Casts, Closes, Dials, MayCome, but_first, cast_act, due, offer_to}
 use Rattle.aprs_history.specs.Dials.{CastSeen}
-use Rattle.aprs_history.specs.Runs.{AppendsRun, address_of, dialled_by, list_of}
+use Rattle.aprs_history.specs.Runs.{AppendsRun, address_of}
 use Rattle.aprs_history.proofs.ReachLemmas.{dials_are_of_uplinks, peers_get_submissions}
 use Rattle.server_core.specs.Meaning.{CoreMeaning, Stands, peer_of, setting_of}
 use Rattle.aprsc_daemon.specs.Phases.{Acting, Owing}

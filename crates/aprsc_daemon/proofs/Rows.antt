@@ -18,31 +18,31 @@ use Rattle.aprsc_daemon.specs.declared.configuring.Trouble.TheVariants as troubl
 use Rattle.clap.proofs.OnLiterals.{clap_on_literals}
 use Rattle.login_pass.specs.Passcode.{passcode_of}
 use Rattle.aprsc_daemon.specs.Drill.{drill_setting}
-use Rattle.aprsc_daemon.specs.Words.{asked_of, drill_of}
+use Rattle.aprsc_daemon.specs.Words.{asked_of, bare_app, check_rule, drill_of, file_rule, number_rule, workers_rule}
 use Rattle.aprsc_daemon.specs.declared.words.Task.TheVariants as task
 
 good_words : asked_of (codes "-c" ∷ codes "aprsc.conf" ∷ []) ≡ Some (record { file = codes "aprsc.conf"; workers = 1; task = task.Serve })
-unfolding clap_on_literals asked_of
+unfolding clap_on_literals asked_of bare_app check_rule file_rule number_rule workers_rule
 good_words = refl
 
 all_words : asked_of (codes "-w" ∷ codes "64" ∷ codes "-c=f" ∷ codes "-y" ∷ []) ≡ Some (record { file = codes "f"; workers = 64; task = task.Check })
-unfolding clap_on_literals asked_of
+unfolding clap_on_literals asked_of bare_app check_rule file_rule number_rule workers_rule
 all_words = refl
 
 no_words : asked_of [] ≡ None
-unfolding clap_on_literals asked_of
+unfolding clap_on_literals asked_of bare_app check_rule file_rule number_rule workers_rule
 no_words = refl
 
 too_many_workers : asked_of (codes "-c" ∷ codes "c" ∷ codes "-w" ∷ codes "65" ∷ []) ≡ None
-unfolding clap_on_literals asked_of
+unfolding clap_on_literals asked_of bare_app check_rule file_rule number_rule workers_rule
 too_many_workers = refl
 
 two_files : asked_of (codes "-c" ∷ codes "a" ∷ codes "-c" ∷ codes "b" ∷ []) ≡ None
-unfolding clap_on_literals asked_of
+unfolding clap_on_literals asked_of bare_app check_rule file_rule number_rule workers_rule
 two_files = refl
 
 no_file : asked_of (codes "-y" ∷ []) ≡ None
-unfolding clap_on_literals asked_of
+unfolding clap_on_literals asked_of bare_app check_rule file_rule number_rule workers_rule
 no_file = refl
 
 other_mode : asked_of (codes "drill" ∷ codes "-c" ∷ codes "c" ∷ []) ≡ None
@@ -52,27 +52,27 @@ other_mode = refl
 -- ---- a drill
 
 good_drill : drill_of (codes "drill" ∷ codes "0" ∷ codes "1" ∷ codes "2" ∷ codes "-w" ∷ codes "1" ∷ []) ≡ Some (record { plan = record { seed = 0; lines = 1; links = 2 }; workers = 1 })
-unfolding clap_on_literals drill_of
+unfolding clap_on_literals drill_of bare_app check_rule file_rule number_rule workers_rule
 good_drill = refl
 
 largest_drill : drill_of (codes "drill" ∷ codes "1" ∷ codes "4000" ∷ codes "1000" ∷ []) ≡ Some (record { plan = record { seed = 1; lines = 4000; links = 1000 }; workers = 1 })
-unfolding clap_on_literals drill_of
+unfolding clap_on_literals drill_of bare_app check_rule file_rule number_rule workers_rule
 largest_drill = refl
 
 too_large_a_drill : drill_of (codes "drill" ∷ codes "1" ∷ codes "100000" ∷ codes "1000" ∷ []) ≡ None
-unfolding clap_on_literals drill_of
+unfolding clap_on_literals drill_of bare_app check_rule file_rule number_rule workers_rule
 too_large_a_drill = refl
 
 too_few_links : drill_of (codes "drill" ∷ codes "1" ∷ codes "1" ∷ codes "1" ∷ []) ≡ None
-unfolding clap_on_literals drill_of
+unfolding clap_on_literals drill_of bare_app check_rule file_rule number_rule workers_rule
 too_few_links = refl
 
 no_seed : drill_of (codes "drill" ∷ codes "x" ∷ codes "1" ∷ codes "2" ∷ []) ≡ None
-unfolding clap_on_literals drill_of
+unfolding clap_on_literals drill_of bare_app check_rule file_rule number_rule workers_rule
 no_seed = refl
 
 no_numbers : drill_of (codes "drill" ∷ []) ≡ None
-unfolding clap_on_literals drill_of
+unfolding clap_on_literals drill_of bare_app check_rule file_rule number_rule workers_rule
 no_numbers = refl
 
 other_than_drill : drill_of (codes "net" ∷ codes "x" ∷ []) ≡ None

@@ -1,5 +1,5 @@
 -- A run goes on by one happening.
-use Rattle.std.proofs.Common.{◌≡◌, ℕ, zero, suc, ◌+◌, ◌<◌, Bool, List, [], ◌∷◌, ◌++◌, length, drop, refl, sym, ap, ◌∙◌, subst, arith, append-nil, Option, Some, None, get_or, add-one, drop-cons}
+use Rattle.std.proofs.Common.{◌≡◌, ℕ, zero, suc, ◌+◌, ◌<◌, Bool, List, [], ◌∷◌, length, drop, refl, sym, ap, ◌∙◌, subst, arith, append-nil, Option, Some, None, get_or, add-one, drop-cons}
 use Rattle.std.specs.Option.{option_map}
 use Rattle.std.specs.Prelude.{slice_get}
 use Rattle.std.proofs.lemmas.Option.{slice_get-get_or}
@@ -11,7 +11,7 @@ use Rattle.aprs_history.specs.Setting.{Setting}
 use Rattle.aprs_history.specs.History.{History, is_stopped}
 use Rattle.aprs_history.specs.Rounds.{listens_after}
 use Rattle.aprs_history.specs.Acts.{Act, Listens, MayCome, due, but_first, listens_from}
-use Rattle.aprs_history.specs.Runs.{AppendsRun, cast_by, dialled_by, list_of, listened_by, told_after, told_more}
+use Rattle.aprs_history.specs.Runs.{AppendsRun, cast_by, dialled_by, listened_by, told_after, told_more}
 use Rattle.aprsc_daemon.specs.Phases.{Listening}
 
 pub run_begins : (s : Setting) (now : Option Told) (P : History → Type 0) → P [] → AppendsRun s now now P

@@ -7,7 +7,7 @@ use Rattle.std.specs.Prelude.{if◌then◌else◌}
 use Rattle.clap.specs.Words.{IsUnsignedIn, Kinds, ReadsOne, Row, fault_of, matches_of}
 use Rattle.clap.specs.declared.builder.value_parser.ValueParser.TheVariants as vp
 use Rattle.clap.proofs.ValueTestLemmas.{accepts-Accepts, Accepts-accepts}
-use Rattle.aprsc_daemon.specs.Words.{ServerWordsSeen, asked_of, begins_with, drill_app, drill_in, drill_of, drill_said_by, if_small, is_small, names_mode, number_in, said_by, server_app, without_fault}
+use Rattle.aprsc_daemon.specs.Words.{ServerWordsSeen, asked_of, begins_with, drill_app, drill_in, drill_of, drill_said_by, if_small, names_mode, number_in, said_by, server_app, without_fault}
 use Rattle.aprsc_daemon.specs.declared.words.DrillWords.{DrillWords}
 
 -- a number of a range that a text reads as is its number

@@ -20,19 +20,19 @@ pub record ServerWordsSeen : Type 0 where
 -- ---- the server's command
 
 -- `-c FILE`, once
-abbrev pub file_rule : Rule
+unfoldable pub file_rule : Rule
 file_rule = record (new_rule (codes "file")) { short = Some (byte "c"); action = Some Set; required = true }
 
 -- `-w N`, at most once: a whole number from 1 to 64
-abbrev pub workers_rule : Rule
+unfoldable pub workers_rule : Rule
 workers_rule = record (new_rule (codes "workers")) { short = Some (byte "w"); action = Some Set; parser = Some (vp.Unsigned 1 64); defaults = codes "1" ∷ [] }
 
 -- `-y`, at most once
-abbrev pub check_rule : Rule
+unfoldable pub check_rule : Rule
 check_rule = record (new_rule (codes "check")) { short = Some (byte "y"); action = Some SetTrue }
 
 -- a command that has no word for its own name, and no flag for help or its version
-abbrev pub bare_app : App
+unfoldable pub bare_app : App
 bare_app = record (new_app (codes "aprsc")) {
   top = record (new_app (codes "aprsc")).top { no_binary_name = true; disable_help_flag = true; disable_version_flag = true };
 }
@@ -43,7 +43,7 @@ server_app = with_rule (with_rule (with_rule bare_app file_rule) workers_rule) c
 -- ---- the drill's command
 
 -- a whole number in a range, as a word of its own
-abbrev pub number_rule : (id : List ℕ) → (low high : ℕ) → Rule
+unfoldable pub number_rule : (id : List ℕ) → (low high : ℕ) → Rule
 number_rule id low high = record (new_rule id) { action = Some Set; required = true; parser = Some (vp.Unsigned low high) }
 
 abbrev pub seed_rule : Rule

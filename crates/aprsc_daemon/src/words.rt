@@ -62,6 +62,7 @@ pub enum WordsError {
     Memory,
 }
 
+#[tactic(auto, unfolding(crate::specs::Words::file_rule))]
 fn file_arg<'a>(alloc: Global) -> Arg<'a>
     ensures rule { rule_of result ≡ file_rule }
     ensures local { result.global ≡ false }
@@ -72,6 +73,7 @@ fn file_arg<'a>(alloc: Global) -> Arg<'a>
         .required(true)
 }
 
+#[tactic(auto, unfolding(crate::specs::Words::workers_rule))]
 fn workers_arg<'a>(alloc: Global) -> Arg<'a>
     ensures rule { rule_of result ≡ workers_rule }
     ensures local { result.global ≡ false }
@@ -83,6 +85,7 @@ fn workers_arg<'a>(alloc: Global) -> Arg<'a>
         .default_value("1")
 }
 
+#[tactic(auto, unfolding(crate::specs::Words::check_rule))]
 fn check_arg<'a>(alloc: Global) -> Arg<'a>
     ensures rule { rule_of result ≡ check_rule }
     ensures local { result.global ≡ false }
@@ -93,6 +96,7 @@ fn check_arg<'a>(alloc: Global) -> Arg<'a>
 }
 
 /// A whole number in a range, as a word of its own.
+#[tactic(auto, unfolding(crate::specs::Words::number_rule))]
 fn number_arg<'a>(alloc: Global, id: &'a str, low: u64, high: u64) -> Arg<'a>
     ensures rule { rule_of result ≡ number_rule id.entry.now low high }
     ensures local { result.global ≡ false }
@@ -103,6 +107,7 @@ fn number_arg<'a>(alloc: Global, id: &'a str, low: u64, high: u64) -> Arg<'a>
         .value_parser(ValueParser::unsigned(low, high))
 }
 
+#[tactic(auto, unfolding(crate::specs::Words::bare_app))]
 fn bare_command<'a>(alloc: Global) -> Command<'a>
     ensures { app_of result ≡ bare_app }
 {
@@ -147,6 +152,7 @@ fn matches_by<'a>(command: Command<'a>, words: &'a [String]) -> Result<ArgMatche
 }
 
 /// What the server's command finds in the words.
+#[tactic(auto, unfolding(crate::specs::Words::bare_app, crate::specs::Words::file_rule, crate::specs::Words::workers_rule, crate::specs::Words::check_rule))]
 fn server_matches<'a>(alloc: Global, words: &'a [String]) -> Result<ArgMatches<'a>, WordsError>
     ensures good { OnOk result (fault_of server_app (map string_bytes words.entry.now) ≡ []) }
     ensures rows { IfOk result (λ m. rows_of (found_of m) ≡ matches_of server_app (map string_bytes words.entry.now)) }
@@ -159,6 +165,7 @@ fn server_matches<'a>(alloc: Global, words: &'a [String]) -> Result<ArgMatches<'
 }
 
 /// What the drill's command finds in the words.
+#[tactic(auto, unfolding(crate::specs::Words::bare_app, crate::specs::Words::number_rule, crate::specs::Words::workers_rule))]
 fn drill_matches<'a>(alloc: Global, words: &'a [String]) -> Result<ArgMatches<'a>, WordsError>
     ensures good { OnOk result (fault_of drill_app (map string_bytes words.entry.now) ≡ []) }
     ensures rows { IfOk result (λ m. rows_of (found_of m) ≡ matches_of drill_app (map string_bytes words.entry.now)) }

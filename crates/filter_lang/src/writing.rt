@@ -235,15 +235,36 @@ impl Canonical {
         Ok(())
     }
 
+    /// `lat/lon/km`.
+    fn range(&mut self, lat: i32, lon: i32, km: u32) -> Result<(), AllocError>
+        ensures { OnOk result (self.new ≡ self.old ++ (point_text lat lon ++ field (decimal km))) }
+    {
+        self.point(lat, lon)?;
+        self.kilometres(km)
+    }
+
+    /// `letters/call/km`.
+    fn class_near(&mut self, mask: u16, call: &Call, km: u32) -> Result<(), AllocError>
+        ensures { OnOk result (self.new ≡ self.old ++ (classes_text mask ++ near_text call.now km)) }
+    {
+        self.classes(mask)?;
+        self.near(call, km)
+    }
+
+    /// `latN/lonW/latS/lonE`.
+    fn area(&mut self, north: i32, west: i32, south: i32, east: i32) -> Result<(), AllocError>
+        ensures { OnOk result (self.new ≡ self.old ++ (point_text north west ++ point_text south east)) }
+    {
+        self.point(north, west)?;
+        self.point(south, east)
+    }
+
     /// The fields of a term, each after its slash.
     fn fields(&mut self, what: &What) -> Result<(), AllocError>
         ensures { OnOk result (self.new ≡ self.old ++ what_fields what.now) }
     {
         match what {
-            What::Range { lat, lon, km } => {
-                self.point(*lat, *lon)?;
-                self.kilometres(*km)
-            }
+            What::Range { lat, lon, km } => self.range(*lat, *lon, *km),
             What::Prefix(names) => self.beginnings(names.list.as_slice()),
             What::Buddy(names)
             | What::Object(names)
@@ -252,10 +273,7 @@ impl Canonical {
             | What::Group(names)
             | What::Dest(names) => self.names(names.list.as_slice()),
             What::Class { mask } => self.classes(*mask),
-            What::ClassNear { mask, call, km } => {
-                self.classes(*mask)?;
-                self.near(call, *km)
-            }
+            What::ClassNear { mask, call, km } => self.class_near(*mask, call, *km),
             What::Symbol { pri, alt, over } => self.symbol(pri, alt, over),
             What::Friend { call, km } => self.near(call, *km),
             What::Mine { km } => self.kilometres(*km),
@@ -264,10 +282,7 @@ impl Canonical {
                 west,
                 south,
                 east,
-            } => {
-                self.point(*north, *west)?;
-                self.point(*south, *east)
-            }
+            } => self.area(*north, *west, *south, *east),
             What::Construct { letters, gates } => self.construct(letters, *gates),
         }
     }

@@ -36,6 +36,7 @@ blank_read b n h =
     ]
 
 letter_read : (b n : ℕ) → digit_of b ≡ Some n → Says b n (is_custom b) (is_set b)
+unfolding digit_of
 letter_read b n h =
     elim (chosen (between 48 57 b) (Some (b - 48)) _ (Some n) h) [
       | inl first ↦
@@ -58,6 +59,7 @@ letter_read b n h =
     ]
 
 letter_again : (b n : ℕ) (early set : Bool) → Says b n early set → (digit_of b ≡ Some n) × (is_custom b ≡ early) × (is_set b ≡ set)
+unfolding digit_of
 letter_again b n early set (figure below is e s) = (grind (arith, nat_tests), grind (arith, nat_tests), grind (arith, nat_tests))
 letter_again b n early set (custom_letter below is e s) = (grind (arith, nat_tests), grind (arith, nat_tests), grind (arith, nat_tests))
 letter_again b n early set (standard_letter below is e s) = (grind (arith, nat_tests), grind (arith, nat_tests), grind (arith, nat_tests))
@@ -66,16 +68,19 @@ letter_again b n early set (plain_blank is zero e s) = (ap digit_of is ∙ ap So
 letter_again b n early set (standard_blank is zero e s) = (ap digit_of is ∙ ap Some (sym zero), ap is_custom is ∙ sym e, ap is_set is ∙ sym s)
 
 late_read : (b n : ℕ) → late_digit_of b ≡ Some n → Says b n false (is_set b)
+unfolding late_digit_of
 late_read b n h =
     let test = cond_not_some (is_custom b) (digit_of b) n h in
     subst (λ e. Says b n e (is_set b)) test.0 (letter_read b n test.1)
 
 late_again : (b n : ℕ) (set : Bool) → Says b n false set → (late_digit_of b ≡ Some n) × (is_set b ≡ set)
+unfolding late_digit_of
 late_again b n set says =
     let all = letter_again b n false set says in
     (cond-false _ _ _ all.1 ∙ all.0, all.2)
 
 pair_read : (p q : Option ℕ) (n : ℕ) → pair p q ≡ Some n → (t o : ℕ) × (p ≡ Some t) × (q ≡ Some o) × (n ≡ t * 10 + o)
+unfolding pair
 pair_read p q n h =
     let t = bind_some p _ n h in
     let o = map_some _ q n t.2 in
@@ -129,6 +134,7 @@ record IsSent (text : List ℕ) (more value : ℕ) : Type 0 where
   value_is : value ≡ angle (degrees_of (x + more)) (minutes_of y * 100 + z)
 
 sent_read : (text : List ℕ) (more value : ℕ) → from_greenwich more text ≡ Some value → IsSent text more value
+unfolding from_greenwich
 sent_read (a ∷ b ∷ c ∷ []) more value h =
     let test = cond_some (list_all (between 28 127) (a ∷ b ∷ c ∷ [])) _ value h in
     let a_all = and_parts (between 28 127 a) (list_all (between 28 127) (b ∷ c ∷ [])) test.0 in
@@ -149,6 +155,7 @@ sent_read _ more value h = cc
 
 sent_again : (x y z more degrees minutes : ℕ) → x < 100 → y < 100 → z < 100 → degrees_of (x + more) ≡ degrees → minutes_of y ≡ minutes →
     from_greenwich more ((x + 28) ∷ (y + 28) ∷ (z + 28) ∷ []) ≡ Some (angle degrees (minutes * 100 + z))
+unfolding from_greenwich
 sent_again x y z more degrees minutes lx ly lz d m =
     let digits : list_all (between 28 127) ((x + 28) ∷ (y + 28) ∷ (z + 28) ∷ []) ≡ true = grind (arith, nat_tests) in
     let dl : degrees_of (x + 28 - 28 + more) ≡ degrees = ap (λ n. degrees_of (n + more)) (add-sub_cancel x 28) ∙ d in
@@ -162,6 +169,7 @@ angle_same value degrees minutes hundredths p r t is d m h = cc
 latitude_again : (a b c d e f p q r s t u : ℕ) → digit_of a ≡ Some p → digit_of b ≡ Some q → digit_of c ≡ Some r →
     late_digit_of d ≡ Some s → late_digit_of e ≡ Some t → late_digit_of f ≡ Some u → r * 10 + s < 60 →
     from_equator (a ∷ b ∷ c ∷ d ∷ e ∷ f ∷ []) ≡ Some (angle (p * 10 + q) ((r * 10 + s) * 100 + (t * 10 + u)))
+unfolding from_equator pair
 latitude_again a b c d e f p q r s t u ap' bq cr ds et fu below = rw (ap', bq, cr, ds, et, fu, lt-ltb _ _ below) refl
 
 nine_cells : (body : List ℕ) → ltb (length body) 9 ≡ false →
@@ -190,7 +198,7 @@ sent_small x false h = omega arith
 
 read_six : (a b c d e f : ℕ) (body : List ℕ) (place : Place) → place_of (a ∷ b ∷ c ∷ d ∷ e ∷ f ∷ []) body ≡ Some place →
     WritesMicE (a ∷ b ∷ c ∷ d ∷ e ∷ f ∷ []) body place
-unfolding place_of
+unfolding place_of from_equator
 read_six a b c d e f body place h =
     let sized = cond_not_some (ltb (length body) 9 || not (is_mark (get_or body 0 0))) _ place h in
     let tests = or_parts (ltb (length body) 9) (not (is_mark (get_or body 0 0))) sized.0 in
@@ -260,7 +268,7 @@ no_place true place h = cc
 no_place false place h = cc
 
 pub place_read : (base body : List ℕ) (place : Place) → place_of base body ≡ Some place → WritesMicE base body place
-unfolding place_of
+unfolding place_of from_equator
 place_read (a ∷ b ∷ c ∷ d ∷ e ∷ f ∷ []) body place h = read_six a b c d e f body place h
 place_read _ body place h = absurd (no_place _ place h)
 

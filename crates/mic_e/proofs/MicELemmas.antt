@@ -12,6 +12,7 @@ six _ h = absurd (omega arith)
 pub equator_is : (base : List ℕ) (a b c d e f degrees minutes hundredths : ℕ) → base ≡ a ∷ b ∷ c ∷ d ∷ e ∷ f ∷ [] →
     pair (digit_of a) (digit_of b) ≡ Some degrees → pair (digit_of c) (late_digit_of d) ≡ Some minutes → pair (late_digit_of e) (late_digit_of f) ≡ Some hundredths →
     minutes < 60 → from_equator base ≡ Some (angle degrees (minutes * 100 + hundredths))
+unfolding from_equator
 equator_is base a b c d e f degrees minutes hundredths cells whole before after below = rw (cells, whole, before, after, lt-ltb _ _ below) refl
 
 pub pair_is : (tens ones result a b : Option ℕ) (n : ℕ) → result ≡ pair tens ones → tens ≡ a → ones ≡ b → result ≡ Some n → pair a b ≡ Some n

@@ -4,7 +4,7 @@ use Rattle.std.specs.Prelude.{codes}
 use Rattle.std.specs.declared.option.Option.{Option}
 use Rattle.std.specs.Option.{option_map}
 use Rattle.aprs_base.specs.declared.packets.Place.{Place}
-use Rattle.mic_e.specs.MicE.{mic_e_place, place_of}
+use Rattle.mic_e.specs.MicE.{digit_of, from_equator, from_greenwich, late_digit_of, mic_e_place, pair, place_of}
 
 -- a place's numbers
 abbrev numbers : Option Place → Option (ℤ × ℤ × ℕ × ℕ × ℕ)
@@ -20,5 +20,5 @@ rows :
     × (mic_e_place (codes "S32U6T") (codes "`(_fn\"Oj") ≡ None)
     -- short destination
     × (mic_e_place (codes "S32U6") (codes "`(_fn\"Oj/") ≡ None)
-unfolding place_of
+unfolding place_of from_equator from_greenwich pair digit_of late_digit_of
 rows = (refl, refl, refl, refl)

@@ -14,7 +14,7 @@ abbrev pub between : (low high : ℕ) → ℕ → Bool
 between low high b = nat_le low b && nat_le b high
 
 -- the digit that a byte of the destination stands for (Mic-E Destination Field Encoding); a blank counts as 0
-abbrev pub digit_of : ℕ → Option ℕ
+unfoldable pub digit_of : ℕ → Option ℕ
 digit_of b =
     if between 48 57 b then Some (b - 48) else  -- 0 to 9
     if between 65 74 b then Some (b - 65) else  -- A to J
@@ -26,7 +26,7 @@ abbrev pub is_custom : ℕ → Bool
 is_custom b = between 65 75 b
 
 -- the digit at one of the last three places
-abbrev pub late_digit_of : ℕ → Option ℕ
+unfoldable pub late_digit_of : ℕ → Option ℕ
 late_digit_of b = if is_custom b then None else digit_of b
 
 -- P to Z set their place's bit
@@ -38,11 +38,11 @@ abbrev pub signed : (positive : Bool) → ℕ → ℤ
 signed positive n = if positive then pos n else neg_ℤ (pos n)
 
 -- a number of two digits
-abbrev pub pair : (tens ones : Option ℕ) → Option ℕ
+unfoldable pub pair : (tens ones : Option ℕ) → Option ℕ
 pair tens ones = tens >>= λ t. option_map (λ o. t * 10 + o) ones
 
 -- six bytes, degrees, minutes below 60, and their hundredths: how far from the equator
-abbrev pub from_equator : List ℕ → Option ℕ
+unfoldable pub from_equator : List ℕ → Option ℕ
 from_equator (a ∷ b ∷ c ∷ d ∷ e ∷ f ∷ []) = do
   degrees ← pair (digit_of a) (digit_of b)
   minutes ← pair (digit_of c) (late_digit_of d)
@@ -59,7 +59,7 @@ abbrev pub minutes_of : ℕ → ℕ
 minutes_of m = if nat_lt m 60 then m else m - 60
 
 -- three bytes, degrees, minutes and their hundredths, each 28 above its number: how far from Greenwich
-abbrev pub from_greenwich : (more : ℕ) → List ℕ → Option ℕ
+unfoldable pub from_greenwich : (more : ℕ) → List ℕ → Option ℕ
 from_greenwich more (x ∷ y ∷ z ∷ []) =
     if list_all (between 28 127) (x ∷ y ∷ z ∷ []) then Some (angle (degrees_of (x - 28 + more)) (minutes_of (y - 28) * 100 + (z - 28))) else None
 from_greenwich more _ = None

@@ -11,6 +11,7 @@ use aprs_base::{Call, Place};
 use aprs_position::{angle, is_code, is_table, place_at};
 
 /// The digit that a byte of the destination stands for, and 0 for a blank.
+#[tactic(auto, unfolding(crate::specs::MicE::digit_of))]
 fn digit(byte: u8) -> Option<u32>
     ensures value { result ≡ digit_of byte }
     ensures below { IfSome result (λ n. n ≤ 9) }
@@ -25,6 +26,7 @@ fn digit(byte: u8) -> Option<u32>
 }
 
 /// The same at the last three places, where `A` to `K` can't stand.
+#[tactic(auto, unfolding(crate::specs::MicE::late_digit_of, crate::specs::MicE::digit_of))]
 fn late_digit(byte: u8) -> Option<u32>
     ensures value { result ≡ late_digit_of byte }
     ensures below { IfSome result (λ n. n ≤ 9) }
@@ -55,6 +57,7 @@ fn signed(angle: u32, positive: bool) -> i32
 }
 
 /// A number of two digits.
+#[tactic(auto, unfolding(crate::specs::MicE::pair))]
 fn pair(tens: Option<u32>, ones: Option<u32>) -> Option<u32>
     requires tens { IfSome tens (λ n. n ≤ 9) }
     requires ones { IfSome ones (λ n. n ≤ 9) }
@@ -65,6 +68,7 @@ fn pair(tens: Option<u32>, ones: Option<u32>) -> Option<u32>
 }
 
 /// How far from the equator the six bytes of a destination say.
+#[tactic(auto, unfolding(crate::specs::MicE::from_equator, crate::specs::MicE::pair))]
 fn read_latitude(base: &[u8]) -> Option<u32>
     ensures value { result ≡ from_equator base.now }
     ensures below { IfSome result (λ n. n ≤ 1000000000) }
@@ -118,6 +122,7 @@ fn lowered(byte: u8) -> u32
 }
 
 /// How far from Greenwich three bytes of the body say, where `more` degrees are added.
+#[tactic(auto, unfolding(crate::specs::MicE::from_greenwich))]
 fn read_longitude(text: &[u8], more: u32) -> Option<u32>
     requires { more ≤ 100 }
     ensures value { result ≡ from_greenwich more text.now }

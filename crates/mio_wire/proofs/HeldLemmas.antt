@@ -18,6 +18,11 @@ contains_link [] place link lt at = absurd (omega arith)
 contains_link (l ∷ links) zero link lt at = contains_first l.number link.number (numbers links) (ap (λ (k : Link). k.number) (sym at))
 contains_link (l ∷ links) (suc place) link lt at = contains_later l.number link.number (numbers links) (contains_link links place link (omega arith) at)
 
+pub contains_got : (ns : List ℕ) (place x : ℕ) → slice_get ns place ≡ Some x → Contains ns x
+contains_got [] place x at = absurd cc
+contains_got (n ∷ ns) zero x at = contains_first n x ns cc
+contains_got (n ∷ ns) (suc place) x at = contains_later n x ns (contains_got ns place x at)
+
 contains_at : (links : List Link) (place number : ℕ) → option_map (λ l. l.number) (slice_get links place) ≡ Some number → Contains (numbers links) number
 contains_at [] place number at = absurd cc
 contains_at (l ∷ links) zero number at = contains_first l.number number (numbers links) cc
@@ -41,21 +46,31 @@ contains_dropped_at link x (n ∷ ns) zero other lt at = contains_kept link x n 
 contains_dropped_at link x (n ∷ ns) (suc k) other lt at = contains_either x n (dropped link ns) (not (n == link)) (contains_dropped_at link x ns k other (omega arith) at)
 
 held_but : (link : ℕ) (b : Brought) (ns : List ℕ) (same : Bool) → (b.link == link) ≡ same → IsHeld b ns → 0 < length (cond same [] b.left) → Contains (dropped link ns) b.link
+unfolding IsHeld
 held_but link b ns true is held left = absurd (omega arith)
 held_but link b ns false is held left = let there = held left in contains_dropped_at link b.link ns there.0 is there.1 there.2
 
 -- a link is let go with what it brought
 pub held_without : (link : ℕ) (b : Brought) (ns : List ℕ) → IsHeld b ns → IsHeld (forgotten link b) (dropped link ns)
+unfolding IsHeld
 held_without link b ns held = λ left. held_but link b ns (b.link == link) refl held left
 
 -- what is left after an event is held as before
 pub held_rest : (n : ℕ) (b : Brought) (ns : List ℕ) → IsHeld b ns → IsHeld (record b { left = drop n b.left }) ns
+unfolding IsHeld
 held_rest n b ns held = λ left. held (omega (arith, length-drop n b.left))
 
 held_still : (b : Brought) (ns : List ℕ) (same : Bool) → IsHeld b ns → 0 < length (cond same [] b.left) → Contains ns b.link
+unfolding IsHeld
 held_still b ns true held left = absurd (omega arith)
 held_still b ns false held left = held left
 
+-- where none are left
+pub held_none : (b : Brought) (ns : List ℕ) → length b.left ≡ 0 → IsHeld b ns
+unfolding IsHeld
+held_none b ns empty = λ left. absurd (omega arith)
+
 -- of bytes that are let go none are left
 pub held_forgotten : (link : ℕ) (b : Brought) (ns : List ℕ) → IsHeld b ns → IsHeld (forgotten link b) ns
+unfolding IsHeld
 held_forgotten link b ns held = λ left. held_still b ns (b.link == link) held left

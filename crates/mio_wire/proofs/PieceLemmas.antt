@@ -1,5 +1,5 @@
 -- The first bytes of what is left, and the bytes after them.
-use Rattle.std.proofs.Common.{◌≡◌, ℕ, ◌+◌, ◌-◌, inl, inr, List, take, drop, min, sym, ap, ◌∙◌, arith}
+use Rattle.std.proofs.Common.{◌≡◌, ℕ, ◌+◌, ◌-◌, inl, inr, suc, List, [], ◌∷◌, ◌++◌, length, take, drop, min, refl, sym, ap, ◌∙◌, arith}
 use Rattle.std.proofs.Math.ListN.{drop_of_length-le}
 use Rattle.std.proofs.lemmas.Bool.{cases_lt}
 use Rattle.std.proofs.lemmas.List.{drop-drop, drop-take, length-take, take-take, take_all}
@@ -26,3 +26,8 @@ rest_piece most from left bytes = elim (cases_lt left most) [
       ∙ sym (drop-take most (left - most) (drop from bytes))
       ∙ ap (λ k. drop most (take k (drop from bytes))) whole
 ]
+
+-- so many as the first of two lists has
+pub take_front : (n : ℕ) (front rest : List ℕ) → length front ≡ n → take n (front ++ rest) ≡ front
+take_front n [] rest size = let none : n ≡ 0 = omega arith in rw none refl
+take_front n (b ∷ bs) rest size = let more : n ≡ suc (n - 1) = omega arith in rw more (ap (λ ls. b ∷ ls) (take_front (n - 1) bs rest (omega arith)))

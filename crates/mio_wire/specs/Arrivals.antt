@@ -10,19 +10,19 @@ use Rattle.mio_wire.specs.Coming.{is_arrival, is_mail, is_unasked}
 use Rattle.mio_wire.specs.Linked.{dropped, numbers_after}
 
 -- the links' numbers and their count after a step: they change by what arrived alone
-abbrev pub Steps : (before now : List ℕ) (made made' : ℕ) → Option Event → Type 0
+unfoldable pub Steps : (before now : List ℕ) (made made' : ℕ) → Option Event → Type 0
 Steps before now made made' None = (now ≡ before) × (made' ≡ made)
 Steps before now made made' (Some e) = (now ≡ numbers_after e before) × CountsLink (new_link e) made made'
 
-abbrev pub IsArrival : Option Event → Type 0
+unfoldable pub IsArrival : Option Event → Type 0
 IsArrival None = ⊤
 IsArrival (Some e) = IsTrue (is_arrival e)
 
-abbrev pub IsMail : Option Event → Type 0
+unfoldable pub IsMail : Option Event → Type 0
 IsMail None = ⊤
 IsMail (Some e) = IsTrue (is_mail e)
 
-abbrev pub IsUnasked : Option Event → Type 0
+unfoldable pub IsUnasked : Option Event → Type 0
 IsUnasked None = ⊤
 IsUnasked (Some e) = IsTrue (is_unasked e)
 

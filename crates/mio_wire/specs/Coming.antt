@@ -11,7 +11,7 @@ use Rattle.mio_wire.specs.Unread.{Brought, IsNextOf}
 use Rattle.mio_wire.specs.Pacing.{is_due, is_full, rested, with_bytes, with_event, with_taken}
 
 -- as many links ended as were asked for
-abbrev pub has_stopped : (stop_after : Option ℕ) (ended : ℕ) → Bool
+unfoldable pub has_stopped : (stop_after : Option ℕ) (ended : ℕ) → Bool
 has_stopped None ended = false
 has_stopped (Some count) ended = nat_le count ended
 
@@ -73,7 +73,7 @@ dead_at (Some moment) dials = first_dead moment dials
 
 -- what comes next: a tick before anything else; a stop once enough links ended; a tick where one is due at once; the answer to a dial that
 -- failed or is too old; the next bytes that were read; and else no stop, nor a tick that repeats one
-abbrev pub ComesNext : Course → List Dial → Brought → Event → Type 0
+unfoldable pub ComesNext : Course → List Dial → Brought → Event → Type 0
 ComesNext course dials bytes e = Comes course.second (has_stopped course.stop_after course.ended) (is_full course.pace) (is_due course.pace) (dead_at course.second dials) bytes e
 
 -- a step that gives no event is taken only where none of these is due
@@ -81,6 +81,6 @@ abbrev pub Passes : (last : Option ℕ) (stopped full : Bool) (dead : Option ℕ
 Passes None stopped full dead bytes = ⊥
 Passes (Some moment) stopped full dead bytes = (stopped ≡ false) × (full ≡ false) × (dead ≡ None) × (length bytes.left ≡ 0)
 
-abbrev pub StepGives : Course → List Dial → Brought → Option Event → Type 0
+unfoldable pub StepGives : Course → List Dial → Brought → Option Event → Type 0
 StepGives course dials bytes (Some e) = ComesNext course dials bytes e
 StepGives course dials bytes None = Passes course.second (has_stopped course.stop_after course.ended) (is_full course.pace) (dead_at course.second dials) bytes

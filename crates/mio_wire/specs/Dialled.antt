@@ -12,11 +12,11 @@ use Rattle.mio_wire.specs.declared.dials.Outcome.{Outcome}
 use Rattle.mio_wire.specs.declared.dials.Outcome.TheVariants.{Waits, Joins, Fails}
 
 -- a dial that failed, or that no answer came to for 30 s
-abbrev pub is_dead : ℕ → Dial → Bool
+unfoldable pub is_dead : ℕ → Dial → Bool
 is_dead second dial = is_none dial.stream || nat_le 30 (abs_diff second dial.since)
 
 -- the uplink of the first dial that is dead
-abbrev pub first_dead : ℕ → List Dial → Option ℕ
+unfoldable pub first_dead : ℕ → List Dial → Option ℕ
 first_dead second dials = option_and_then (λ place. option_map (λ d. d.uplink) (slice_get dials place)) (position (is_dead second) dials)
 
 -- by whether the poll told of its socket, and whether that has a peer: nothing is known before the poll tells of it
@@ -46,7 +46,7 @@ Answers (event.Datagram listener from bytes) before now = now ≡ before
 Answers event.Stop before now = now ≡ before
 
 -- the dials after a step
-abbrev pub AnswersStep : List Dial → List Dial → Option Event → Type 0
+unfoldable pub AnswersStep : List Dial → List Dial → Option Event → Type 0
 AnswersStep before now None = now ≡ before
 AnswersStep before now (Some e) = Answers e before now
 

@@ -14,12 +14,12 @@ use Rattle.mio_wire.specs.Sources.{reads_link, with_waiting}
 use Rattle.mio_wire.specs.Unread.{Brought, nothing}
 
 -- the bytes that were read and are not handed up
-abbrev pub unread : Option Sockets → Brought
+unfoldable pub unread : Option Sockets → Brought
 unread None = nothing
 unread (Some sockets) = sockets.inbox
 
 -- a link has more than one read took, and is to be read on in the next turn
-abbrev pub reads_on : Option Sockets → Bool
+unfoldable pub reads_on : Option Sockets → Bool
 reads_on None = false
 reads_on (Some sockets) = list_any reads_link sockets.turns.later.items
 
@@ -32,7 +32,7 @@ pub record Listening : Type 0 where
 abbrev pub listening_of : Sockets → Listening
 listening_of sockets = record { links = map (λ ear. ear.number) sockets.ears.items; mail = map (λ mailbox. mailbox.number) sockets.mailboxes.items; caster = sockets.caster }
 
-abbrev pub listening : Option Sockets → Listening
+unfoldable pub listening : Option Sockets → Listening
 listening None = record { links = []; mail = []; caster = None }
 listening (Some sockets) = listening_of sockets
 
@@ -50,13 +50,13 @@ listening_after kind.Core number before = record {
 }
 
 -- nothing but a new link, which names the listener at that place
-abbrev pub OpensAt : (listeners : List ℕ) (place : ℕ) → Option Event → Type 0
+unfoldable pub OpensAt : (listeners : List ℕ) (place : ℕ) → Option Event → Type 0
 OpensAt listeners place None = ⊤
 OpensAt listeners place (Some (event.Opened listener link from)) = slice_get listeners place ≡ Some listener
 OpensAt listeners place (Some _) = ⊥
 
 -- nothing but a datagram, which names the listener at that place
-abbrev pub BringsAt : (listeners : List ℕ) (place : ℕ) → Option Event → Type 0
+unfoldable pub BringsAt : (listeners : List ℕ) (place : ℕ) → Option Event → Type 0
 BringsAt listeners place None = ⊤
 BringsAt listeners place (Some (event.Datagram listener from bytes)) = slice_get listeners place ≡ Some listener
 BringsAt listeners place (Some _) = ⊥
@@ -67,7 +67,7 @@ NamesListener heard (event.Opened listener link from) = Contains heard.links lis
 NamesListener heard (event.Datagram listener from bytes) = Contains heard.mail listener
 NamesListener heard _ = ⊤
 
-abbrev pub NamesStep : Listening → Option Event → Type 0
+unfoldable pub NamesStep : Listening → Option Event → Type 0
 NamesStep heard None = ⊤
 NamesStep heard (Some e) = NamesListener heard e
 

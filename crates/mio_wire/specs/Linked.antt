@@ -30,7 +30,7 @@ noted ready link = record link { closed = link.closed || ready.closed; blocked =
 
 -- what a read tells that brought so many bytes: there may be more where they were a whole read, and else the end is next where the peer has ended
 -- its side
-abbrev pub reading_of : (count : ℕ) (closed : Bool) → Reading
+unfoldable pub reading_of : (count : ℕ) (closed : Bool) → Reading
 reading_of count closed = if count == 65536 then reading.More else (if closed then reading.Last else reading.All)
 
 -- the numbers but for that one
@@ -61,7 +61,7 @@ TellsOfOne ns (event.Unjoined uplink) = ⊤
 TellsOfOne ns (event.Datagram listener from bytes) = ⊤
 TellsOfOne ns event.Stop = ⊤
 
-abbrev pub TellsStep : List ℕ → Option Event → Type 0
+unfoldable pub TellsStep : List ℕ → Option Event → Type 0
 TellsStep ns None = ⊤
 TellsStep ns (Some e) = TellsOfOne ns e
 

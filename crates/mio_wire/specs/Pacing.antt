@@ -40,9 +40,9 @@ abbrev pub with_taken : ℕ → Pace → Pace
 with_taken count pace = record pace { whole = pace.whole || nat_le 65536 count }
 
 -- a tick is due before anything else is handed up: 400 line ends or 48,000 bytes were handed up since the last one
-abbrev pub is_full : Pace → Bool
+unfoldable pub is_full : Pace → Bool
 is_full pace = nat_le 400 pace.lines || nat_le 48000 pace.bytes
 
 -- a tick is due once all that came is handed up
-abbrev pub is_due : Pace → Bool
+unfoldable pub is_due : Pace → Bool
 is_due pace = pace.handed || pace.whole

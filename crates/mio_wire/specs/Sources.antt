@@ -24,7 +24,7 @@ abbrev pub to_end : (token : ℕ) → Ready
 to_end token = record (to_read token) { closed = true }
 
 -- what waits once a link was read, by what the read tells: the rest, its end, or nothing, since the poll tells when it brings more
-abbrev pub after_read : Reading → (token : ℕ) → List Ready → List Ready
+unfoldable pub after_read : Reading → (token : ℕ) → List Ready → List Ready
 after_read reading.More token later = later ++ to_read token ∷ []
 after_read reading.Last token later = later ++ to_end token ∷ []
 after_read reading.All token later = later
@@ -35,9 +35,9 @@ abbrev pub reads_link : Ready → Bool
 reads_link r = r.readable && not r.closed && nat_lt r.token (2 ^ 32)
 
 -- what waits for the next turn with one source more, which waits once
-abbrev pub with_waiting : (token : ℕ) → List Ready → List Ready
+unfoldable pub with_waiting : (token : ℕ) → List Ready → List Ready
 with_waiting token later = if list_any (λ r. r.token == token) later then later else later ++ to_read token ∷ []
 
 -- what waits once a source had its turn: it does where it had as much as one turn gives
-abbrev pub waiting_after : (most had token : ℕ) → List Ready → List Ready
+unfoldable pub waiting_after : (most had token : ℕ) → List Ready → List Ready
 waiting_after most had token later = if nat_le most had then with_waiting token later else later

@@ -24,7 +24,7 @@ unread_after (Ok sent.Gone) link brought = forgotten link brought
 unread_after (Err e) link brought = brought
 
 -- bytes that are left are those of a link that is there
-abbrev pub IsHeld : Brought → List ℕ → Type 0
+unfoldable pub IsHeld : Brought → List ℕ → Type 0
 IsHeld brought ns = 0 < length brought.left → Contains ns brought.link
 
 -- where bytes are left, the event is that of the next of them
@@ -33,12 +33,12 @@ IsNextOf link [] e = ⊤
 IsNextOf link (b ∷ bs) e = e ≡ event.Bytes link (take 1460 (b ∷ bs))
 
 -- a step hands up the next of the bytes that are left, and passes only where none is
-abbrev pub HandsUp : Brought → Option Event → Type 0
+unfoldable pub HandsUp : Brought → Option Event → Type 0
 HandsUp before None = length before.left ≡ 0
 HandsUp before (Some e) = IsNextOf before.link before.left e
 
 -- of bytes that were left, an event of bytes takes the first, and any other none
-abbrev pub Leaves : (before now : Brought) → (left : List ℕ) → Event → Type 0
+unfoldable pub Leaves : (before now : Brought) → (left : List ℕ) → Event → Type 0
 Leaves before now [] e = ⊤
 Leaves before now (b ∷ bs) (event.Bytes link bytes) = now ≡ record before { left = drop 1460 (b ∷ bs) }
 Leaves before now (b ∷ bs) (event.Tick moment) = now ≡ before

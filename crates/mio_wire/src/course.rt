@@ -31,6 +31,7 @@ impl Course {
     }
 
     /// Whether as many links ended as were asked for.
+    #[tactic(auto, unfolding(crate::specs::Coming::has_stopped))]
     pub(crate) fn is_stopped(&self) -> bool
         ensures { result ≡ has_stopped self.now.stop_after self.now.ended }
     {

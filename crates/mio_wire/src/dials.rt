@@ -1,11 +1,10 @@
 //! The dials that are not answered yet.
-ghost use Rattle.std.specs.Prelude.{◌≡◌, ◌==◌, ◌<◌, [], ◌∷◌, ◌++◌, Some, true, OnOk, OnErr, IfSome, length, position, remove, option_map, slice_get};
-ghost use Rattle.aprs_base.specs.declared.events.Event.TheVariants.{Unjoined};
-ghost use Rattle.mio_wire.specs.Dialled.{is_dead, outcome_of};
+ghost use Rattle.std.specs.Prelude.{◌≡◌, ◌==◌, ◌<◌, [], ◌∷◌, ◌++◌, Some, true, OnOk, OnErr, IfNone, IfSome, length, position, remove, option_map, slice_get};
+ghost use Rattle.mio_wire.specs.Dialled.{Answered, first_dead, is_dead, outcome_of};
 ghost use Rattle.mio_wire.specs.declared.dials.Outcome.TheVariants.{Joins};
 
 use crate::turns::FIRST_DIAL;
-use aprs_base::{Addr, Event};
+use aprs_base::Addr;
 use mio::net::TcpStream;
 use std::alloc::{AllocError, Global};
 
@@ -28,6 +27,7 @@ pub(crate) struct Dial {
 
 impl Dial {
     /// Whether it failed, or no answer came for 30 s. A clock that is set back doesn't keep it open.
+    #[tactic(auto, unfolding(crate::specs::Dialled::is_dead))]
     fn is_dead(&self, second: u64) -> bool
         ensures { result ≡ is_dead second self.now }
     {
@@ -89,7 +89,7 @@ impl Dials {
     }
 
     /// Where the first dial stands that failed or was not answered for 30 s.
-    pub(crate) fn dead(&self, second: u64) -> Option<usize>
+    fn dead(&self, second: u64) -> Option<usize>
         ensures place { result ≡ position (is_dead second) self.now.list.items }
         ensures within { IfSome result (λ place. place < length self.now.list.items) }
     {
@@ -126,12 +126,23 @@ impl Dials {
         self.list.remove(place)
     }
 
-    /// Gives up the dial at a place.
-    pub(crate) fn give_up(&mut self, place: usize) -> Event
-        requires { place < length self.old.list.items }
-        ensures event { option_map (λ d. Unjoined d.uplink) (slice_get self.old.list.items place) ≡ Some result }
-        ensures others { self.new.list.items ≡ remove self.old.list.items place }
+    /// Gives up the first dial that failed or was not answered for 30 s, if any: its uplink.
+    #[tactic(auto, unfolding(crate::specs::Dialled::first_dead))]
+    pub(crate) fn give_up_dead(&mut self, second: u64) -> Option<u16>
+        ensures uplink { result ≡ first_dead second self.old.list.items }
+        ensures answered { IfSome result (λ uplink. Answered uplink self.old.list.items self.new.list.items) }
+        ensures none { IfNone result (self.new ≡ self.old) }
     {
-        Event::Unjoined(self.take(place).uplink)
+        let place = self.dead(second)?;
+        Some(self.give_up(place))
+    }
+
+    /// Gives up the dial at a place: its uplink.
+    pub(crate) fn give_up(&mut self, place: usize) -> u16
+        requires { place < length self.old.list.items }
+        ensures uplink { option_map (λ d. d.uplink) (slice_get self.old.list.items place) ≡ Some result }
+        ensures answered { Answered result self.old.list.items self.new.list.items }
+    {
+        self.take(place).uplink
     }
 }

@@ -51,6 +51,7 @@ impl Link {
     }
 
     /// Reads once into an inbox.
+    #[tactic(auto, unfolding(crate::specs::Linked::reading_of))]
     fn read(&mut self, inbox: &mut Inbox) -> Reading
         ensures number { self.new.number ≡ self.old.number }
         ensures link { inbox.new.link ≡ self.old.number }

@@ -97,13 +97,13 @@ impl Name {
         ensures address { IfOk result (λ o. o ≡ slice_get self.new.found.items (self.new.tried - 1)) }
         ensures kept { (self.new.uplink ≡ self.old.uplink) × (self.new.spec ≡ self.old.spec) }
     {
-        if self.tried >= self.found.len() {
+        let mut tried = self.tried;
+        if tried >= self.found.len() {
             look_up(rt, &self.spec, &mut self.found)?;
-            self.tried = 0;
+            tried = 0;
         }
-        let address = self.found.get(self.tried).copied();
-        self.tried = self.tried.saturating_add(1);
-        Ok(address)
+        self.tried = tried.saturating_add(1);
+        Ok(self.found.get(tried).copied())
     }
 }
 

@@ -33,6 +33,7 @@ impl Pace {
     }
 
     /// Whether a tick is due at once, before anything else is handed up.
+    #[tactic(auto, unfolding(crate::specs::Pacing::is_full))]
     pub(crate) fn is_full(&self) -> bool
         ensures { result ≡ is_full self.now }
     {
@@ -40,6 +41,7 @@ impl Pace {
     }
 
     /// Whether a tick is due where all that came is handed up.
+    #[tactic(auto, unfolding(crate::specs::Pacing::is_due))]
     pub(crate) fn is_due(&self) -> bool
         ensures { result ≡ is_due self.now }
     {

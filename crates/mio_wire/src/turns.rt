@@ -2,8 +2,9 @@
 ghost use Rattle.std.specs.Prelude.{◌≡◌, ◌==◌, ◌≢◌, ◌↔◌, ◌+◌, ◌-◌, ◌^◌, true, false, List, [], ◌∷◌, ◌++◌, OnOk, OnErr, IsTrue, min, slice_get, ◌<◌, ◌≤◌, vec_len, vec_capacity};
 ghost use Rattle.std.specs.List.{list_any};
 ghost use Rattle.mio_wire.specs.declared.turns.Ready.{Ready};
-ghost use Rattle.mio_wire.specs.Sources.{reads_link, source_of, to_end, to_read, with_waiting};
+ghost use Rattle.mio_wire.specs.Sources.{after_read, reads_link, source_of, to_end, to_read, with_waiting};
 
+use crate::links::Reading;
 use mio::Events;
 use mio::event::Event;
 use std::alloc::{AllocError, Global};
@@ -152,6 +153,20 @@ impl Turns {
         Ok(())
     }
 
+    /// Keeps a link that was read for the next turn, where the read tells to. It fails only where there is no room.
+    #[tactic(auto, unfolding(crate::specs::Sources::after_read))]
+    pub(crate) fn put_off_read(&mut self, reading: Reading, number: u32) -> Result<(), AllocError>
+        ensures later { OnOk result (self.new.later.items ≡ after_read reading number self.old.later.items) }
+        ensures full { OnErr result (vec_capacity self.old.later ≤ vec_len self.old.later) }
+        ensures turn { (self.new.ready ≡ self.old.ready) × (self.new.at ≡ self.old.at) }
+    {
+        match reading {
+            Reading::More => self.put_off(Ready::to_read(number as usize)),
+            Reading::Last => self.put_off(Ready::to_end(number as usize)),
+            Reading::All | Reading::End => Ok(()),
+        }
+    }
+
     /// Whether a source waits for the next turn.
     fn waits(&self, token: usize) -> bool
         ensures { result ≡ list_any (λ r. r.token == token) self.now.later.items }
@@ -160,6 +175,7 @@ impl Turns {
     }
 
     /// Keeps a source of which more can be read for the next turn, unless it waits for that already.
+    #[tactic(auto, unfolding(crate::specs::Sources::with_waiting))]
     pub(crate) fn put_off_once(&mut self, token: usize) -> Result<(), AllocError>
         ensures later { OnOk result (self.new.later.items ≡ with_waiting token self.old.later.items) }
         ensures err { OnErr result (self.new.later.items ≡ self.old.later.items) }

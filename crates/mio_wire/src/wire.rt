@@ -1,5 +1,5 @@
 //! The wire over the sockets of the system.
-ghost use Rattle.std.specs.Prelude.{◌≡◌, ◌≢◌, ◌<◌, ℕ, ◌+◌, ◌-◌, ◌^◌, ◌≤◌, ◌++◌, ◌&&◌, not, [], ◌∷◌, Some, None, true, false, length, OnOk, OnErr, IfOk, IfSome, IsErrOf};
+ghost use Rattle.std.specs.Prelude.{◌≡◌, ◌≢◌, ◌<◌, ℕ, ◌+◌, ◌-◌, ◌^◌, ◌≤◌, ◌++◌, ◌&&◌, not, [], ◌∷◌, Some, None, true, false, length, OnOk, OnErr, IfNone, IfOk, IfSome, IsErrOf};
 ghost use Rattle.aprs_base.specs.Outside.{AfterAct, AfterListen, AfterNext, AfterSend, IsOutcome, Rose, with_cast, with_closed, with_dial};
 ghost use Rattle.aprs_base.specs.declared.events.Event.TheVariants.{Tick};
 ghost use Rattle.aprs_base.specs.declared.events.WireError.TheVariants as WireError;
@@ -11,7 +11,7 @@ ghost use Rattle.mio_wire.specs.Names.{IsIn};
 ghost use Rattle.mio_wire.specs.Dialled.{Answers, AnswersStep, Begins};
 ghost use Rattle.mio_wire.specs.Linked.{TakesOf, TellsOfOne, TellsStep, numbers, numbers_after, without};
 ghost use Rattle.mio_wire.specs.Arrivals.{IsArrival, Steps, after_sent, counts, gones_after, stops_after, stops_with};
-ghost use Rattle.mio_wire.specs.Unread.{HandsUp, IsHeld, Leaves, forgotten, unread_after};
+ghost use Rattle.mio_wire.specs.Unread.{HandsUp, IsHeld, Leaves, forgotten, nothing, unread_after};
 ghost use Rattle.mio_wire.specs.Held.{NamesListener, NamesStep, Retries, listening, listening_after, reads_on, unread};
 
 use crate::course::Course;
@@ -92,6 +92,19 @@ impl<'a, R: Net + Clock> MioWire<'a, R> {
     }
 
     /// The sockets, which are opened at the first call that needs them.
+    #[tactic(auto, unfolding(crate::specs::Held::listening, crate::specs::Held::unread))]
+    fn open_sockets(&mut self) -> Result<(), WireError>
+        ensures kept { self.new ≡ record self.old { sockets = self.new.sockets } }
+        ensures unread { unread self.new.sockets ≡ unread self.old.sockets }
+        ensures listening { listening self.new.sockets ≡ listening self.old.sockets }
+    {
+        if self.sockets.is_none() {
+            self.sockets = Some(Sockets::open(self.rt, self.alloc)?);
+        }
+        Ok(())
+    }
+
+    /// Opens the sockets where they are not open. A failure counts.
     fn open(&mut self) -> Result<(), WireError>
         ensures stops { (self.old.stops ≤ self.new.stops) × (IsErrOf result WireError.Failed → Rose self.old.stops self.new.stops) }
         ensures kept { self.new ≡ record self.old { sockets = self.new.sockets; stops = self.new.stops } }
@@ -99,13 +112,10 @@ impl<'a, R: Net + Clock> MioWire<'a, R> {
         ensures unread { unread self.new.sockets ≡ unread self.old.sockets }
         ensures listening { listening self.new.sockets ≡ listening self.old.sockets }
     {
-        if self.sockets.is_none() {
-            match Sockets::open(self.rt, self.alloc) {
-                Ok(sockets) => self.sockets = Some(sockets),
-                Err(error) => return Err(self.refuse(error)),
-            }
+        match self.open_sockets() {
+            Ok(()) => Ok(()),
+            Err(error) => Err(self.refuse(error)),
         }
-        Ok(())
     }
 
     /// How long ago 1970 was, or the moment of the last tick where the clock doesn't tell.
@@ -117,6 +127,7 @@ impl<'a, R: Net + Clock> MioWire<'a, R> {
     }
 
     /// A tick. In a new second, listeners that failed to open a link try again.
+    #[tactic(auto, unfolding(crate::specs::Held::listening, crate::specs::Held::unread))]
     fn tick(&mut self, moment: u64) -> Event
         ensures event { result ≡ Tick moment }
         ensures tried { self.old.course.second ≢ Some moment → Retries self.new.sockets }
@@ -133,6 +144,7 @@ impl<'a, R: Net + Clock> MioWire<'a, R> {
     }
 
     /// Whether something has come that is not handed up, or not looked at.
+    #[tactic(auto, unfolding(crate::specs::Held::unread))]
     fn has_arrived(&self) -> bool
         ensures { result ≡ false → length (unread self.now.sockets).left ≡ 0 }
     {
@@ -143,6 +155,7 @@ impl<'a, R: Net + Clock> MioWire<'a, R> {
     }
 
     /// Whether a link has more than one read took: then not all that came is handed up.
+    #[tactic(auto, unfolding(crate::specs::Held::reads_on))]
     fn reads_on(&self) -> bool
         ensures { result ≡ reads_on self.now.sockets }
     {
@@ -153,6 +166,7 @@ impl<'a, R: Net + Clock> MioWire<'a, R> {
     }
 
     /// The next thing to hand up of what has come: bytes that were read, or what a socket has.
+    #[tactic(auto, unfolding(crate::specs::Arrivals::IsArrival, crate::specs::Arrivals::Steps, crate::specs::Dialled::AnswersStep, crate::specs::Held::NamesStep, crate::specs::Held::listening, crate::specs::Held::unread, crate::specs::Linked::TellsStep, crate::specs::Unread::HandsUp, crate::specs::Unread::IsHeld, crate::specs::Unread::Leaves))]
     fn arrived(&mut self) -> Result<Option<Event>, WireError>
         ensures steps { IfOk result (Steps (numbers self.old.links.list.items) (numbers self.new.links.list.items) self.old.links.made self.new.links.made) }
         ensures dials { IfOk result (AnswersStep self.old.dials.list.items self.new.dials.list.items) }
@@ -179,7 +193,60 @@ impl<'a, R: Net + Clock> MioWire<'a, R> {
         Ok(sockets.serve(&mut self.links, &mut self.dials)?)
     }
 
+    /// What comes before anything that arrives: the first tick, a stop, a tick that is due at once, or the answer to a dead dial.
+    #[tactic(auto, using(crate::proofs::NextLemmas::leaves_same), unfolding(crate::specs::Arrivals::Steps, crate::specs::Coming::ComesNext, crate::specs::Coming::StepGives, crate::specs::Dialled::AnswersStep, crate::specs::Held::NamesStep, crate::specs::Linked::TellsStep))]
+    fn due(&mut self) -> Option<Event>
+        ensures steps { Steps (numbers self.old.links.list.items) (numbers self.new.links.list.items) self.old.links.made self.new.links.made result }
+        ensures dials { AnswersStep self.old.dials.list.items self.new.dials.list.items result }
+        ensures rest { IfSome result (Leaves (unread self.old.sockets) (unread self.new.sockets) (unread self.old.sockets).left) }
+        ensures tells { TellsStep (numbers self.old.links.list.items) result }
+        ensures names { NamesStep (listening self.old.sockets) result }
+        ensures gives { IfSome result (λ e. StepGives self.old.course self.old.dials.list.items (unread self.old.sockets) (Some e)) }
+        ensures none { IfNone result (StepGives self.old.course self.old.dials.list.items nothing None × (self.new ≡ self.old)) }
+        ensures unread { unread self.new.sockets ≡ unread self.old.sockets }
+        ensures listening { listening self.new.sockets ≡ listening self.old.sockets }
+        ensures kept { self.new ≡ record self.old { sockets = self.new.sockets; dials = self.new.dials } }
+    {
+        let Some(second) = self.course.second else {
+            return Some(self.tick(self.clock().as_secs()));
+        };
+        if self.course.is_stopped() {
+            return Some(Event::Stop);
+        }
+        if self.course.pace.is_full() {
+            return Some(self.tick(self.clock().as_secs()));
+        }
+        Some(Event::Unjoined(self.dials.give_up_dead(second)?))
+    }
+
+    /// Gives a tick in a new second, or where all that came is handed up and one is due, and else waits.
+    #[tactic(auto, using(crate::proofs::NextLemmas::leaves_same), unfolding(crate::specs::Arrivals::Steps, crate::specs::Coming::ComesNext, crate::specs::Coming::StepGives, crate::specs::Dialled::AnswersStep, crate::specs::Held::NamesStep, crate::specs::Linked::TellsStep))]
+    fn rest(&mut self) -> Result<Option<Event>, WireError>
+        requires undue { StepGives self.old.course self.old.dials.list.items nothing None }
+        requires handed { length (unread self.old.sockets).left ≡ 0 }
+        ensures steps { IfOk result (Steps (numbers self.old.links.list.items) (numbers self.new.links.list.items) self.old.links.made self.new.links.made) }
+        ensures dials { IfOk result (AnswersStep self.old.dials.list.items self.new.dials.list.items) }
+        ensures rest { IfOk result (λ o. IfSome o (Leaves (unread self.old.sockets) (unread self.new.sockets) (unread self.old.sockets).left)) }
+        ensures tells { IfOk result (TellsStep (numbers self.old.links.list.items)) }
+        ensures gives { IfOk result (StepGives self.old.course self.old.dials.list.items (unread self.old.sockets)) }
+        ensures stops { (self.old.stops ≤ self.new.stops) × (IsErrOf result WireError.Failed → Rose self.old.stops self.new.stops) }
+        ensures names { IfOk result (NamesStep (listening self.old.sockets)) }
+        ensures counted { self.new.stops ≡ stops_after result self.old.stops }
+        ensures unread { unread self.new.sockets ≡ unread self.old.sockets }
+        ensures listening { listening self.new.sockets ≡ listening self.old.sockets }
+        ensures kept { self.new ≡ record self.old { sockets = self.new.sockets; stops = self.new.stops } }
+    {
+        let now = self.clock();
+        let all_handed = self.course.pace.is_due() && !self.reads_on();
+        if all_handed || self.course.second != Some(now.as_secs()) {
+            return Ok(Some(self.tick(now.as_secs())));
+        }
+        self.wait(now)?;
+        Ok(None)
+    }
+
     /// The next event, or none where it took a step towards it.
+    #[tactic(auto, using(crate::proofs::NextLemmas::arrived_gives))]
     fn step(&mut self) -> Result<Option<Event>, WireError>
         ensures steps { IfOk result (Steps (numbers self.old.links.list.items) (numbers self.new.links.list.items) self.old.links.made self.new.links.made) }
         ensures dials { IfOk result (AnswersStep self.old.dials.list.items self.new.dials.list.items) }
@@ -196,33 +263,17 @@ impl<'a, R: Net + Clock> MioWire<'a, R> {
         ensures listening { listening self.new.sockets ≡ listening self.old.sockets }
         ensures kept { (self.new.gones ≡ self.old.gones) × (self.new.course ≡ self.old.course) }
     {
-        let Some(second) = self.course.second else {
-            let now = self.clock();
-            return Ok(Some(self.tick(now.as_secs())));
-        };
-        if self.course.is_stopped() {
-            return Ok(Some(Event::Stop));
-        }
-        if self.course.pace.is_full() {
-            let now = self.clock();
-            return Ok(Some(self.tick(now.as_secs())));
-        }
-        if let Some(place) = self.dials.dead(second) {
-            return Ok(Some(self.dials.give_up(place)));
+        if let Some(event) = self.due() {
+            return Ok(Some(event));
         }
         if self.has_arrived() {
             return self.arrived();
         }
-        let now = self.clock();
-        let all_handed = self.course.pace.is_due() && !self.reads_on();
-        if all_handed || now.as_secs() != second {
-            return Ok(Some(self.tick(now.as_secs())));
-        }
-        self.wait(now)?;
-        Ok(None)
+        self.rest()
     }
 
     /// Offers bytes to a link, which is let go where it is gone.
+    #[tactic(auto, unfolding(crate::specs::Held::listening, crate::specs::Held::unread, crate::specs::Unread::IsHeld))]
     fn offer(&mut self, link: u32, bytes: &[u8]) -> Result<Sent, Memory>
         ensures there { IfOk result (TakesOf (numbers self.old.links.list.items) link) }
         ensures held { IsHeld (unread self.old.sockets) (numbers self.old.links.list.items) → IsHeld (unread self.new.sockets) (numbers self.new.links.list.items) }
@@ -283,17 +334,16 @@ impl<'a, R: Net + Clock> MioWire<'a, R> {
     }
 
     /// Begins to connect. None where that fails at once.
+    #[tactic(auto, unfolding(crate::specs::Held::listening, crate::specs::Held::unread))]
     fn connect(&mut self, at: Addr, token: usize) -> Result<Option<TcpStream>, Memory>
         ensures unread { unread self.new.sockets ≡ unread self.old.sockets }
         ensures listening { listening self.new.sockets ≡ listening self.old.sockets }
         ensures kept { self.new ≡ record self.old { sockets = self.new.sockets } }
     {
-        if self.sockets.is_none() {
-            match Sockets::open(self.rt, self.alloc) {
-                Ok(sockets) => self.sockets = Some(sockets),
-                Err(WireError::Memory) => return Err(Memory),
-                Err(WireError::Failed) => return Ok(None),
-            }
+        match self.open_sockets() {
+            Ok(()) => {}
+            Err(WireError::Memory) => return Err(Memory),
+            Err(WireError::Failed) => return Ok(None),
         }
         match &self.sockets {
             Some(sockets) => Ok(sockets.connect(self.rt, at, token)),
@@ -302,6 +352,7 @@ impl<'a, R: Net + Clock> MioWire<'a, R> {
     }
 
     /// Waits for the sockets, but not beyond the second that `now` is in.
+    #[tactic(auto, unfolding(crate::specs::Held::listening, crate::specs::Held::unread))]
     fn wait(&mut self, now: Duration) -> Result<(), WireError>
         requires { (is_due self.old.course.pace && not (reads_on self.old.sockets)) ≡ false }
         ensures stops { (self.old.stops ≤ self.new.stops) × (IsErrOf result WireError.Failed → Rose self.old.stops self.new.stops) }
@@ -325,6 +376,7 @@ impl<'a, R: Net + Clock + Wait> Wire for MioWire<'a, R> {
     ghost shown = { λ w. counts w.stops w.gones w.links.made };
 
     /// Listens over TCP for links, and over UDP for what is submitted in datagrams and for a peer group.
+    #[tactic(auto, unfolding(crate::specs::Held::listening, crate::specs::Held::unread))]
     fn listen(&mut self, n: u16, spec: &ListenSpec) -> Result<(), WireError>
         ensures listen { AfterListen (counts self.old.stops self.old.gones self.old.links.made) (counts self.new.stops self.new.gones self.new.links.made) n spec.now result }
         ensures listening { OnOk result (listening self.new.sockets ≡ listening_after spec.now.kind n (listening self.old.sockets)) }
@@ -344,6 +396,7 @@ impl<'a, R: Net + Clock + Wait> Wire for MioWire<'a, R> {
         }
     }
 
+    #[tactic(auto, unfolding(crate::specs::Arrivals::Steps, crate::specs::Coming::StepGives, crate::specs::Dialled::AnswersStep, crate::specs::Linked::TellsStep))]
     fn next(&mut self) -> Result<Event, WireError>
         ensures next { AfterNext (counts self.old.stops self.old.gones self.old.links.made) (counts self.new.stops self.new.gones self.new.links.made) result }
         ensures comes { IfOk result (ComesNext self.old.course self.old.dials.list.items (unread self.old.sockets)) }
@@ -390,6 +443,7 @@ impl<'a, R: Net + Clock + Wait> Wire for MioWire<'a, R> {
         Ok(sent)
     }
 
+    #[tactic(auto, unfolding(crate::specs::Held::listening, crate::specs::Held::unread, crate::specs::Unread::IsHeld))]
     fn close(&mut self, link: u32) -> Result<(), Memory>
         ensures close { AfterAct (counts self.old.stops self.old.gones self.old.links.made) (counts self.new.stops self.new.gones self.new.links.made) (with_closed link) result }
         ensures held { IsHeld (unread self.old.sockets) (numbers self.old.links.list.items) → IsHeld (unread self.new.sockets) (numbers self.new.links.list.items) }

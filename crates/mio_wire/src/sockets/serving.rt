@@ -27,6 +27,7 @@ const MOST_DATAGRAMS: u32 = 64;
 
 impl Sockets {
     /// Serves the source whose turn it is.
+    #[tactic(auto, unfolding(crate::specs::Arrivals::IsArrival, crate::specs::Arrivals::Steps, crate::specs::Dialled::AnswersStep, crate::specs::Held::NamesStep, crate::specs::Linked::TellsStep, crate::specs::Unread::IsHeld))]
     pub(crate) fn serve(
         &mut self,
         links: &mut Links,
@@ -44,9 +45,32 @@ impl Sockets {
         ensures arrival { IfOk result IsArrival }
         ensures err { OnErr result ((numbers links.new.list.items ≡ numbers links.old.list.items) × (links.new.made ≡ links.old.made)) }
     {
-        let Some(ready) = self.turns.current() else {
-            return Ok(None);
-        };
+        match self.turns.current() {
+            Some(ready) => self.serve_source(links, dials, ready),
+            None => Ok(None),
+        }
+    }
+
+    /// Serves a source that is ready.
+    #[tactic(auto, using(crate::proofs::ArrivalLemmas::mail_steps, crate::proofs::ArrivalLemmas::mail_tells, crate::proofs::ArrivalLemmas::mail_unasked, crate::proofs::ArrivalLemmas::unasked_answers, crate::proofs::ArrivalLemmas::unasked_arrives, crate::proofs::HeldLemmas::held_none))]
+    fn serve_source(
+        &mut self,
+        links: &mut Links,
+        dials: &mut Dials,
+        ready: Ready,
+    ) -> Result<Option<Event>, AllocError>
+        requires { length self.old.inbox.left ≡ 0 }
+        ensures tells { IfOk result (TellsStep (numbers links.old.list.items)) }
+        ensures names { IfOk result (NamesStep (listening_of self.old)) }
+        ensures held { IsHeld self.new.inbox (numbers links.new.list.items) }
+        ensures unread { OnErr result (self.new.inbox ≡ self.old.inbox) }
+        ensures listening { listening_of self.new ≡ listening_of self.old }
+        ensures steps { IfOk result (Steps (numbers links.old.list.items) (numbers links.new.list.items) links.old.made links.new.made) }
+        ensures dials { IfOk result (AnswersStep dials.old.list.items dials.new.list.items) }
+        ensures unanswered { OnErr result (dials.new.list.items ≡ dials.old.list.items) }
+        ensures arrival { IfOk result IsArrival }
+        ensures err { OnErr result ((numbers links.new.list.items ≡ numbers links.old.list.items) × (links.new.made ≡ links.old.made)) }
+    {
         match source_of(ready.token) {
             Source::Link(number) => self.serve_link(links, number, ready),
             Source::Ear(place) => self.serve_ear(links, place, ready.token),
@@ -56,6 +80,7 @@ impl Sockets {
     }
 
     /// Hands up a datagram, or goes on where none waits. A socket that had its share waits for the next turn.
+    #[tactic(auto, unfolding(crate::specs::Arrivals::IsMail, crate::specs::Held::BringsAt, crate::specs::Sources::waiting_after))]
     fn serve_mailbox(&mut self, place: usize, token: usize) -> Result<Option<Event>, AllocError>
         ensures mail { IfOk result IsMail }
         ensures named { IfOk result (BringsAt (listening_of self.old).mail place) }
@@ -100,6 +125,7 @@ impl Sockets {
     }
 
     /// Answers a dial of whose socket the poll told, once its outcome is known.
+    #[tactic(auto, unfolding(crate::specs::Arrivals::IsArrival, crate::specs::Arrivals::Steps, crate::specs::Dialled::AnswersStep, crate::specs::Held::NamesStep, crate::specs::Linked::TellsStep))]
     fn serve_dial(
         &mut self,
         links: &mut Links,
@@ -124,11 +150,12 @@ impl Sockets {
         match dials.outcome(place, ready.writable || ready.closed) {
             Outcome::Waits => Ok(None),
             Outcome::Joins => self.join(links, dials, place),
-            Outcome::Fails => Ok(Some(dials.give_up(place))),
+            Outcome::Fails => Ok(Some(Event::Unjoined(dials.give_up(place)))),
         }
     }
 
     /// Makes a link of a dial that is connected, where there is a number for it.
+    #[tactic(auto, unfolding(crate::specs::Arrivals::IsArrival, crate::specs::Arrivals::Steps, crate::specs::Dialled::AnswersStep, crate::specs::Held::NamesStep, crate::specs::Linked::TellsStep))]
     fn join(
         &mut self,
         links: &mut Links,
@@ -147,7 +174,7 @@ impl Sockets {
         ensures err { OnErr result ((numbers links.new.list.items ≡ numbers links.old.list.items) × (links.new.made ≡ links.old.made)) }
     {
         let Some(number) = links.made.checked_add(1) else {
-            return Ok(Some(dials.give_up(place)));
+            return Ok(Some(Event::Unjoined(dials.give_up(place))));
         };
         links.make_room()?;
         let dial = dials.take(place);
@@ -200,6 +227,7 @@ impl Sockets {
     }
 
     /// Opens the link that waits at a listener, if any. A listener that had its share waits for the next turn.
+    #[tactic(auto, unfolding(crate::specs::Arrivals::IsUnasked, crate::specs::Arrivals::Steps, crate::specs::Held::OpensAt, crate::specs::Linked::TellsStep, crate::specs::Sources::waiting_after))]
     fn open_link(
         &mut self,
         links: &mut Links,
@@ -265,6 +293,7 @@ impl Sockets {
     }
 
     /// Says that a link has room again, or reads what it brings.
+    #[tactic(auto, unfolding(crate::specs::Arrivals::IsUnasked, crate::specs::Arrivals::Steps, crate::specs::Held::NamesStep, crate::specs::Linked::TellsStep, crate::specs::Unread::IsHeld))]
     fn serve_link(
         &mut self,
         links: &mut Links,
@@ -298,6 +327,7 @@ impl Sockets {
     }
 
     /// Reads once from a link, which has another turn where more may be there.
+    #[tactic(auto, unfolding(crate::specs::Arrivals::IsUnasked, crate::specs::Arrivals::Steps, crate::specs::Held::NamesStep, crate::specs::Linked::TellsStep, crate::specs::Unread::IsHeld))]
     fn read(
         &mut self,
         links: &mut Links,
@@ -321,21 +351,13 @@ impl Sockets {
         ensures err { OnErr result ((numbers links.new.list.items ≡ numbers links.old.list.items) × (links.new.made ≡ links.old.made)) }
     {
         self.turns.make_room()?;
-        match links.read(place, &mut self.inbox) {
-            Reading::End => {
-                self.let_go(links, number);
-                Ok(Some(Event::Ended(number)))
-            }
-            Reading::More => {
-                self.turns.put_off(Ready::to_read(number as usize))?;
-                Ok(None)
-            }
-            Reading::Last => {
-                self.turns.put_off(Ready::to_end(number as usize))?;
-                Ok(None)
-            }
-            Reading::All => Ok(None),
+        let reading = links.read(place, &mut self.inbox);
+        if matches!(reading, Reading::End) {
+            self.let_go(links, number);
+            return Ok(Some(Event::Ended(number)));
         }
+        self.turns.put_off_read(reading, number)?;
+        Ok(None)
     }
 }
 

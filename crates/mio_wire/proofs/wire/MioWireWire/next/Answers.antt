@@ -4,8 +4,10 @@ use Rattle.mio_wire.specs.Linked.{TellsStep, numbers}
 use Rattle.mio_wire.specs.Unread.{IsHeld}
 use Rattle.mio_wire.proofs.NextLemmas.{comes_from, leaves_from}
 use Rattle.mio_wire.proofs.wire.MioWireWire.next.Goals as goal
+use Rattle.mio_wire.specs.Coming.{StepGives}
 
 pub returns-in-Some-2-clause-comes : goal.returns-in-Some-2-clause-comes
+unfolding StepGives
 returns-in-Some-2-clause-comes g c =
     let start = c.args.self.now in
     let course : c.loop.self.course ≡ start.course = rw c.open.ensures.kept at c.loop.invariant.8 in
@@ -21,6 +23,7 @@ returns-in-Some-2-clause-rest g c =
     leaves_from (unread start.sockets).link (unread start.sockets).left (unread c.loop.self.sockets) (unread c.step.new.self.sockets) c.in-Some-2.event same (rw c.in-Some-2.is at c.in_ok-event.ensures.rest)
 
 pub returns-in-Some-2-clause-tells : goal.returns-in-Some-2-clause-tells
+unfolding TellsStep
 returns-in-Some-2-clause-tells g c = λ held.
     let opened : IsHeld (unread c.open.new.self.sockets) (numbers c.open.new.self.links.list.items) = rw (c.open.ensures.unread, c.open.ensures.kept) held in
     let tells : TellsStep (numbers c.loop.self.links.list.items) c.in_ok-event.field-0 = c.in_ok-event.ensures.tells (c.loop.invariant.9 opened) in
@@ -33,6 +36,7 @@ returns-in-Some-2-clause-held g c = λ held.
     c.in_ok-event.ensures.held (c.loop.invariant.9 opened)
 
 pub returns-in-Some-2-clause-names : goal.returns-in-Some-2-clause-names
+unfolding NamesStep
 returns-in-Some-2-clause-names g c =
     let same : listening c.loop.self.sockets ≡ listening c.args.self.now.sockets = c.loop.invariant.10 ∙ c.open.ensures.listening in
     let names : NamesStep (listening c.loop.self.sockets) c.in_ok-event.field-0 = c.in_ok-event.ensures.names in
