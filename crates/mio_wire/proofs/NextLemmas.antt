@@ -1,14 +1,16 @@
 -- What comes next by what was unread at the start, where nothing was read while that was left.
-use Rattle.std.proofs.Common.{◌≡◌, ◌≢◌, ℕ, ◌<◌, Bool, true, false, List, [], ◌∷◌, length, Option, Some, None, subst, arith, rules}
+use Rattle.std.proofs.Common.{◌≡◌, ◌≢◌, ℕ, ◌<◌, Bool, true, false, List, [], ◌∷◌, length, Option, Some, None, IfSome, subst, arith, rules}
 use Rattle.std.specs.Bool.{IsTrue}
 use Rattle.aprs_base.specs.declared.events.Event.{Event}
 use Rattle.aprs_base.specs.declared.events.Event.TheVariants.{Bytes, Stop, Tick}
 use Rattle.mio_wire.specs.Arrivals.{IsArrival}
 use Rattle.mio_wire.specs.Coming.{Comes, ComesNext, Passes, Rests, StepGives, dead_at, has_stopped, is_arrival}
+use Rattle.mio_wire.specs.Held.{RetriesAt}
 use Rattle.mio_wire.specs.Pacing.{is_due, is_full}
 use Rattle.mio_wire.specs.Unread.{Brought, HandsUp, IsNextOf, Leaves, nothing}
 use Rattle.mio_wire.specs.declared.course.Course.{Course}
 use Rattle.mio_wire.specs.declared.dials.Dial.{Dial}
+use Rattle.mio_wire.specs.declared.sockets.Sockets.{Sockets}
 
 next_from : (link : ℕ) (left : List ℕ) (now : Brought) (e : Event) → (0 < length left → now ≡ record { link = link; left = left }) → IsNextOf now.link now.left e → IsNextOf link left e
 next_from link [] now e same next = tt
@@ -63,3 +65,13 @@ arrived_gives course dials bytes None undue arrives handed =
     arrived_passes course.second (has_stopped course.stop_after course.ended) (is_full course.pace) (dead_at course.second dials) bytes undue handed
 arrived_gives course dials bytes (Some e) undue arrives handed =
     arrived_comes course.second (has_stopped course.stop_after course.ended) (is_full course.pace) (is_due course.pace) (dead_at course.second dials) bytes e undue arrives handed
+
+no_tick : (last : Option ℕ) (sockets : Option Sockets) (e : Event) → IsTrue (is_arrival e) → RetriesAt last sockets e
+unfolding RetriesAt
+no_tick last sockets e arrives = search rules
+
+-- what arrives is no tick
+pub arrived_retries : (last : Option ℕ) (sockets : Option Sockets) (o : Option Event) → IsArrival o → IfSome o (RetriesAt last sockets)
+unfolding IsArrival
+arrived_retries last sockets None arrives = tt
+arrived_retries last sockets (Some e) arrives = no_tick last sockets e arrives

@@ -1,5 +1,5 @@
 -- What the sockets hold.
-use Rattle.std.specs.Prelude.{◌≡◌, ℕ, ⊤, Bool, true, false, if◌then◌else◌, List, [], ◌∷◌, ◌++◌, length, map, Contains, slice_get, Option, Some, None}
+use Rattle.std.specs.Prelude.{◌≡◌, ◌≢◌, ℕ, ⊤, Bool, true, false, if◌then◌else◌, List, [], ◌∷◌, ◌++◌, length, map, Contains, slice_get, Option, Some, None}
 use Rattle.std.specs.List.{list_any}
 use Rattle.aprs_base.specs.declared.events.Event.{Event}
 use Rattle.aprs_base.specs.declared.events.Event.TheVariants as event
@@ -85,3 +85,8 @@ woken false ears later = later
 abbrev pub Retries : Option Sockets → Type 0
 Retries None = ⊤
 Retries (Some sockets) = sockets.retry ≡ true
+
+-- with a tick of another second than the last one's, deaf listeners are to be tried again
+unfoldable pub RetriesAt : (last : Option ℕ) → Option Sockets → Event → Type 0
+RetriesAt last sockets (event.Tick moment) = last ≢ Some moment → Retries sockets
+RetriesAt last sockets _ = ⊤

@@ -1,5 +1,5 @@
 //! The wire over the sockets of the system.
-ghost use Rattle.std.specs.Prelude.{◌≡◌, ◌≢◌, ◌<◌, ℕ, ◌+◌, ◌-◌, ◌^◌, ◌≤◌, ◌++◌, ◌&&◌, not, [], ◌∷◌, Some, None, true, false, length, OnOk, OnErr, IfNone, IfOk, IfSome, IsErrOf};
+ghost use Rattle.std.specs.Prelude.{◌≡◌, ◌<◌, ℕ, ◌+◌, ◌-◌, ◌^◌, ◌≤◌, ◌++◌, ◌&&◌, not, [], ◌∷◌, Some, None, true, false, is_some, length, OnOk, OnErr, IfNone, IfOk, IfSome, IsErrOf};
 ghost use Rattle.aprs_base.specs.Outside.{AfterAct, AfterListen, AfterNext, AfterSend, IsOutcome, Rose, with_cast, with_closed, with_dial};
 ghost use Rattle.aprs_base.specs.declared.events.Event.TheVariants.{Tick};
 ghost use Rattle.aprs_base.specs.declared.events.WireError.TheVariants as WireError;
@@ -12,7 +12,7 @@ ghost use Rattle.mio_wire.specs.Dialled.{Answers, AnswersStep, Begins};
 ghost use Rattle.mio_wire.specs.Linked.{TakesOf, TellsOfOne, TellsStep, numbers, numbers_after, without};
 ghost use Rattle.mio_wire.specs.Arrivals.{IsArrival, Steps, after_sent, counts, gones_after, stops_after, stops_with};
 ghost use Rattle.mio_wire.specs.Unread.{HandsUp, IsHeld, Leaves, forgotten, nothing, unread_after};
-ghost use Rattle.mio_wire.specs.Held.{NamesListener, NamesStep, Retries, listening, listening_after, reads_on, unread};
+ghost use Rattle.mio_wire.specs.Held.{NamesListener, NamesStep, RetriesAt, listening, listening_after, reads_on, unread};
 
 use crate::course::Course;
 use crate::dials::{Dial, Dials};
@@ -44,6 +44,7 @@ const NOWHERE: Addr = Addr {
 ///
 /// Beside the tick of each new second it gives one as soon as all that came is handed up, where something was handed up since
 /// the last tick; one where 400 line ends or 48,000 bytes were handed up; and one where a send took 65,536 bytes whole.
+/// Listeners that couldn't open a link try again once a tick has another second than the last one's.
 #[derive(Drop)]
 pub struct MioWire<'a, R: Net + Clock> {
     rt: &'a R,
@@ -94,6 +95,7 @@ impl<'a, R: Net + Clock> MioWire<'a, R> {
     /// The sockets, which are opened at the first call that needs them.
     #[tactic(auto, unfolding(crate::specs::Held::listening, crate::specs::Held::unread))]
     fn open_sockets(&mut self) -> Result<(), WireError>
+        ensures there { OnOk result (is_some self.new.sockets ≡ true) }
         ensures kept { self.new ≡ record self.old { sockets = self.new.sockets } }
         ensures unread { unread self.new.sockets ≡ unread self.old.sockets }
         ensures listening { listening self.new.sockets ≡ listening self.old.sockets }
@@ -106,6 +108,7 @@ impl<'a, R: Net + Clock> MioWire<'a, R> {
 
     /// Opens the sockets where they are not open. A failure counts.
     fn open(&mut self) -> Result<(), WireError>
+        ensures there { OnOk result (is_some self.new.sockets ≡ true) }
         ensures stops { (self.old.stops ≤ self.new.stops) × (IsErrOf result WireError.Failed → Rose self.old.stops self.new.stops) }
         ensures kept { self.new ≡ record self.old { sockets = self.new.sockets; stops = self.new.stops } }
         ensures counted { self.new.stops ≡ stops_after result self.old.stops }
@@ -127,10 +130,10 @@ impl<'a, R: Net + Clock> MioWire<'a, R> {
     }
 
     /// A tick. In a new second, listeners that failed to open a link try again.
-    #[tactic(auto, unfolding(crate::specs::Held::listening, crate::specs::Held::unread))]
+    #[tactic(auto, unfolding(crate::specs::Held::RetriesAt, crate::specs::Held::listening, crate::specs::Held::unread))]
     fn tick(&mut self, moment: u64) -> Event
         ensures event { result ≡ Tick moment }
-        ensures tried { self.old.course.second ≢ Some moment → Retries self.new.sockets }
+        ensures retries { RetriesAt self.old.course.second self.new.sockets result }
         ensures kept { self.new ≡ record self.old { sockets = self.new.sockets } }
         ensures unread { unread self.new.sockets ≡ unread self.old.sockets }
         ensures listening { listening self.new.sockets ≡ listening self.old.sockets }
@@ -194,7 +197,7 @@ impl<'a, R: Net + Clock> MioWire<'a, R> {
     }
 
     /// What comes before anything that arrives: the first tick, a stop, a tick that is due at once, or the answer to a dead dial.
-    #[tactic(auto, using(crate::proofs::NextLemmas::leaves_same), unfolding(crate::specs::Arrivals::Steps, crate::specs::Coming::ComesNext, crate::specs::Coming::StepGives, crate::specs::Dialled::AnswersStep, crate::specs::Held::NamesStep, crate::specs::Linked::TellsStep))]
+    #[tactic(auto, using(crate::proofs::NextLemmas::leaves_same), unfolding(crate::specs::Arrivals::Steps, crate::specs::Coming::ComesNext, crate::specs::Coming::StepGives, crate::specs::Dialled::AnswersStep, crate::specs::Held::NamesStep, crate::specs::Held::RetriesAt, crate::specs::Linked::TellsStep))]
     fn due(&mut self) -> Option<Event>
         ensures steps { Steps (numbers self.old.links.list.items) (numbers self.new.links.list.items) self.old.links.made self.new.links.made result }
         ensures dials { AnswersStep self.old.dials.list.items self.new.dials.list.items result }
@@ -202,6 +205,7 @@ impl<'a, R: Net + Clock> MioWire<'a, R> {
         ensures tells { TellsStep (numbers self.old.links.list.items) result }
         ensures names { NamesStep (listening self.old.sockets) result }
         ensures gives { IfSome result (λ e. StepGives self.old.course self.old.dials.list.items (unread self.old.sockets) (Some e)) }
+        ensures retries { IfSome result (RetriesAt self.old.course.second self.new.sockets) }
         ensures none { IfNone result (StepGives self.old.course self.old.dials.list.items nothing None × (self.new ≡ self.old)) }
         ensures unread { unread self.new.sockets ≡ unread self.old.sockets }
         ensures listening { listening self.new.sockets ≡ listening self.old.sockets }
@@ -231,6 +235,7 @@ impl<'a, R: Net + Clock> MioWire<'a, R> {
         ensures gives { IfOk result (StepGives self.old.course self.old.dials.list.items (unread self.old.sockets)) }
         ensures stops { (self.old.stops ≤ self.new.stops) × (IsErrOf result WireError.Failed → Rose self.old.stops self.new.stops) }
         ensures names { IfOk result (NamesStep (listening self.old.sockets)) }
+        ensures retries { IfOk result (λ o. IfSome o (RetriesAt self.old.course.second self.new.sockets)) }
         ensures counted { self.new.stops ≡ stops_after result self.old.stops }
         ensures unread { unread self.new.sockets ≡ unread self.old.sockets }
         ensures listening { listening self.new.sockets ≡ listening self.old.sockets }
@@ -246,7 +251,7 @@ impl<'a, R: Net + Clock> MioWire<'a, R> {
     }
 
     /// The next event, or none where it took a step towards it.
-    #[tactic(auto, using(crate::proofs::NextLemmas::arrived_gives))]
+    #[tactic(auto, using(crate::proofs::NextLemmas::arrived_gives, crate::proofs::NextLemmas::arrived_retries))]
     fn step(&mut self) -> Result<Option<Event>, WireError>
         ensures steps { IfOk result (Steps (numbers self.old.links.list.items) (numbers self.new.links.list.items) self.old.links.made self.new.links.made) }
         ensures dials { IfOk result (AnswersStep self.old.dials.list.items self.new.dials.list.items) }
@@ -259,6 +264,7 @@ impl<'a, R: Net + Clock> MioWire<'a, R> {
         ensures unread { OnErr result (unread self.new.sockets ≡ unread self.old.sockets) }
         ensures stops { (self.old.stops ≤ self.new.stops) × (IsErrOf result WireError.Failed → Rose self.old.stops self.new.stops) }
         ensures names { IfOk result (NamesStep (listening self.old.sockets)) }
+        ensures retries { IfOk result (λ o. IfSome o (RetriesAt self.old.course.second self.new.sockets)) }
         ensures counted { self.new.stops ≡ stops_after result self.old.stops }
         ensures listening { listening self.new.sockets ≡ listening self.old.sockets }
         ensures kept { (self.new.gones ≡ self.old.gones) × (self.new.course ≡ self.old.course) }
@@ -404,6 +410,7 @@ impl<'a, R: Net + Clock + Wait> Wire for MioWire<'a, R> {
         ensures held { IsHeld (unread self.old.sockets) (numbers self.old.links.list.items) → IfOk result (λ e. IsHeld (unread self.new.sockets) (numbers self.new.links.list.items)) }
         ensures rest { IfOk result (Leaves (unread self.old.sockets) (unread self.new.sockets) (unread self.old.sockets).left) }
         ensures names { IfOk result (NamesListener (listening self.old.sockets)) }
+        ensures retries { IfOk result (RetriesAt self.old.course.second self.new.sockets) }
         ensures listening { listening self.new.sockets ≡ listening self.old.sockets }
         ensures stops { self.new.stops ≡ stops_after result self.old.stops }
         ensures course { IfOk result (λ e. self.new.course ≡ after_event e self.old.course) }

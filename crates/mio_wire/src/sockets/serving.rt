@@ -27,7 +27,7 @@ const MOST_DATAGRAMS: u32 = 64;
 
 impl Sockets {
     /// Serves the source whose turn it is.
-    #[tactic(auto, unfolding(crate::specs::Arrivals::IsArrival, crate::specs::Arrivals::Steps, crate::specs::Dialled::AnswersStep, crate::specs::Held::NamesStep, crate::specs::Linked::TellsStep, crate::specs::Unread::IsHeld))]
+    #[tactic(auto, using(crate::proofs::ArrivalLemmas::mail_steps, crate::proofs::ArrivalLemmas::mail_tells, crate::proofs::ArrivalLemmas::mail_unasked, crate::proofs::ArrivalLemmas::unasked_answers, crate::proofs::ArrivalLemmas::unasked_arrives, crate::proofs::HeldLemmas::held_none), unfolding(crate::specs::Arrivals::IsArrival, crate::specs::Arrivals::Steps, crate::specs::Dialled::AnswersStep, crate::specs::Held::NamesStep, crate::specs::Linked::TellsStep, crate::specs::Unread::IsHeld))]
     pub(crate) fn serve(
         &mut self,
         links: &mut Links,
@@ -45,32 +45,9 @@ impl Sockets {
         ensures arrival { IfOk result IsArrival }
         ensures err { OnErr result ((numbers links.new.list.items ≡ numbers links.old.list.items) × (links.new.made ≡ links.old.made)) }
     {
-        match self.turns.current() {
-            Some(ready) => self.serve_source(links, dials, ready),
-            None => Ok(None),
-        }
-    }
-
-    /// Serves a source that is ready.
-    #[tactic(auto, using(crate::proofs::ArrivalLemmas::mail_steps, crate::proofs::ArrivalLemmas::mail_tells, crate::proofs::ArrivalLemmas::mail_unasked, crate::proofs::ArrivalLemmas::unasked_answers, crate::proofs::ArrivalLemmas::unasked_arrives, crate::proofs::HeldLemmas::held_none))]
-    fn serve_source(
-        &mut self,
-        links: &mut Links,
-        dials: &mut Dials,
-        ready: Ready,
-    ) -> Result<Option<Event>, AllocError>
-        requires { length self.old.inbox.left ≡ 0 }
-        ensures tells { IfOk result (TellsStep (numbers links.old.list.items)) }
-        ensures names { IfOk result (NamesStep (listening_of self.old)) }
-        ensures held { IsHeld self.new.inbox (numbers links.new.list.items) }
-        ensures unread { OnErr result (self.new.inbox ≡ self.old.inbox) }
-        ensures listening { listening_of self.new ≡ listening_of self.old }
-        ensures steps { IfOk result (Steps (numbers links.old.list.items) (numbers links.new.list.items) links.old.made links.new.made) }
-        ensures dials { IfOk result (AnswersStep dials.old.list.items dials.new.list.items) }
-        ensures unanswered { OnErr result (dials.new.list.items ≡ dials.old.list.items) }
-        ensures arrival { IfOk result IsArrival }
-        ensures err { OnErr result ((numbers links.new.list.items ≡ numbers links.old.list.items) × (links.new.made ≡ links.old.made)) }
-    {
+        let Some(ready) = self.turns.current() else {
+            return Ok(None);
+        };
         match source_of(ready.token) {
             Source::Link(number) => self.serve_link(links, number, ready),
             Source::Ear(place) => self.serve_ear(links, place, ready.token),

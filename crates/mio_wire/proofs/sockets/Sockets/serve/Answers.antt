@@ -1,6 +1,6 @@
 use Rattle.mio_wire.specs.Held.{listening_of}
 use Rattle.mio_wire.proofs.ArrivalLemmas.{brings_names, opens_names}
-use Rattle.mio_wire.proofs.sockets.Sockets.serve_source.Goals as goal
+use Rattle.mio_wire.proofs.sockets.Sockets.serve.Goals as goal
 
 pub returns-in-Ear-clause-names : goal.returns-in-Ear-clause-names
 returns-in-Ear-clause-names c = opens_names (listening_of c.args.self.now) c.in-Ear.place c.serve_ear.result c.serve_ear.ensures.named
