@@ -1,25 +1,18 @@
 -- The bytes and the short texts of APRS-IS: calls, lines, and the limits of their lengths.
 use Rattle.std.specs.Prelude.{ℕ, ◌≡◌, ◌==◌, ◌&&◌, ◌||◌, Bool, true, false, nat_le, not, List, [], ◌∷◌, ◌++◌, length, drop, replicate, IsTrue}
+use Rattle.std.specs.Char.{is_ascii_alphabetic, is_ascii_alphanumeric}
 use Rattle.std.specs.List.{list_all, before_first, after_first}
+use Rattle.std.specs.Str.{byte}
 
 -- CR, LF and the blank
 abbrev pub is_line_end : ℕ → Bool
-is_line_end b = b == 13 || b == 10
+is_line_end b = b == byte "\r" || b == byte "\n"
 
 abbrev pub is_blank : ℕ → Bool
-is_blank b = b == 32
-
-abbrev pub is_digit : ℕ → Bool
-is_digit b = nat_le 48 b && nat_le b 57
-
-abbrev pub is_letter : ℕ → Bool
-is_letter b = (nat_le 65 b && nat_le b 90) || (nat_le 97 b && nat_le b 122)
-
-abbrev pub is_alphanumeric : ℕ → Bool
-is_alphanumeric b = is_digit b || is_letter b
+is_blank b = b == byte " "
 
 abbrev pub is_dash : ℕ → Bool
-is_dash b = b == 45
+is_dash b = b == byte "-"
 
 -- the part of a call before its first dash, or the whole
 abbrev pub base_of : List ℕ → List ℕ
@@ -31,7 +24,7 @@ ssid_of call = after_first is_dash call
 
 -- one or two letters or digits
 abbrev pub is_ssid_text : List ℕ → Bool
-is_ssid_text text = nat_le 1 (length text) && nat_le (length text) 2 && list_all is_alphanumeric text
+is_ssid_text text = nat_le 1 (length text) && nat_le (length text) 2 && list_all is_ascii_alphanumeric text
 
 -- no dash, or such a text after the first
 abbrev pub has_no_bad_ssid : List ℕ → Bool
@@ -39,7 +32,7 @@ has_no_bad_ssid call = length (base_of call) == length call || is_ssid_text (ssi
 
 -- a call: letters and digits, perhaps a dash and one or two more, at most nine bytes (aprs-is.net, Connecting)
 abbrev pub is_call : List ℕ → Bool
-is_call text = nat_le (length text) 9 && nat_le 1 (length (base_of text)) && list_all is_alphanumeric (base_of text) && has_no_bad_ssid text
+is_call text = nat_le (length text) 9 && nat_le 1 (length (base_of text)) && list_all is_ascii_alphanumeric (base_of text) && has_no_bad_ssid text
 
 abbrev pub IsCall : List ℕ → Type 0
 IsCall text = IsTrue (is_call text)
@@ -53,7 +46,7 @@ abbrev pub is_construct : List ℕ → Bool
 is_construct [] = false
 is_construct (a ∷ []) = false
 is_construct (a ∷ b ∷ []) = false
-is_construct (a ∷ b ∷ c ∷ []) = a == 113 && b == 65 && is_letter c
+is_construct (a ∷ b ∷ c ∷ []) = a == byte "q" && b == byte "A" && is_ascii_alphabetic c
 is_construct (a ∷ b ∷ c ∷ d ∷ more) = false
 
 -- a call that may name a station, so not a construct

@@ -2,6 +2,7 @@
 use Rattle.std.specs.Prelude.{◌≡◌, ◌↔◌, ℕ, ◌+◌, ◌≤◌, List, [], ◌∷◌, ◌++◌, length, filter, Bool, Option, Result, IsErr, IfSome, OnOk, OnErr}
 use Rattle.std.specs.List.{flat_map}
 use Rattle.std.specs.Option.{option_map}
+use Rattle.std.specs.Str.{byte}
 use Rattle.std.specs.Fmt.{decimal}
 use Rattle.aprs_base.specs.Outside.{Rose}
 use Rattle.aprs_base.specs.declared.journals.Kind.{Kind}
@@ -14,7 +15,7 @@ pub record JournalLineSeen : Type 0 where
 
 -- a line as it stands in a journal: the moment in digits, a blank, the text and LF
 abbrev pub journal_text : JournalLineSeen → List ℕ
-journal_text line = decimal line.moment ++ (32 ∷ (line.text ++ 10 ∷ []))
+journal_text line = decimal line.moment ++ (byte " " ∷ (line.text ++ byte "\n" ∷ []))
 
 -- what a journal shows: the kinds that it wants, its text and how many lines it is still to take, where it tells them,
 -- and how often it failed

@@ -1,8 +1,9 @@
 //! Calls, lines and other short texts, each kept within its grammar by its type.
 ghost use Rattle.std.specs.Prelude.{◌≡◌, ℕ, ◌≤◌, ◌<◌, ◌∷◌, [], List, length, IsSome, IfOk, IfSome, IsTrue, ◌↔◌};
+ghost use Rattle.std.specs.Char.{is_ascii_alphanumeric, is_ascii_digit};
 ghost use Rattle.std.specs.List.{list_all, position_or_len, prefix_len, suffix_len};
 ghost use Rattle.memchr.specs.Find.{is_byte};
-ghost use Rattle.aprs_base.specs.Bytes.{IsCall, IsLine, as_words, base_of, is_alphanumeric, is_blank, is_call, is_construct, is_digit, is_inner, is_ssid_text, is_station};
+ghost use Rattle.aprs_base.specs.Bytes.{IsCall, IsLine, as_words, base_of, is_blank, is_call, is_construct, is_inner, is_ssid_text, is_station};
 
 use arrayvec::ArrayVec;
 use memchr::memchr;
@@ -119,13 +120,13 @@ fn call_of(text: &[u8]) -> Call
 }
 
 fn is_alphanumeric_byte(byte: u8) -> bool
-    ensures { result ≡ is_alphanumeric byte }
+    ensures { result ≡ is_ascii_alphanumeric byte }
 {
     byte.is_ascii_alphanumeric()
 }
 
 fn all_alphanumeric(text: &[u8]) -> bool
-    ensures { result ≡ list_all is_alphanumeric text.now }
+    ensures { result ≡ list_all is_ascii_alphanumeric text.now }
 {
     text.iter().all(|byte| is_alphanumeric_byte(*byte))
 }
@@ -159,7 +160,7 @@ pub fn trailing_blanks(text: &[u8]) -> usize
 
 /// Whether `text` is digits alone.
 pub fn all_digits(text: &[u8]) -> bool
-    ensures { result ≡ list_all is_digit text.now }
+    ensures { result ≡ list_all is_ascii_digit text.now }
 {
     text.iter().all(|byte| byte.is_ascii_digit())
 }

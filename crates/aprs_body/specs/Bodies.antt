@@ -1,6 +1,7 @@
 -- What a body says (APRS Protocol Reference 1.0.1, APRS Data Type Identifiers, and the formats of each).
 use Rattle.std.specs.Prelude.{ℕ, ◌+◌, ◌==◌, ◌&&◌, ◌||◌, Bool, true, false, nat_le, nat_lt, List, [], ◌∷◌, length, take, drop, slice_index, slice_range, codes, bit_or, Some, None, if◌then◌else◌}
 use Rattle.std.specs.List.{list_any, position_or_len, starts_with}
+use Rattle.std.specs.Str.{byte}
 use Rattle.std.specs.declared.option.Option.{Option}
 use Rattle.aprs_base.specs.Bytes.{is_blank}
 use Rattle.aprs_base.specs.declared.packets.Body.{Body}
@@ -15,7 +16,7 @@ bare class = record { class = class; place = None; name = None; live = false; to
 
 -- the code `_` is a weather station's
 abbrev pub weather_of : Place → ℕ
-weather_of place = if place.code == 95 then weather_bit else 0
+weather_of place = if place.code == byte "_" then weather_bit else 0
 
 -- a name that begins with `NWS` is the National Weather Service's
 abbrev pub nws_of : List ℕ → ℕ
@@ -42,7 +43,7 @@ named class name live (Some place) = record { class = bit_or class (weather_of p
 
 -- the mark of an object or an item: its sign says that it is live, and `_` that it is killed
 abbrev pub life_of : (sign mark : ℕ) → Option Bool
-life_of sign mark = if mark == sign then Some true else if mark == 95 then Some false else None
+life_of sign mark = if mark == sign then Some true else if mark == byte "_" then Some false else None
 
 -- nothing, where the mark is neither
 abbrev pub if_marked : Option Bool → (Bool → Body) → Body
@@ -51,12 +52,12 @@ if_marked (Some live) reading = reading live
 
 -- nine bytes of name, `*` or `_`, seven bytes of time, and a position (Object Report Format)
 abbrev pub object_of : List ℕ → Body
-object_of text = if nat_lt (length text) 18 then bare 0 else if_marked (life_of 42 (slice_index text 10)) (λ live.
+object_of text = if nat_lt (length text) 18 then bare 0 else if_marked (life_of (byte "*") (slice_index text 10)) (λ live.
     named (bit_or object_bit (nws_of (slice_range text 1 10))) (without_trailing_blanks (slice_range text 1 10)) live (either_place (drop 18 text)))
 
 -- the end of an item's name, live or killed
 abbrev pub is_item_mark : ℕ → Bool
-is_item_mark b = b == 33 || b == 95
+is_item_mark b = b == byte "!" || b == byte "_"
 
 -- how long a name is: up to its mark
 abbrev pub name_len : List ℕ → ℕ
@@ -66,7 +67,7 @@ name_len text = position_or_len is_item_mark text
 abbrev pub item_in : List ℕ → Body
 item_in text =
     if nat_le 3 (name_len text) && nat_le (name_len text) 9 && nat_lt (name_len text) (length text)
-    then named item_bit (take (name_len text) text) (slice_index text (name_len text) == 33) (either_place (drop (name_len text + 1) text))
+    then named item_bit (take (name_len text) text) (slice_index text (name_len text) == byte "!") (either_place (drop (name_len text + 1) text))
     else bare 0
 
 -- the same after the first byte
@@ -84,7 +85,7 @@ message_class text = if list_any (starts_with ◌==◌ text) telemetry_words the
 -- nine bytes of receiver, `:` and a text (Message Format)
 abbrev pub message_of : List ℕ → Body
 message_of text =
-    if slice_index text 10 == 58
+    if slice_index text 10 == byte ":"
     then record { class = bit_or (message_class (drop 11 text)) (nws_of (slice_range text 1 10)); place = None; name = None; live = false; to = Some (without_trailing_blanks (slice_range text 1 10)) }
     else bare 0
 

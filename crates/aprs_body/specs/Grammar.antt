@@ -2,6 +2,7 @@
 -- (APRS Protocol Reference 1.0.1, APRS Data Type Identifiers, and the formats of each).
 use Rattle.std.specs.Prelude.{◌≡◌, ◌≢◌, ℕ, ◌+◌, ◌≤◌, ◌⊎◌, Bool, true, false, not, List, [], ◌∷◌, ◌++◌, length, codes, Some, None, IsTrue, ⊤}
 use Rattle.std.specs.List.{list_all}
+use Rattle.std.specs.Str.{byte}
 use Rattle.std.specs.declared.option.Option.{Option}
 use Rattle.aprs_base.specs.Bytes.{is_blank}
 use Rattle.aprs_base.specs.declared.packets.Body.{Body}
@@ -18,7 +19,7 @@ Adds bit holds class = (holds × (class ≡ bit)) ⊎ ((holds → ⊥) × (class
 -- a symbol with the code `_` is a weather station's
 abbrev pub AddsWeather : Option Place → (class : ℕ) → Type 0
 AddsWeather None class = class ≡ 0
-AddsWeather (Some place) class = Adds weather_bit (place.code ≡ 95) class
+AddsWeather (Some place) class = Adds weather_bit (place.code ≡ byte "_") class
 
 -- the text begins with that word
 abbrev pub BeginsWith : List ℕ → List ℕ → Type 0
@@ -30,12 +31,12 @@ AddsService name class = Adds nws_bit (BeginsWith (codes "NWS") name) class
 
 -- a sign that says live, or `_`, which says killed
 abbrev pub SaysLife : (sign mark : ℕ) → Bool → Type 0
-SaysLife sign mark live = ((mark ≡ sign) × (live ≡ true)) ⊎ ((mark ≡ 95) × (live ≡ false))
+SaysLife sign mark live = ((mark ≡ sign) × (live ≡ true)) ⊎ ((mark ≡ byte "_") × (live ≡ false))
 
 -- the last byte, where there is one, is no blank
 abbrev pub EndsTight : List ℕ → Type 0
 EndsTight [] = ⊤
-EndsTight (b ∷ []) = b ≢ 32
+EndsTight (b ∷ []) = b ≢ byte " "
 EndsTight (b ∷ c ∷ more) = EndsTight (c ∷ more)
 
 -- a field that a text fills up to blanks
@@ -47,8 +48,8 @@ pub record Padded (text field : List ℕ) : Type 0 where
 
 -- where a position report has its place: behind its mark, behind seven bytes of time, or in the form Mic-E
 pub data ReportsPlace (dest text : List ℕ) (place : Place) : Type 0 where
-  untimed : (mark : ℕ) (rest : List ℕ) → (mark ≡ 33) ⊎ (mark ≡ 61) → text ≡ mark ∷ rest → BeginsPosition rest place → ReportsPlace dest text place
-  timed : (mark : ℕ) (time rest : List ℕ) → (mark ≡ 47) ⊎ (mark ≡ 64) → text ≡ mark ∷ (time ++ rest) → length time ≡ 7 → BeginsPosition rest place →
+  untimed : (mark : ℕ) (rest : List ℕ) → (mark ≡ byte "!") ⊎ (mark ≡ byte "=") → text ≡ mark ∷ rest → BeginsPosition rest place → ReportsPlace dest text place
+  timed : (mark : ℕ) (time rest : List ℕ) → (mark ≡ byte "/") ⊎ (mark ≡ byte "@") → text ≡ mark ∷ (time ++ rest) → length time ≡ 7 → BeginsPosition rest place →
       ReportsPlace dest text place
   mic_e : IsMicE dest text place → ReportsPlace dest text place
 
@@ -62,7 +63,7 @@ pub record IsReport (dest text : List ℕ) (says : Body) : Type 0 where
   pub mark : ℕ
   pub rest : List ℕ
   pub weather : ℕ
-  pub mark_is : (mark ≡ 33) ⊎ (mark ≡ 61) ⊎ (mark ≡ 47) ⊎ (mark ≡ 64) ⊎ (mark ≡ 96) ⊎ (mark ≡ 39)
+  pub mark_is : (mark ≡ byte "!") ⊎ (mark ≡ byte "=") ⊎ (mark ≡ byte "/") ⊎ (mark ≡ byte "@") ⊎ (mark ≡ byte "`") ⊎ (mark ≡ byte "'")
   pub spelled : text ≡ mark ∷ rest
   pub place : IsPlaceOf dest text says.place
   pub adds : AddsWeather says.place weather
@@ -79,10 +80,10 @@ pub record IsObject (text : List ℕ) (says : Body) : Type 0 where
   pub live : Bool
   pub service : ℕ
   pub weather : ℕ
-  pub spelled : text ≡ 59 ∷ (field ++ (mark ∷ (time ++ rest)))
+  pub spelled : text ≡ byte ";" ∷ (field ++ (mark ∷ (time ++ rest)))
   pub lengths : (length field ≡ 9) × (length time ≡ 7)
   pub padded : Padded name field
-  pub life : SaysLife 42 mark live
+  pub life : SaysLife (byte "*") mark live
   pub position : BeginsPosition rest place
   pub adds : AddsService field service × AddsWeather (Some place) weather
   pub says_is : says ≡ record { class = object_bit + service + weather; place = Some place; name = Some name; live = live; to = None }
@@ -95,10 +96,10 @@ pub record IsItem (text : List ℕ) (says : Body) : Type 0 where
   pub place : Place
   pub live : Bool
   pub weather : ℕ
-  pub spelled : text ≡ 41 ∷ (name ++ (mark ∷ rest))
+  pub spelled : text ≡ byte ")" ∷ (name ++ (mark ∷ rest))
   pub unmarked : IsTrue (list_all (λ b. not (is_item_mark b)) name)
   pub sized : (3 ≤ length name) × (length name ≤ 9)
-  pub life : SaysLife 33 mark live
+  pub life : SaysLife (byte "!") mark live
   pub position : BeginsPosition rest place
   pub adds : AddsWeather (Some place) weather
   pub says_is : says ≡ record { class = item_bit + weather; place = Some place; name = Some name; live = live; to = None }
@@ -117,7 +118,7 @@ pub record IsMessage (text : List ℕ) (says : Body) : Type 0 where
   pub words : List ℕ
   pub kind : ℕ
   pub service : ℕ
-  pub spelled : text ≡ 58 ∷ (field ++ (58 ∷ words))
+  pub spelled : text ≡ byte ":" ∷ (field ++ (byte ":" ∷ words))
   pub nine : length field ≡ 9
   pub padded : Padded to field
   pub class : IsMessageClass words kind

@@ -11,7 +11,7 @@ use Rattle.std.proofs.lemmas.List.Folds.{list_all-append}
 use Rattle.std.proofs.lemmas.List.Splits.{slice_split_at, slice_split_none}
 use Rattle.std.proofs.lemmas.List.Sums.{AllPass-from_list_all}
 use Rattle.std.proofs.lemmas.Str.Parse.{IsNumeralModel, digits_value_short, numerals_by_fold, tells_all_ascii_digits}
-use Rattle.aprs_base.specs.Bytes.{is_digit}
+use Rattle.std.specs.Char.{is_ascii_digit}
 use Rattle.login_pass.specs.Login.{is_code_number, number_from}
 use Rattle.aprs_conf.specs.Arguments.{are_digits, code_of, four, ip_of, is_dot, is_plain, last_in, number_within, octet_of, octets_in, same, seconds_of, time_in, time_of, unit_of}
 use Rattle.aprs_conf.specs.Sound.{IsWithin}
@@ -26,7 +26,7 @@ some_where P b x is = cond_both b (Some x) None (λ o. IfSome o P) is (λ _. tt)
 -- ---- digits
 
 abbrev are_all_digits : List ℕ → Type 0
-are_all_digits ds = list_all is_digit ds ≡ true
+are_all_digits ds = list_all is_ascii_digit ds ≡ true
 
 -- digits and their number are std's
 numerals : IsNumeralModel are_all_digits (number_from 0)
@@ -34,7 +34,7 @@ numerals = numerals_by_fold are_all_digits tells_all_ascii_digits number_from (r
 
 -- a number of 32 bits
 module _ (n : ℕ) (small : n < 4294967296) where
-  pub decimal_digits : list_all is_digit (decimal n) ≡ true
+  pub decimal_digits : list_all is_ascii_digit (decimal n) ≡ true
   decimal_digits = digits_decimal numerals n (omega arith)
 
   decimal_value : number_from 0 (decimal n) ≡ n
@@ -53,7 +53,7 @@ all_weaker p q each (b ∷ bs) h = let parts = and_parts (p b) (list_all p bs) h
 pub code_small : (text : List ℕ) → IfSome (code_of text) (λ code. code < 100000)
 code_small text =
     some_where (λ code. code < 100000) (is_code_number text) (number_from 0 text) (λ right.
-    let digits = and_parts (nat_le 1 (length text) && nat_le (length text) 5) (list_all is_digit text) right in
+    let digits = and_parts (nat_le 1 (length text) && nat_le (length text) 5) (list_all is_ascii_digit text) right in
     digits_value_short numerals text 5 digits.1 (leb-true (length text) 5 (and_parts (nat_le 1 (length text)) _ digits.0).1))
 
 code_number : (n : ℕ) → n < 100000 → is_code_number (decimal n) ≡ true
@@ -96,11 +96,11 @@ time_within text = by (unit_of (slice_index text (length text - 1)))
     by None = seconds_within 1 text
     by (Some unit) = seconds_within unit (take (length text - 1) text)
 
-digit_at : (ds : List ℕ) (i : ℕ) → list_all is_digit ds ≡ true → i < length ds → is_digit (slice_index ds i) ≡ true
-digit_at ds i h less = AllPass-from_list_all is_digit ds h i 0 less
+digit_at : (ds : List ℕ) (i : ℕ) → list_all is_ascii_digit ds ≡ true → i < length ds → is_ascii_digit (slice_index ds i) ≡ true
+digit_at ds i h less = AllPass-from_list_all is_ascii_digit ds h i 0 less
 
 -- no digit is a unit
-no_unit : (d : ℕ) → is_digit d ≡ true → unit_of d ≡ None
+no_unit : (d : ℕ) → is_ascii_digit d ≡ true → unit_of d ≡ None
 no_unit d h =
     let less : d < 58 = grind (arith, nat_tests) in
     rw (ne_eqb d 115 (λ e. omega arith), ne_eqb d 109 (λ e. omega arith), ne_eqb d 104 (λ e. omega arith), ne_eqb d 100 (λ e. omega arith)) refl
@@ -121,19 +121,19 @@ IsIp (a ∷ b ∷ c ∷ d ∷ []) = IsWithin 0 255 a × IsWithin 0 255 b × IsWi
 IsIp _ = ⊥
 
 -- digits, and so no dots
-digit_undotted : (d : ℕ) → is_digit d ≡ true → not (is_dot d) ≡ true
+digit_undotted : (d : ℕ) → is_ascii_digit d ≡ true → not (is_dot d) ≡ true
 digit_undotted d h = grind (arith, nat_tests)
 
 octet_undotted : (n : ℕ) → IsWithin 0 255 n → All (λ d. is_dot d ≡ false) (decimal n)
-octet_undotted n is = without is_dot (decimal n) (all_weaker is_digit (λ d. not (is_dot d)) digit_undotted (decimal n) (decimal_digits n (omega arith)))
+octet_undotted n is = without is_dot (decimal n) (all_weaker is_ascii_digit (λ d. not (is_dot d)) digit_undotted (decimal n) (decimal_digits n (omega arith)))
 
 octet_again : (n : ℕ) → IsWithin 0 255 n → octet_of (decimal n) ≡ Some n
 octet_again n is = number_again 0 255 n is (omega arith)
 
-not_every : (ds rest : List ℕ) → list_all is_digit ds ≡ true → 0 < length ds → same (ds ++ rest) (codes "::") ≡ false
+not_every : (ds rest : List ℕ) → list_all is_ascii_digit ds ≡ true → 0 < length ds → same (ds ++ rest) (codes "::") ≡ false
 not_every [] rest h some = absurd (omega arith)
 not_every (d ∷ ds) rest h some =
-    let digit = (and_parts (is_digit d) (list_all is_digit ds) h).0 in
+    let digit = (and_parts (is_ascii_digit d) (list_all is_ascii_digit ds) h).0 in
     let first : d < 58 = grind (arith, nat_tests) in
     rw (ne_eqb d 58 (λ e. omega arith)) refl
 
@@ -179,7 +179,7 @@ abbrev pub IsPlain : List ℕ → Type 0
 IsPlain word = (list_all no_feed word ≡ true) × (list_all no_gap word ≡ true) × (list_all no_quote word ≡ true)
 
 abbrev is_ip_byte : ℕ → Bool
-is_ip_byte b = is_digit b || is_dot b
+is_ip_byte b = is_ascii_digit b || is_dot b
 
 -- digits and dots stand without quotes
 ip_bytes_plain : (word : List ℕ) → list_all is_ip_byte word ≡ true → IsPlain word
@@ -193,7 +193,7 @@ plain_is_word : (word : List ℕ) → IsPlain word → is_word word ≡ true
 plain_is_word word is = rw (is.0, is.2) (cond_same (is_bare word))
 
 decimal_bytes : (n : ℕ) → n < 4294967296 → list_all is_ip_byte (decimal n) ≡ true
-decimal_bytes n small = all_weaker is_digit is_ip_byte (λ b e. or_left (is_digit b) (is_dot b) e) (decimal n) (decimal_digits n small)
+decimal_bytes n small = all_weaker is_ascii_digit is_ip_byte (λ b e. or_left (is_ascii_digit b) (is_dot b) e) (decimal n) (decimal_digits n small)
 
 pub decimal_plain : (n : ℕ) → n < 4294967296 → IsPlain (decimal n)
 decimal_plain n small = ip_bytes_plain (decimal n) (decimal_bytes n small)

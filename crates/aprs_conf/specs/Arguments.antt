@@ -1,9 +1,11 @@
 -- What an argument of a line may be (aprsc manual, Configuration).
 use Rattle.std.specs.Prelude.{ℕ, ◌-◌, ◌*◌, ◌==◌, ◌&&◌, ◌||◌, Bool, true, false, if◌then◌else◌, nat_le, not, List, [], ◌∷◌, length, take, codes, Option, Some, None, slice_index}
+use Rattle.std.specs.Char.{is_ascii_digit}
 use Rattle.std.specs.List.{list_all, slice_split, find}
 use Rattle.std.specs.Option.{option_map}
+use Rattle.std.specs.Str.{byte}
 use Rattle.std.specs.Cmp.Lexicographic.{pointwise}
-use Rattle.aprs_base.specs.Bytes.{is_digit, is_station}
+use Rattle.aprs_base.specs.Bytes.{is_station}
 use Rattle.aprs_base.specs.declared.packets.PortKind.{PortKind}
 use Rattle.aprs_base.specs.declared.packets.PortKind.TheVariants as kind
 use Rattle.aprs_conf.specs.declared.arguments.Service.{Service}
@@ -24,7 +26,7 @@ code_of text = if is_code_number text then Some (number_from 0 text) else None
 
 -- one to five digits, of which the first of several isn't zero
 abbrev pub is_plain : List ℕ → Bool
-is_plain text = is_code_number text && (length text == 1 || not (slice_index text 0 == 48))
+is_plain text = is_code_number text && (length text == 1 || not (slice_index text 0 == byte "0"))
 
 abbrev pub number_within : ℕ → ℕ → List ℕ → Option ℕ
 number_within least most text =
@@ -40,11 +42,11 @@ clients_of text = number_within 1 10000 text
 -- ---- times
 
 abbrev pub are_digits : List ℕ → Bool
-are_digits text = nat_le 1 (length text) && list_all is_digit text
+are_digits text = nat_le 1 (length text) && list_all is_ascii_digit text
 
 -- the seconds of a unit: s, m, h or d
 abbrev pub unit_of : ℕ → Option ℕ
-unit_of b = if b == 115 then Some 1 else if b == 109 then Some 60 else if b == 104 then Some 3600 else if b == 100 then Some 86400 else None
+unit_of b = if b == byte "s" then Some 1 else if b == byte "m" then Some 60 else if b == byte "h" then Some 3600 else if b == byte "d" then Some 86400 else None
 
 abbrev pub seconds_of : ℕ → List ℕ → Option ℕ
 seconds_of unit digits =
@@ -82,7 +84,7 @@ octets_in (a ∷ b ∷ c ∷ last) = four (octet_of a) (octet_of b) (octet_of c)
 octets_in _ = None
 
 abbrev pub is_dot : ℕ → Bool
-is_dot b = b == 46
+is_dot b = b == byte "."
 
 -- an IPv4 address, or `::`, which stands for every address
 abbrev pub ip_of : List ℕ → Option (List ℕ)

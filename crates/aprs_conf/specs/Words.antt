@@ -1,15 +1,16 @@
 -- The lines of a configuration, and the words of a line (aprsc manual, Configuration).
 use Rattle.std.specs.Prelude.{ℕ, ◌-◌, ◌==◌, ◌||◌, Bool, true, false, if◌then◌else◌, List, [], ◌∷◌, length, take, slice_index, Option, Some, None}
 use Rattle.std.specs.List.{slice_split, list_any}
+use Rattle.std.specs.Str.{byte}
 
 -- ---- lines
 
 abbrev pub is_feed : ℕ → Bool
-is_feed b = b == 10
+is_feed b = b == byte "\n"
 
 -- a line end is LF or CR LF, so a line loses one CR at its end
 abbrev pub without_return : List ℕ → List ℕ
-without_return line = if slice_index line (length line - 1) == 13 then take (length line - 1) line else line
+without_return line = if slice_index line (length line - 1) == byte "\r" then take (length line - 1) line else line
 
 -- the texts between the line feeds; behind the last of them there is no line end
 abbrev pub ended : List (List ℕ) → List (List ℕ)
@@ -24,10 +25,10 @@ lines_of text = ended (slice_split is_feed text)
 
 -- blanks and tabs part words
 abbrev pub is_gap : ℕ → Bool
-is_gap b = b == 32 || b == 9
+is_gap b = b == byte " " || b == byte "\t"
 
 abbrev pub is_quote : ℕ → Bool
-is_quote b = b == 34
+is_quote b = b == byte "\""
 
 -- where a byte may stand: between words, in a plain word, or in a word between quotes
 pub data Place : Type 0 where
@@ -79,5 +80,5 @@ arguments_of text = closed (words_of text)
 
 -- a first word that begins with `#`, whatever follows it
 abbrev pub is_remark : List Word → Bool
-is_remark (Some (b ∷ more) ∷ words) = b == 35
+is_remark (Some (b ∷ more) ∷ words) = b == byte "#"
 is_remark _ = false

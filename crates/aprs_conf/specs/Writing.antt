@@ -2,6 +2,7 @@
 use Rattle.std.specs.Prelude.{ℕ, ◌&&◌, Bool, false, if◌then◌else◌, not, List, [], ◌∷◌, ◌++◌, map, codes, Option, Some, None, slice_index}
 use Rattle.std.specs.Fmt.{decimal}
 use Rattle.std.specs.List.{flat_map, list_all}
+use Rattle.std.specs.Str.{byte}
 use Rattle.aprs_base.specs.declared.packets.PortKind.{PortKind}
 use Rattle.aprs_base.specs.declared.packets.PortKind.TheVariants as kind
 use Rattle.aprs_base.specs.UplinkSeen.{UplinkSeen}
@@ -20,23 +21,23 @@ is_bare [] = false
 is_bare (b ∷ more) = not (is_quote b) && list_all (λ x. not (is_gap x)) (b ∷ more)
 
 abbrev pub in_quotes : List ℕ → List ℕ
-in_quotes word = 34 ∷ (word ++ 34 ∷ [])
+in_quotes word = byte "\"" ∷ (word ++ byte "\"" ∷ [])
 
 abbrev pub spelled : List ℕ → List ℕ
 spelled word = if is_bare word then word else in_quotes word
 
 -- a blank stands behind each word, so a CR that ends a word is no part of the line's end
 unfoldable pub word_text : List ℕ → List ℕ
-word_text word = spelled word ++ 32 ∷ []
+word_text word = spelled word ++ byte " " ∷ []
 
 unfoldable pub line_text : List (List ℕ) → List ℕ
-line_text words = flat_map word_text words ++ 10 ∷ []
+line_text words = flat_map word_text words ++ byte "\n" ∷ []
 
 -- ---- arguments
 
 -- four numbers, with single dots between them
 abbrev pub dotted : ℕ → List ℕ → List ℕ
-dotted number rest = decimal number ++ 46 ∷ rest
+dotted number rest = decimal number ++ byte "." ∷ rest
 
 unfoldable pub ip_text : List ℕ → List ℕ
 ip_text ip = dotted (slice_index ip 0) (dotted (slice_index ip 1) (dotted (slice_index ip 2) (decimal (slice_index ip 3))))

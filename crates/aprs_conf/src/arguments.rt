@@ -1,8 +1,8 @@
 //! What an argument of a line may be.
 ghost use Rattle.std.specs.Prelude.{◌≡◌, ◌≤◌, ◌&&◌, ◌∷◌, Some, None, true, [], if◌then◌else◌, nat_le, MatchOption};
+ghost use Rattle.std.specs.Char.{is_ascii_digit};
 ghost use Rattle.std.specs.List.{list_all, slice_split};
 ghost use Rattle.std.specs.Option.{option_map};
-ghost use Rattle.aprs_base.specs.Bytes.{is_digit};
 ghost use Rattle.login_pass.specs.Login.{number_from};
 ghost use Rattle.aprs_conf.specs.Arguments.{clients_of, four, host_of, ip_of, is_dot, is_plain, kind_of, last_in, octet_of, octets_in, port_of, same, seconds_of, station_of, time_of};
 
@@ -68,7 +68,7 @@ pub fn clients(text: &[u8]) -> Option<u32>
 
 /// The number that digits spell, where it is no more than the longest time.
 fn short_number(digits: &[u8]) -> Option<u32>
-    requires { list_all is_digit digits.now ≡ true }
+    requires { list_all is_ascii_digit digits.now ≡ true }
     ensures { result ≡ (if nat_le (number_from 0 digits.now) 10000000 then Some (number_from 0 digits.now) else None) }
 {
     let mut number: u32 = 0;

@@ -1,5 +1,6 @@
 -- Histories: what happened on a wire, the newest first; their rounds, and their traces.
 use Rattle.std.specs.Prelude.{ℕ, ◌==◌, ◌+◌, ◌/◌, ◌||◌, Bool, true, false, nat_lt, max, List, [], ◌∷◌, ◌++◌, length, Option, Some, None, Result, Ok, Err, if◌then◌else◌}
+use Rattle.std.specs.Str.{byte}
 use Rattle.aprs_base.specs.Cuts.{cuts_by}
 use Rattle.aprs_base.specs.Outside.{new_link}
 use Rattle.aprs_base.specs.declared.cutting.Cut.{Cut}
@@ -145,7 +146,7 @@ with_bytes_of setting link bytes trace = if is_live trace link then bring settin
 
 -- the lines of a datagram, whose end ends the last one
 abbrev pub datagram_cuts : List ℕ → List Cut
-datagram_cuts bytes = cuts_by [] (bytes ++ 10 ∷ [])
+datagram_cuts bytes = cuts_by [] (bytes ++ byte "\n" ∷ [])
 
 -- a datagram that is refused whole, for what its first line is
 abbrev pub refuse_datagram : ℕ → Cut → Refusal → Trace → Trace

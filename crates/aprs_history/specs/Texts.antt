@@ -1,5 +1,6 @@
 -- The text that each link is to take, line by line, and what of it is still to be taken.
 use Rattle.std.specs.Prelude.{ℕ, ◌==◌, ◌&&◌, ◌||◌, Bool, true, false, not, is_some, List, [], ◌∷◌, ◌++◌, length, map, filter, drop, codes, Option, Some, None, if◌then◌else◌}
+use Rattle.std.specs.Str.{byte}
 use Rattle.std.specs.Fmt.{decimal}
 use Rattle.aprs_base.specs.PacketSeen.{PacketSeen}
 use Rattle.aprs_base.specs.declared.packets.PortKind.{PortKind}
@@ -63,9 +64,9 @@ refused_filter words = codes "# filter refused, " ++ words
 -- the kinds of which there may be nine are `r`, `f` and `a`
 abbrev pub excess_words : ℕ → List ℕ
 excess_words letter =
-    if letter == 42 then codes "too many terms"
-    else if letter == 114 then codes "too many r"
-    else if letter == 102 then codes "too many f"
+    if letter == byte "*" then codes "too many terms"
+    else if letter == byte "r" then codes "too many r"
+    else if letter == byte "f" then codes "too many f"
     else codes "too many a"
 
 abbrev pub filter_words : FilterFault → List ℕ

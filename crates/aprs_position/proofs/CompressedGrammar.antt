@@ -5,7 +5,7 @@ use Rattle.std.proofs.lemmas.Bool.Decides.{nat_tests}
 use Rattle.std.proofs.lemmas.Option.{same_Some}
 use Rattle.std.proofs.Math.Nat.{sub-add_cancel}
 use Rattle.std.proofs.lemmas.Bool.{false≢true, le-ltb, leb-true, le-leb, and_from, and_parts, cond-true, not-true}
-use Rattle.aprs_base.specs.Bytes.{is_digit}
+use Rattle.std.specs.Char.{is_ascii_digit}
 use Rattle.aprs_base.specs.declared.packets.Place.{Place}
 use Rattle.aprs_position.specs.Places.{is_code, is_table, place_at}
 use Rattle.aprs_position.specs.Compressed.{base91, compressed_place, is_base91, scaled_of, table_of}
@@ -55,19 +55,19 @@ table_read byte table h =
           let same : byte - 97 + 48 ≡ table = same_Some _ _ letter.1 in
           inl (and_from _ _ (le-leb 48 table (omega arith)) (le-leb table 57 (omega arith)), omega arith)
       | inr other ↦
-          let plain = cond_some (is_table byte && not (is_digit byte)) (Some byte) table other.1 in
-          let tests = and_parts (is_table byte) (not (is_digit byte)) plain.0 in
+          let plain = cond_some (is_table byte && not (is_ascii_digit byte)) (Some byte) table other.1 in
+          let tests = and_parts (is_table byte) (not (is_ascii_digit byte)) plain.0 in
           let same : byte ≡ table = same_Some _ _ plain.1 in
-          inr (ap is_digit (sym same) ∙ not-true _ tests.1, ap is_table (sym same) ∙ tests.0, same)
+          inr (ap is_ascii_digit (sym same) ∙ not-true _ tests.1, ap is_table (sym same) ∙ tests.0, same)
     ]
 
 table_again : (byte table : ℕ) → NamesTable byte table → table_of byte ≡ Some table
 table_again byte table (inl digit) = grind (arith, nat_tests)
 table_again byte table (inr other) = grind (arith, nat_tests)
 
-no_digit_first : (byte table : ℕ) → NamesTable byte table → is_digit byte ≡ false
+no_digit_first : (byte table : ℕ) → NamesTable byte table → is_ascii_digit byte ≡ false
 no_digit_first byte table (inl digit) = grind (arith, nat_tests)
-no_digit_first byte table (inr other) = ap is_digit other.2 ∙ other.0
+no_digit_first byte table (inr other) = ap is_ascii_digit other.2 ∙ other.0
 
 -- thirteen columns
 record IsColumns (text : List ℕ) : Type 0 where
@@ -153,7 +153,7 @@ compressed_again text place begins =
     (scaled_again x.a x.b x.c x.d p.east x.below.0 x.below.1 x.below.2 x.below.3 x.value x.within) p.code p.lat p.lon
 
 -- no digit begins the compressed form
-pub compressed_first : (text : List ℕ) (place : Place) → compressed_place text ≡ Some place → is_digit (get_or text 0 0) ≡ false
+pub compressed_first : (text : List ℕ) (place : Place) → compressed_place text ≡ Some place → is_ascii_digit (get_or text 0 0) ≡ false
 unfolding compressed_place
 compressed_first text place h =
     let sized = cond_not_some (ltb (length text) 13) _ place h in

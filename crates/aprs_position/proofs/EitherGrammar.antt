@@ -1,7 +1,7 @@
 -- A position in either form: the first byte tells which.
 use Rattle.std.proofs.Common.{◌≡◌, ℕ, inl, inr, List, get_or, Some, ◌∙◌}
 use Rattle.std.proofs.lemmas.Bool.{cond-false, cond-true}
-use Rattle.aprs_base.specs.Bytes.{is_digit}
+use Rattle.std.specs.Char.{is_ascii_digit}
 use Rattle.aprs_base.specs.declared.packets.Place.{Place}
 use Rattle.aprs_position.specs.Compressed.{compressed_place}
 use Rattle.aprs_position.specs.Either.{either_place}
@@ -14,7 +14,7 @@ use Rattle.aprs_position.proofs.Steps.{chosen}
 pub either_read : (text : List ℕ) (place : Place) → either_place text ≡ Some place → BeginsPosition text place
 unfolding either_place
 either_read text place h =
-    elim (chosen (is_digit (get_or text 0 0)) (plain_place text) (compressed_place text) (Some place) h) [
+    elim (chosen (is_ascii_digit (get_or text 0 0)) (plain_place text) (compressed_place text) (Some place) h) [
       | inl plain ↦ inl (plain_read text place plain.1)
       | inr compressed ↦ inr (compressed_read text place compressed.1)
     ]

@@ -3,7 +3,8 @@ use Rattle.std.proofs.Common.{◌≡◌, ℕ, ◌+◌, ◌*◌, ◌<◌, Bool, t
 use Rattle.std.specs.List.{list_all}
 use Rattle.std.proofs.lemmas.Bool.Decides.{nat_tests}
 use Rattle.std.proofs.lemmas.Bool.{eqb-true, eq-eqb, false≢true, ltb-true, le-ltb, lt-ltb, and_parts}
-use Rattle.aprs_base.specs.Bytes.{is_blank, is_digit}
+use Rattle.std.specs.Char.{is_ascii_digit}
+use Rattle.aprs_base.specs.Bytes.{is_blank}
 use Rattle.aprs_base.specs.declared.packets.Place.{Place}
 use Rattle.aprs_position.specs.Places.{is_code, is_table, place_at}
 use Rattle.aprs_position.specs.Plain.{angle, angle_of, digit_value, degrees_of, ends_in_blanks, hundredths_of, number, plain_place, toward}
@@ -14,9 +15,9 @@ use Rattle.aprs_position.proofs.Steps.{chosen, three, two}
 
 -- digits and then blanks
 abbrev EndsInBlanks : List ℕ → Type 0
-EndsInBlanks xs = (shown blanks : List ℕ) × (xs ≡ shown ++ blanks) × (list_all is_digit shown ≡ true) × (list_all is_blank blanks ≡ true)
+EndsInBlanks xs = (shown blanks : List ℕ) × (xs ≡ shown ++ blanks) × (list_all is_ascii_digit shown ≡ true) × (list_all is_blank blanks ≡ true)
 
-parts_of : (digit : Bool) (x : ℕ) (xs : List ℕ) → is_digit x ≡ digit → (ends_in_blanks xs ≡ true → EndsInBlanks xs) →
+parts_of : (digit : Bool) (x : ℕ) (xs : List ℕ) → is_ascii_digit x ≡ digit → (ends_in_blanks xs ≡ true → EndsInBlanks xs) →
     cond digit (ends_in_blanks xs) (list_all is_blank (x ∷ xs)) ≡ true → EndsInBlanks (x ∷ xs)
 parts_of true x xs d more h =
     let rest = more h in
@@ -25,28 +26,28 @@ parts_of false x xs d more h = ([], x ∷ xs, refl, refl, h)
 
 pub ends_parts : (xs : List ℕ) → ends_in_blanks xs ≡ true → EndsInBlanks xs
 ends_parts [] h = ([], [], refl, refl, refl)
-ends_parts (x ∷ xs) h = parts_of (is_digit x) x xs refl (ends_parts xs) h
+ends_parts (x ∷ xs) h = parts_of (is_ascii_digit x) x xs refl (ends_parts xs) h
 
 -- no blank is a digit
-no_digit : (x : ℕ) → eqb x 32 ≡ true → is_digit x ≡ false
+no_digit : (x : ℕ) → eqb x 32 ≡ true → is_ascii_digit x ≡ false
 no_digit x h = grind (arith, nat_tests)
 
 all_blank_ends : (xs : List ℕ) → list_all is_blank xs ≡ true → ends_in_blanks xs ≡ true
 all_blank_ends [] h = refl
 all_blank_ends (x ∷ xs) h = rw (no_digit x (and_parts (eqb x 32) (list_all is_blank xs) h).0) h
 
-pub ends_again : (shown blanks : List ℕ) → list_all is_digit shown ≡ true → list_all is_blank blanks ≡ true → ends_in_blanks (shown ++ blanks) ≡ true
+pub ends_again : (shown blanks : List ℕ) → list_all is_ascii_digit shown ≡ true → list_all is_blank blanks ≡ true → ends_in_blanks (shown ++ blanks) ≡ true
 ends_again [] blanks d b = all_blank_ends blanks b
 ends_again (x ∷ xs) blanks d b =
-    let tests = and_parts (is_digit x) (list_all is_digit xs) d in
+    let tests = and_parts (is_ascii_digit x) (list_all is_ascii_digit xs) d in
     rw tests.0 (ends_again xs blanks tests.1 b)
 
 value_parts : (a b c d : ℕ) → ((((0 * 10 + a) * 10 + b) * 10 + c) * 10 + d) ≡ ((0 * 10 + a) * 10 + b) * 100 + ((0 * 10 + c) * 10 + d)
 value_parts a b c d = omega arith
 
-whole_read : (degrees : List ℕ) (d : ℕ) → degrees_of degrees ≡ Some d → (list_all is_digit degrees ≡ true) × (number degrees ≡ d)
-whole_read (t ∷ o ∷ []) d h = let test = cond_some (list_all is_digit (t ∷ o ∷ [])) (Some (number (t ∷ o ∷ []))) d h in (test.0, cc)
-whole_read (x ∷ t ∷ o ∷ []) d h = let test = cond_some (list_all is_digit (x ∷ t ∷ o ∷ [])) (Some (number (x ∷ t ∷ o ∷ []))) d h in (test.0, cc)
+whole_read : (degrees : List ℕ) (d : ℕ) → degrees_of degrees ≡ Some d → (list_all is_ascii_digit degrees ≡ true) × (number degrees ≡ d)
+whole_read (t ∷ o ∷ []) d h = let test = cond_some (list_all is_ascii_digit (t ∷ o ∷ [])) (Some (number (t ∷ o ∷ []))) d h in (test.0, cc)
+whole_read (x ∷ t ∷ o ∷ []) d h = let test = cond_some (list_all is_ascii_digit (x ∷ t ∷ o ∷ [])) (Some (number (x ∷ t ∷ o ∷ []))) d h in (test.0, cc)
 whole_read _ d h = cc
 
 -- the tests on `MM.hh`, apart
@@ -115,11 +116,11 @@ angle_again count text value w whole =
     let h = two w.hundredths w.lengths.2 in
     angle_columns count text value w m.0 m.1 h.0 h.1 whole m.2 h.2
 
-whole_two : (degrees : List ℕ) (a b : ℕ) → degrees ≡ a ∷ b ∷ [] → list_all is_digit degrees ≡ true → degrees_of degrees ≡ Some (number degrees)
-whole_two degrees a b d digits = let test : list_all is_digit (a ∷ b ∷ []) ≡ true = rw d at digits in rw (d, test) refl
+whole_two : (degrees : List ℕ) (a b : ℕ) → degrees ≡ a ∷ b ∷ [] → list_all is_ascii_digit degrees ≡ true → degrees_of degrees ≡ Some (number degrees)
+whole_two degrees a b d digits = let test : list_all is_ascii_digit (a ∷ b ∷ []) ≡ true = rw d at digits in rw (d, test) refl
 
-whole_three : (degrees : List ℕ) (a b c : ℕ) → degrees ≡ a ∷ b ∷ c ∷ [] → list_all is_digit degrees ≡ true → degrees_of degrees ≡ Some (number degrees)
-whole_three degrees a b c d digits = let test : list_all is_digit (a ∷ b ∷ c ∷ []) ≡ true = rw d at digits in rw (d, test) refl
+whole_three : (degrees : List ℕ) (a b c : ℕ) → degrees ≡ a ∷ b ∷ c ∷ [] → list_all is_ascii_digit degrees ≡ true → degrees_of degrees ≡ Some (number degrees)
+whole_three degrees a b c d digits = let test : list_all is_ascii_digit (a ∷ b ∷ c ∷ []) ≡ true = rw d at digits in rw (d, test) refl
 
 -- the letter of a side
 toward_read : (plus minus letter size : ℕ) (value : ℤ) → toward plus minus letter size ≡ Some value → IsToward plus minus letter size value
@@ -221,7 +222,7 @@ plain_again text place begins =
     (toward_again 78 83 _ _ _ refl p.lat) (toward_again 69 87 _ _ _ refl p.lon) p.table p.code
 
 -- the plain form begins with a digit
-pub plain_first : (text : List ℕ) (place : Place) → plain_place text ≡ Some place → is_digit (get_or text 0 0) ≡ true
+pub plain_first : (text : List ℕ) (place : Place) → plain_place text ≡ Some place → is_ascii_digit (get_or text 0 0) ≡ true
 unfolding plain_place
 plain_first [] place h = cc
 plain_first (a ∷ []) place h = cc
@@ -229,4 +230,4 @@ plain_first (a ∷ b ∷ more) place h =
     let sized = cond_not_some (ltb (length (a ∷ b ∷ more)) 19) _ place h in
     let north = bind_some (angle_of (a ∷ b ∷ []) (take 5 more)) _ place sized.1 in
     let d = bind_some (degrees_of (a ∷ b ∷ [])) _ north.0 north.1 in
-    (and_parts (is_digit a) (list_all is_digit (b ∷ [])) (whole_read (a ∷ b ∷ []) d.0 d.1).0).0
+    (and_parts (is_ascii_digit a) (list_all is_ascii_digit (b ∷ [])) (whole_read (a ∷ b ∷ []) d.0 d.1).0).0

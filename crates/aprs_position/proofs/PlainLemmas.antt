@@ -2,7 +2,8 @@
 use Rattle.std.proofs.Common.{◌≡◌, ℕ, ◌+◌, Bool, true, false, cond, List, [], ◌∷◌, drop, refl, arith}
 use Rattle.std.specs.List.{list_all, prefix_len}
 use Rattle.std.proofs.lemmas.Grind.{common_steps}
-use Rattle.aprs_base.specs.Bytes.{is_blank, is_digit}
+use Rattle.std.specs.Char.{is_ascii_digit}
+use Rattle.aprs_base.specs.Bytes.{is_blank}
 use Rattle.aprs_position.specs.Plain.{ends_in_blanks}
 
 -- at one more byte, by whether it's a digit
@@ -12,6 +13,6 @@ more_digits true x xs n rest h = grind (arith, common_steps)
 more_digits false x xs n rest h = refl
 
 -- what follows the leading digits is blank
-pub blank_after_digits : (xs : List ℕ) → list_all is_blank (drop (prefix_len is_digit xs) xs) ≡ ends_in_blanks xs
+pub blank_after_digits : (xs : List ℕ) → list_all is_blank (drop (prefix_len is_ascii_digit xs) xs) ≡ ends_in_blanks xs
 blank_after_digits [] = refl
-blank_after_digits (x ∷ xs) = more_digits (is_digit x) x xs (prefix_len is_digit xs) _ (blank_after_digits xs)
+blank_after_digits (x ∷ xs) = more_digits (is_ascii_digit x) x xs (prefix_len is_ascii_digit xs) _ (blank_after_digits xs)

@@ -1,8 +1,10 @@
 -- The two forms of a position as grammars: which texts write which place, apart from how they are read
 -- (APRS Protocol Reference 1.0.1, Lat/Long Format, Position Ambiguity, Compressed Position Report Data Formats).
-use Rattle.std.specs.Prelude.{◌≡◌, ℕ, ◌+◌, ◌*◌, ◌/◌, ◌<◌, ◌≤◌, ◌⊎◌, ℤ, pos, neg_ℤ, ◌-ℤ◌, List, [], ◌∷◌, ◌++◌, length, IsTrue, IsFalse}
+use Rattle.std.specs.Prelude.{◌≡◌, ℕ, ◌+◌, ◌-◌, ◌*◌, ◌/◌, ◌<◌, ◌≤◌, ◌⊎◌, ℤ, pos, neg_ℤ, ◌-ℤ◌, List, [], ◌∷◌, ◌++◌, length, IsTrue, IsFalse}
+use Rattle.std.specs.Char.{is_ascii_digit}
 use Rattle.std.specs.List.{list_all}
-use Rattle.aprs_base.specs.Bytes.{is_blank, is_digit}
+use Rattle.std.specs.Str.{byte}
+use Rattle.aprs_base.specs.Bytes.{is_blank}
 use Rattle.aprs_base.specs.declared.packets.Place.{Place}
 use Rattle.aprs_position.specs.Places.{is_code, is_table}
 use Rattle.aprs_position.specs.Plain.{number}
@@ -22,11 +24,11 @@ pub record WritesAngle (count : ℕ) (text : List ℕ) (angle : ℕ) : Type 0 wh
   pub hundredths : List ℕ
   pub shown : List ℕ
   pub blanks : List ℕ
-  pub spelled : text ≡ degrees ++ (minutes ++ (46 ∷ hundredths))
+  pub spelled : text ≡ degrees ++ (minutes ++ (byte "." ∷ hundredths))
   pub lengths : (length degrees ≡ count) × (length minutes ≡ 2) × (length hundredths ≡ 2)
-  pub whole : IsTrue (list_all is_digit degrees)
+  pub whole : IsTrue (list_all is_ascii_digit degrees)
   pub ambiguity : minutes ++ hundredths ≡ shown ++ blanks
-  pub digits : IsTrue (list_all is_digit shown)
+  pub digits : IsTrue (list_all is_ascii_digit shown)
   pub blank : IsTrue (list_all is_blank blanks)
   pub below : number minutes < 60
   pub value : angle ≡ number degrees * 1000000 + (number minutes * 100 + number hundredths) * 1000000 / 6000
@@ -46,8 +48,8 @@ pub record IsPlain (text : List ℕ) (place : Place) : Type 0 where
   pub spelled : text ≡ latitude ++ (north ∷ place.table ∷ (longitude ++ (east ∷ place.code ∷ [])))
   pub latitude_angle : WritesAngle 2 latitude from_equator
   pub longitude_angle : WritesAngle 3 longitude from_greenwich
-  pub lat : IsToward 78 83 north from_equator place.lat
-  pub lon : IsToward 69 87 east from_greenwich place.lon
+  pub lat : IsToward (byte "N") (byte "S") north from_equator place.lat
+  pub lon : IsToward (byte "E") (byte "W") east from_greenwich place.lon
   pub table : IsTrue (is_table place.table)
   pub code : IsTrue (is_code place.code)
 
@@ -58,13 +60,13 @@ pub record WritesScaled (text : List ℕ) (units : ℕ) : Type 0 where
   pub c : ℕ
   pub d : ℕ
   pub below : (a < 91) × (b < 91) × (c < 91) × (d < 91)
-  pub spelled : text ≡ (a + 33) ∷ (b + 33) ∷ (c + 33) ∷ (d + 33) ∷ []
+  pub spelled : text ≡ (a + byte "!") ∷ (b + byte "!") ∷ (c + byte "!") ∷ (d + byte "!") ∷ []
   pub value : units ≡ a * 753571 + b * 8281 + c * 91 + d
   pub within : units ≤ 68566680
 
 -- a table but a digit is written as itself, and a digit as a letter `a` to `j`
-abbrev pub NamesTable : (byte table : ℕ) → Type 0
-NamesTable byte table = (IsTrue (is_digit table) × (byte ≡ table + 49)) ⊎ (IsFalse (is_digit table) × IsTrue (is_table table) × (byte ≡ table))
+abbrev pub NamesTable : (sent table : ℕ) → Type 0
+NamesTable sent table = (IsTrue (is_ascii_digit table) × (sent ≡ table + (byte "a" - byte "0"))) ⊎ (IsFalse (is_ascii_digit table) × IsTrue (is_table table) × (sent ≡ table))
 
 -- `/YYYYXXXX$csT`, the last three of any value
 pub record IsCompressed (text : List ℕ) (place : Place) : Type 0 where

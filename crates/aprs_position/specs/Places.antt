@@ -1,16 +1,17 @@
 -- Places on the globe, and the bytes that stand for their symbols.
 use Rattle.std.specs.Prelude.{ℕ, ℤ, pos, negsuc, Bool, true, false, T, int_le, nat_le, ◌==◌, ◌||◌, ◌&&◌, ◌≤ℤ◌, Some, None}
+use Rattle.std.specs.Char.{is_ascii_digit}
+use Rattle.std.specs.Str.{byte}
 use Rattle.std.specs.declared.option.Option.{Option}
-use Rattle.aprs_base.specs.Bytes.{is_digit}
 use Rattle.aprs_base.specs.declared.packets.Place.{Place}
 
 -- a symbol's table (APRS Protocol Reference 1.0.1, Symbols): `/`, `\`, or an overlay, a digit or a capital letter
 abbrev pub is_table : ℕ → Bool
-is_table b = b == 47 || b == 92 || is_digit b || (nat_le 65 b && nat_le b 90)
+is_table b = b == byte "/" || b == byte "\\" || is_ascii_digit b || (nat_le (byte "A") b && nat_le b (byte "Z"))
 
 -- a symbol's code: any printable byte but the blank
 abbrev pub is_code : ℕ → Bool
-is_code b = nat_le 33 b && nat_le b 126
+is_code b = nat_le (byte "!") b && nat_le b (byte "~")
 
 -- a value that stands only where a test holds
 abbrev pub given : {A : Type 0} (test : Bool) → (T test → Option A) → Option A

@@ -1,16 +1,18 @@
 -- The plain form of a position, `DDMM.hhN/DDDMM.hhW$` (APRS Protocol Reference 1.0.1, Lat/Long Format, Position Ambiguity).
 use Rattle.std.specs.Prelude.{ℕ, ◌+◌, ◌-◌, ◌*◌, ◌/◌, ◌==◌, ◌&&◌, ℤ, pos, neg_ℤ, Bool, true, nat_lt, List, [], ◌∷◌, length, slice_index, slice_range, Some, None, if◌then◌else◌}
+use Rattle.std.specs.Char.{is_ascii_digit}
 use Rattle.std.specs.List.{fold, list_all}
 use Rattle.std.specs.declared.option.Option.{Option}
 use Rattle.std.specs.Option.{option_map}
-use Rattle.aprs_base.specs.Bytes.{is_blank, is_digit}
+use Rattle.std.specs.Str.{byte}
+use Rattle.aprs_base.specs.Bytes.{is_blank}
 use Rattle.aprs_base.specs.declared.packets.Place.{Place}
 use Rattle.aprs_position.specs.Places.{is_code, is_table, place_at}
 use Rattle.aprs_base.specs.OptionSteps.{◌>>=◌}
 
 -- what a digit counts, and a blank counts as 0
 abbrev pub digit_value : ℕ → ℕ
-digit_value b = if is_digit b then b - 48 else 0
+digit_value b = if is_ascii_digit b then b - byte "0" else 0
 
 -- a decimal number, its highest digit first
 abbrev pub number : List ℕ → ℕ
@@ -19,12 +21,12 @@ number digits = fold (λ n b. n * 10 + digit_value b) 0 digits
 -- digits, of which the last ones may be blank (Position Ambiguity)
 abbrev pub ends_in_blanks : List ℕ → Bool
 ends_in_blanks [] = true
-ends_in_blanks (b ∷ bs) = if is_digit b then ends_in_blanks bs else list_all is_blank (b ∷ bs)
+ends_in_blanks (b ∷ bs) = if is_ascii_digit b then ends_in_blanks bs else list_all is_blank (b ∷ bs)
 
 -- minutes and their hundredths, `MM.hh`, as a number of hundredths: the minutes are below 60
 abbrev pub hundredths_of : List ℕ → Option ℕ
 hundredths_of (m ∷ n ∷ point ∷ h ∷ i ∷ []) =
-    if point == 46 && ends_in_blanks (m ∷ n ∷ h ∷ i ∷ []) && nat_lt (number (m ∷ n ∷ [])) 60 then Some (number (m ∷ n ∷ h ∷ i ∷ [])) else None
+    if point == byte "." && ends_in_blanks (m ∷ n ∷ h ∷ i ∷ []) && nat_lt (number (m ∷ n ∷ [])) 60 then Some (number (m ∷ n ∷ h ∷ i ∷ [])) else None
 hundredths_of _ = None
 
 -- whole degrees and hundredths of minutes, in millionths of a degree: the division is whole
@@ -33,7 +35,7 @@ angle degrees hundredths = degrees * 1000000 + hundredths * 1000000 / 6000
 
 -- a number of digits alone
 abbrev pub whole_of : List ℕ → Option ℕ
-whole_of digits = if list_all is_digit digits then Some (number digits) else None
+whole_of digits = if list_all is_ascii_digit digits then Some (number digits) else None
 
 -- two digits of latitude, or three of longitude (Lat/Long Format)
 abbrev pub degrees_of : List ℕ → Option ℕ
@@ -53,7 +55,7 @@ toward plus minus letter angle = if letter == plus then Some (pos angle) else if
 unfoldable pub plain_place : List ℕ → Option Place
 plain_place text = if nat_lt (length text) 19 then None else do
   north ← angle_of (slice_range text 0 2) (slice_range text 2 7)
-  lat ← toward 78 83 (slice_index text 7) north
+  lat ← toward (byte "N") (byte "S") (slice_index text 7) north
   east ← angle_of (slice_range text 9 12) (slice_range text 12 17)
-  lon ← toward 69 87 (slice_index text 17) east
+  lon ← toward (byte "E") (byte "W") (slice_index text 17) east
   if is_table (slice_index text 8) && is_code (slice_index text 18) then place_at lat lon (slice_index text 8) (slice_index text 18) 19 else None

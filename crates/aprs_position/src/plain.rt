@@ -1,7 +1,8 @@
 //! The plain form of a position, `DDMM.hhN/DDDMM.hhW$`.
 ghost use Rattle.std.specs.Prelude.{◌≡◌, ℕ, ◌+◌, ◌*◌, ◌^◌, ◌<◌, ◌≤◌, IfSome, length};
+ghost use Rattle.std.specs.Char.{is_ascii_digit};
 ghost use Rattle.std.specs.List.{list_all, prefix_len};
-ghost use Rattle.aprs_base.specs.Bytes.{is_blank, is_digit};
+ghost use Rattle.aprs_base.specs.Bytes.{is_blank};
 ghost use Rattle.aprs_base.specs.declared.packets.Place.{Place};
 ghost use Rattle.aprs_position.specs.Grammar.{BeginsPlain};
 ghost use Rattle.aprs_position.specs.Places.{is_code, is_table};
@@ -29,7 +30,7 @@ fn pair(tens: u8, ones: u8) -> u32
 }
 
 fn is_digit(byte: u8) -> bool
-    ensures { result ≡ is_digit byte }
+    ensures { result ≡ is_ascii_digit byte }
 {
     byte.is_ascii_digit()
 }
@@ -42,7 +43,7 @@ fn all_blank(text: &[u8]) -> bool
 
 /// How many digits `text` begins with.
 fn count_digits(text: &[u8]) -> usize
-    ensures value { result ≡ prefix_len is_digit text.now }
+    ensures value { result ≡ prefix_len is_ascii_digit text.now }
     ensures within { result ≤ length text.now }
 {
     text.iter().take_while(|byte| is_digit(**byte)).count()

@@ -3,6 +3,7 @@ ghost use Rattle.std.specs.Prelude.{◌≡◌, ◌≤◌, ◌++◌, ◌∷◌, [
 ghost use Rattle.std.specs.Fmt.{decimal};
 ghost use Rattle.std.specs.Io.KnownBytes.{Appends};
 ghost use Rattle.std.specs.List.{AllZip};
+ghost use Rattle.std.specs.Str.{byte};
 ghost use Rattle.aprs_base.specs.Outside.{Rose};
 ghost use Rattle.aprs_base.specs.Slots.{TakesLine, TakesLines};
 ghost use Rattle.aprsc_daemon.specs.Telling.{is_for_standard_error, is_for_the_file};
@@ -50,7 +51,7 @@ pub fn tell_all(journals: &mut Vec<Slot>, lines: &[JournalLine])
 
 /// Writes the moment, a blank, the text and LF, by one call where the text has a usual length.
 fn write_line<W: Write>(out: &mut W, moment: u64, text: &[u8]) -> io::Result<()>
-    ensures { OnOk result (Appends (W.contents out.old) (W.contents out.new) (decimal moment ++ (32 ∷ (text.now ++ 10 ∷ [])))) }
+    ensures { OnOk result (Appends (W.contents out.old) (W.contents out.new) (decimal moment ++ (byte " " ∷ (text.now ++ byte "\n" ∷ [])))) }
 {
     let mut buffer = Buffer::new();
     let mut line = ArrayVec::<u8, 128>::new();

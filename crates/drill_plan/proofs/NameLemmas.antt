@@ -10,16 +10,17 @@ use Rattle.std.proofs.lemmas.Bool.Decides.{nat_tests}
 use Rattle.std.proofs.lemmas.Fmt.{decimal_is_IsNumeral, length-decimal-le}
 use Rattle.std.proofs.lemmas.List.{take_all}
 use Rattle.std.proofs.lemmas.Str.Parse.{tells_digits}
-use Rattle.aprs_base.specs.Bytes.{is_alphanumeric, is_call, is_dash, IsCall}
+use Rattle.std.specs.Char.{is_ascii_alphanumeric}
+use Rattle.aprs_base.specs.Bytes.{is_call, is_dash, IsCall}
 use Rattle.drill_plan.specs.Drill.{link_name}
 
-alphanumeric_in : (c : ℕ) → IsInRange 48 57 c → is_alphanumeric c ≡ true
+alphanumeric_in : (c : ℕ) → IsInRange 48 57 c → is_ascii_alphanumeric c ≡ true
 alphanumeric_in c h = grind (arith, nat_tests)
 
 no_dash_in : (c : ℕ) → IsInRange 48 57 c → is_dash c ≡ false
 no_dash_in c h = grind (arith, nat_tests)
 
-digits_alphanumeric : (ds : List ℕ) → AllDigits 10 ds → list_all is_alphanumeric ds ≡ true
+digits_alphanumeric : (ds : List ℕ) → AllDigits 10 ds → list_all is_ascii_alphanumeric ds ≡ true
 digits_alphanumeric [] h = refl
 digits_alphanumeric (c ∷ cs) h =
     let parts = tells_digits.parts c cs h in

@@ -5,6 +5,7 @@ use Rattle.std.specs.Fmt.{decimal}
 use Rattle.std.specs.Fork.{slice_chunk}
 use Rattle.std.specs.Int.{div_ceil}
 use Rattle.std.specs.List.{flat_map, range_with_len}
+use Rattle.std.specs.Str.{byte}
 use Rattle.aprs_base.specs.declared.texts.Addr.{Addr}
 use Rattle.aprs_base.specs.declared.events.Event.{Event}
 use Rattle.aprs_base.specs.declared.events.Event.TheVariants as event
@@ -25,17 +26,17 @@ states (suc n) x = next_state x ∷ states n (next_state x)
 
 -- the last two and the last three digits of a number
 abbrev pub two_digits : ℕ → List ℕ
-two_digits n = (48 + n / 10 % 10) ∷ (48 + n % 10) ∷ []
+two_digits n = (byte "0" + n / 10 % 10) ∷ (byte "0" + n % 10) ∷ []
 
 abbrev pub three_digits : ℕ → List ℕ
-three_digits n = (48 + n / 100 % 10) ∷ two_digits n
+three_digits n = (byte "0" + n / 100 % 10) ∷ two_digits n
 
 -- a station, and the same with blanks up to nine bytes
 abbrev pub station : ℕ → List ℕ
 station n = codes "S" ++ decimal n
 
 abbrev pub receiver : ℕ → List ℕ
-receiver n = station n ++ replicate (9 - length (station n)) 32
+receiver n = station n ++ replicate (9 - length (station n)) (byte " ")
 
 -- what a line says: where a station is, a status, a message, or a measurement
 abbrev pub position_text : ℕ → List ℕ

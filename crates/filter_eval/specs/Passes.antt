@@ -2,6 +2,7 @@
 use Rattle.std.specs.Prelude.{ℕ, ℤ, int_le, ◌+◌, ◌-◌, ◌==◌, ◌&&◌, ◌||◌, Bool, false, not, nat_lt, bit_and, List, [], ◌∷◌, take, slice_get, Option, Some, None, option_map, if◌then◌else◌}
 use Rattle.std.specs.List.{list_any, starts_with, zip}
 use Rattle.std.specs.Option.{option_and_then}
+use Rattle.std.specs.Str.{byte}
 use Rattle.std.specs.Cmp.Lexicographic.{pointwise}
 use Rattle.aprs_base.specs.PacketSeen.{PacketSeen}
 use Rattle.aprs_base.specs.PartsSeen.{PartsSeen}
@@ -91,7 +92,7 @@ is_inside north west south east place = is_from_to south north place.lat && is_b
 -- a symbol of the first table by its code; of another by its code and, where tables are given, its table
 abbrev pub is_shown : List ℕ → List ℕ → List ℕ → Place → Bool
 is_shown pri alt over place =
-    if place.table == 47 then has pri place.code else has alt place.code && (is_empty over || has over place.table)
+    if place.table == byte "/" then has pri place.code else has alt place.code && (is_empty over || has over place.table)
 
 -- ---- classes
 

@@ -4,7 +4,8 @@ use Rattle.std.specs.Prelude.{not, option_map}
 use Rattle.std.specs.Fmt.{decimal}
 use Rattle.std.specs.List.{list_all}
 use Rattle.std.proofs.lemmas.Bool.{ne_eqb, eqb-true, and_parts}
-use Rattle.aprs_base.specs.Bytes.{is_call, is_letter}
+use Rattle.std.specs.Char.{is_ascii_alphabetic}
+use Rattle.aprs_base.specs.Bytes.{is_call}
 use Rattle.filter_lang.specs.declared.terms.What.{What}
 use Rattle.filter_lang.specs.declared.terms.What.TheVariants as what
 use Rattle.filter_lang.specs.Parts.{is_empty}
@@ -200,17 +201,17 @@ class_keeps (letters ∷ f ∷ fields) w h =
     rw near.fields_are (subst (Keeps 116 _) found.2 (class_near_by letters found.0.0 near.text mask.0 found.0.1 mask.1 near.call_good near.km_read))
 
 -- constructs
-pub construct_by : (letters : List ℕ) (gates : Bool) → list_all is_letter letters ≡ true → (gates || not (is_empty letters)) ≡ true → construct_if (map spelled (set_of letters)) gates ≡ Some (what.Construct (set_of letters) gates)
+pub construct_by : (letters : List ℕ) (gates : Bool) → list_all is_ascii_alphabetic letters ≡ true → (gates || not (is_empty letters)) ≡ true → construct_if (map spelled (set_of letters)) gates ≡ Some (what.Construct (set_of letters) gates)
 unfolding construct_if
 construct_by letters gates all some =
     let keeps = letters_again letters all in
     rw (keeps.letters, keeps.same, some, keeps.again) refl
 
-pub construct_is : (letters : List ℕ) (gates : Bool) (w : What) → construct_if letters gates ≡ Some w → (list_all is_letter letters ≡ true) × (((gates || not (is_empty letters)) ≡ true) × (what.Construct (set_of letters) gates ≡ w))
+pub construct_is : (letters : List ℕ) (gates : Bool) (w : What) → construct_if letters gates ≡ Some w → (list_all is_ascii_alphabetic letters ≡ true) × (((gates || not (is_empty letters)) ≡ true) × (what.Construct (set_of letters) gates ≡ w))
 unfolding construct_if
 construct_is letters gates w h =
-    let test = cond_some (list_all is_letter letters && (gates || not (is_empty letters))) (Some (what.Construct (set_of letters) gates)) w h in
-    let parts = and_parts (list_all is_letter letters) (gates || not (is_empty letters)) test.0 in
+    let test = cond_some (list_all is_ascii_alphabetic letters && (gates || not (is_empty letters))) (Some (what.Construct (set_of letters) gates)) w h in
+    let parts = and_parts (list_all is_ascii_alphabetic letters) (gates || not (is_empty letters)) test.0 in
     (parts.0, (parts.1, cc))
 
 pub construct_keeps : (fields : List (List ℕ)) (w : What) → construct_of fields ≡ Some w → Keeps 113 fields w

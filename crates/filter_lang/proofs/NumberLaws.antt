@@ -4,7 +4,7 @@ use Rattle.std.specs.Prelude.{option_map, ◌&&◌, ◌||◌, not}
 use Rattle.std.specs.Fmt.{decimal}
 use Rattle.std.specs.List.{list_all, before_first, after_first, position_or_len}
 use Rattle.std.specs.Str.Parse.{digits_value, AllDigits}
-use Rattle.std.specs.Char.{digit_value}
+use Rattle.std.specs.Char.{digit_value, is_ascii_digit}
 use Rattle.std.proofs.Math.IntN.{neg_ℤ}
 use Rattle.std.proofs.Math.Nat.{pow-le-pow_right, mul_comm, div-add-mod}
 use Rattle.std.proofs.lemmas.Nat.{mod-mul-add}
@@ -15,7 +15,6 @@ use Rattle.std.proofs.lemmas.Bool.{cases_lt, cases_eq, ne_eqb, eq-eqb, eqb-false
 use Rattle.std.proofs.lemmas.Bool.Decides.{nat_tests}
 use Rattle.std.proofs.lemmas.Fmt.{decimal_is_IsNumeral, length-decimal-le}
 use Rattle.aprs_base.proofs.CallLemmas.{each_weaker}
-use Rattle.aprs_base.specs.Bytes.{is_digit}
 use Rattle.filter_lang.specs.Parts.{is_empty}
 use Rattle.aprs_base.specs.OptionSteps.{◌>>=◌}
 use Rattle.filter_lang.specs.Numbers.{are_digits, is_dot, digits_if, dotted_of, fraction_of, fraction_text, fraction_digits, places, shorter, millionths_of, at_most, size_of, has_minus, degrees_of, kilometres_of, dotted_text, millionths_text, degrees_text}
@@ -35,38 +34,38 @@ AreUnits (p ∷ ps) = (9 * total ps < p) × AreUnits ps
 
 -- digits and dots
 abbrev pub is_size : ℕ → Bool
-is_size b = is_digit b || is_dot b
+is_size b = is_ascii_digit b || is_dot b
 
 -- digits have no dot
-pub digits_undotted : (xs : List ℕ) → list_all is_digit xs ≡ true → position_or_len is_dot xs ≡ length xs
+pub digits_undotted : (xs : List ℕ) → list_all is_ascii_digit xs ≡ true → position_or_len is_dot xs ≡ length xs
 digits_undotted [] h = refl
 digits_undotted (x ∷ xs) h =
-    let parts = and_parts (is_digit x) (list_all is_digit xs) h in
+    let parts = and_parts (is_ascii_digit x) (list_all is_ascii_digit xs) h in
     let none : is_dot x ≡ false = (let digit = parts.0 in grind (arith, nat_tests)) in
     rw (none, digits_undotted xs parts.1) (omega arith)
 
-pub digits_dotted : (xs ys : List ℕ) → list_all is_digit xs ≡ true → position_or_len is_dot (xs ++ 46 ∷ ys) ≡ length xs
+pub digits_dotted : (xs ys : List ℕ) → list_all is_ascii_digit xs ≡ true → position_or_len is_dot (xs ++ 46 ∷ ys) ≡ length xs
 digits_dotted [] ys h = refl
 digits_dotted (x ∷ xs) ys h =
-    let parts = and_parts (is_digit x) (list_all is_digit xs) h in
+    let parts = and_parts (is_ascii_digit x) (list_all is_ascii_digit xs) h in
     let none : is_dot x ≡ false = (let digit = parts.0 in grind (arith, nat_tests)) in
     rw (none, digits_dotted xs ys parts.1) (omega arith)
 
 -- what a dotted number is: digits, or digits, a dot and digits
 pub record Dotted (text before after : List ℕ) : Type 0 where
-  pub whole : list_all is_digit before ≡ true
+  pub whole : list_all is_ascii_digit before ≡ true
   pub some : 0 < length before
-  pub more : list_all is_digit after ≡ true
+  pub more : list_all is_ascii_digit after ≡ true
   pub size : length before ≤ length text
   pub rest : 0 < length after → length before + 1 + length after ≤ length text
 
-pub number_parts : (xs : List ℕ) → are_digits xs ≡ true → (list_all is_digit xs ≡ true) × (0 < length xs)
+pub number_parts : (xs : List ℕ) → are_digits xs ≡ true → (list_all is_ascii_digit xs ≡ true) × (0 < length xs)
 number_parts xs h =
-    let parts = and_parts (list_all is_digit xs) (not (is_empty xs)) h in
+    let parts = and_parts (list_all is_ascii_digit xs) (not (is_empty xs)) h in
     let some : length xs ≡ 0 → ⊥ = eqb-false (length xs) 0 (not-true (is_empty xs) parts.1) in
     (parts.0, omega arith)
 
-pub are_digits_is : (xs : List ℕ) → list_all is_digit xs ≡ true → 0 < length xs → are_digits xs ≡ true
+pub are_digits_is : (xs : List ℕ) → list_all is_ascii_digit xs ≡ true → 0 < length xs → are_digits xs ≡ true
 are_digits_is xs digits some = rw (digits, ne_eqb (length xs) 0 (λ e. omega arith)) refl
 
 pub dotted_by : (c : Bool) (text before after : List ℕ) (number : List ℕ × List ℕ) → length before ≤ length text → (0 < length after → length before + 1 + length after ≤ length text) → cond c (cond (are_digits text) (Some (text, [])) None) (digits_if before after) ≡ Some number → Dotted text number.0 number.1
@@ -92,11 +91,11 @@ dotted_is text number h =
     dotted_by (length (before_first is_dot text) == length text) text (before_first is_dot text) (after_first is_dot text) number (omega arith) (λ l. omega arith) h
 
 -- the same the other way
-pub dotted_whole : (xs : List ℕ) → list_all is_digit xs ≡ true → 0 < length xs → dotted_of xs ≡ Some (xs, [])
+pub dotted_whole : (xs : List ℕ) → list_all is_ascii_digit xs ≡ true → 0 < length xs → dotted_of xs ≡ Some (xs, [])
 unfolding dotted_of
 dotted_whole xs digits some = rw (digits_undotted xs digits, take-length xs, eq-eqb (length xs) (length xs) refl, are_digits_is xs digits some) refl
 
-pub dotted_both : (xs ys : List ℕ) → list_all is_digit xs ≡ true → 0 < length xs → list_all is_digit ys ≡ true → 0 < length ys → dotted_of (xs ++ 46 ∷ ys) ≡ Some (xs, ys)
+pub dotted_both : (xs ys : List ℕ) → list_all is_ascii_digit xs ≡ true → 0 < length xs → list_all is_ascii_digit ys ≡ true → 0 < length ys → dotted_of (xs ++ 46 ∷ ys) ≡ Some (xs, ys)
 unfolding dotted_of
 dotted_both xs ys digits some digits' some' =
     let longer : (length xs == length (xs ++ 46 ∷ ys)) ≡ false = ne_eqb _ _ (λ e. omega (arith, length-append xs (46 ∷ ys))) in
@@ -104,14 +103,14 @@ dotted_both xs ys digits some digits' some' =
 
 -- the decimal text of a number
 pub record IsDecimal (n : ℕ) : Type 0 where
-  pub digits : list_all is_digit (decimal n) ≡ true
+  pub digits : list_all is_ascii_digit (decimal n) ≡ true
   pub some : 0 < length (decimal n)
   pub value : digits_value 10 (decimal n) ≡ n
 
-pub digits_all : (ds : List ℕ) → AllDigits 10 ds → list_all is_digit ds ≡ true
+pub digits_all : (ds : List ℕ) → AllDigits 10 ds → list_all is_ascii_digit ds ≡ true
 digits_all [] h = refl
 digits_all (d ∷ ds) h =
-    let first : is_digit d ≡ true = (let small : digit_value d < 10 = h.0 in grind (arith, nat_tests)) in
+    let first : is_ascii_digit d ≡ true = (let small : digit_value d < 10 = h.0 in grind (arith, nat_tests)) in
     rw (first, digits_all ds h.1) refl
 
 pub decimal_is : (n : ℕ) → n < 1000000 → IsDecimal n
@@ -120,11 +119,11 @@ decimal_is n h =
     record { digits = digits_all (decimal n) is.0.1; some = is.0.0; value = is.1 }
 
 -- no longer than digits of the same value
-pub decimal_shorter : (ds : List ℕ) → list_all is_digit ds ≡ true → 0 < length ds → digits_value 10 ds < 1000000 → length (decimal (digits_value 10 ds)) ≤ length ds
+pub decimal_shorter : (ds : List ℕ) → list_all is_ascii_digit ds ≡ true → 0 < length ds → digits_value 10 ds < 1000000 → length (decimal (digits_value 10 ds)) ≤ length ds
 decimal_shorter ds digits some small = length-decimal-le (length ds) (digits_value 10 ds) some (value_bound ds digits) (omega arith)
 
 -- kilometres
-pub short_value : (ds : List ℕ) (k : ℕ) → list_all is_digit ds ≡ true → length ds ≤ k → digits_value 10 ds < 10 ^ k
+pub short_value : (ds : List ℕ) (k : ℕ) → list_all is_ascii_digit ds ≡ true → length ds ≤ k → digits_value 10 ds < 10 ^ k
 short_value ds k digits short =
     let bound = value_bound ds digits in
     let power : 10 ^ length ds ≤ 10 ^ k = pow-le-pow_right {n = 10} (omega arith) short in
@@ -167,16 +166,16 @@ kilometres_again text km h =
     record {
       again = rw (dotted_whole (decimal km) ten.digits ten.some, le-leb (length (decimal km)) 5 short, ten.value) refl;
       some = ten.some;
-      neat = record { shorter = (let same = ap (λ (n : ℕ). length (decimal n)) value in let size = is.dotted.size in omega arith); clean = each_weaker is_digit is_clean digit_clean (decimal km) ten.digits };
+      neat = record { shorter = (let same = ap (λ (n : ℕ). length (decimal n)) value in let size = is.dotted.size in omega arith); clean = each_weaker is_ascii_digit is_clean digit_clean (decimal km) ten.digits };
     }
 
 -- the digits after the dot, written and read
-pub fraction_text-digits : (ps : List ℕ) (n : ℕ) → FitsPlaces ps n → list_all is_digit (fraction_text ps n) ≡ true
+pub fraction_text-digits : (ps : List ℕ) (n : ℕ) → FitsPlaces ps n → list_all is_ascii_digit (fraction_text ps n) ≡ true
 fraction_text-digits [] n h = refl
-fraction_text-digits (p ∷ ps) n h = elim (cases_eq n 0) as (λ _. list_all is_digit (fraction_text (p ∷ ps) n) ≡ true) [
+fraction_text-digits (p ∷ ps) n h = elim (cases_eq n 0) as (λ _. list_all is_ascii_digit (fraction_text (p ∷ ps) n) ≡ true) [
   | inl none ↦ rw none refl
   | inr some ↦
-      let digit : is_digit (48 + n / p) ≡ true = (let high = h.0 in grind (arith, nat_tests)) in
+      let digit : is_ascii_digit (48 + n / p) ≡ true = (let high = h.0 in grind (arith, nat_tests)) in
       rw (ne_eqb n 0 some, digit, fraction_text-digits ps (n % p) h.1) refl
 ]
 
@@ -190,11 +189,11 @@ fraction_of-text (p ∷ ps) n h = elim (cases_eq n 0) as (λ _. fraction_of (p �
 ]
 
 -- no longer than digits of the same value
-pub fraction_text-shorter : (ps ds : List ℕ) → AreUnits ps → list_all is_digit ds ≡ true → length (fraction_text ps (fraction_of ps ds)) ≤ length ds
+pub fraction_text-shorter : (ps ds : List ℕ) → AreUnits ps → list_all is_ascii_digit ds ≡ true → length (fraction_text ps (fraction_of ps ds)) ≤ length ds
 fraction_text-shorter [] ds u h = omega arith
 fraction_text-shorter (p ∷ ps) [] u h = omega arith
 fraction_text-shorter (p ∷ ps) (d ∷ ds) u h =
-    let digits = and_parts (is_digit d) (list_all is_digit ds) h in
+    let digits = and_parts (is_ascii_digit d) (list_all is_ascii_digit ds) h in
     let bound = fraction_of-bound ps ds digits.1 in
     let below : fraction_of ps ds < p = (let apart = u.0 in omega arith) in
     let more = fraction_text-shorter ps ds u.1 digits.1 in
@@ -221,12 +220,12 @@ pub record KeepsSize (text m : List ℕ) (n : ℕ) : Type 0 where
   pub some : 0 < length m
   pub plain : has_minus m ≡ false
 
-pub digits_plain : (xs ys : List ℕ) → list_all is_digit xs ≡ true → 0 < length xs → has_minus (xs ++ ys) ≡ false
+pub digits_plain : (xs ys : List ℕ) → list_all is_ascii_digit xs ≡ true → 0 < length xs → has_minus (xs ++ ys) ≡ false
 digits_plain [] ys h some = absurd (omega arith)
-digits_plain (x ∷ xs) ys h some = let digit = (and_parts (is_digit x) (list_all is_digit xs) h).0 in grind (arith, nat_tests)
+digits_plain (x ∷ xs) ys h some = let digit = (and_parts (is_ascii_digit x) (list_all is_ascii_digit xs) h).0 in grind (arith, nat_tests)
 
-pub digits_size : (xs : List ℕ) → list_all is_digit xs ≡ true → list_all is_size xs ≡ true
-digits_size xs h = each_weaker is_digit is_size (λ b e. grind (arith, nat_tests)) xs h
+pub digits_size : (xs : List ℕ) → list_all is_ascii_digit xs ≡ true → list_all is_size xs ≡ true
+digits_size xs h = each_weaker is_ascii_digit is_size (λ b e. grind (arith, nat_tests)) xs h
 
 -- a number without digits after the dot
 pub whole_again : (text : List ℕ) (w : ℕ) → w < 1000 → length (decimal w) ≤ length text → KeepsSize text (decimal w) (w * 1000000 + 0)

@@ -6,8 +6,8 @@ use Rattle.std.proofs.lemmas.List.{length-map}
 use Rattle.std.proofs.lemmas.Bool.{cases_eq, ne_eqb, eq-eqb, and_parts, not-true, or_parts, eqb-false}
 use Rattle.std.proofs.lemmas.Bool.Decides.{nat_tests}
 use Rattle.std.proofs.lemmas.Simd.{map-map}
+use Rattle.std.specs.Char.{is_ascii_alphabetic}
 use Rattle.aprs_base.proofs.CallLemmas.{each_weaker}
-use Rattle.aprs_base.specs.Bytes.{is_letter}
 use Rattle.filter_lang.specs.Parts.{is_empty}
 use Rattle.filter_lang.specs.Names.{meant, spelled}
 use Rattle.filter_lang.specs.Sets.{has, set_of}
@@ -135,32 +135,32 @@ symbols_again field set h =
     })
 
 -- letters
-pub letter_spelled : (b : ℕ) → is_letter b ≡ true → spelled b ≡ b
+pub letter_spelled : (b : ℕ) → is_ascii_alphabetic b ≡ true → spelled b ≡ b
 letter_spelled b h = grind (arith, nat_tests)
 
-pub letter_clean : (b : ℕ) → is_letter b ≡ true → is_clean b ≡ true
+pub letter_clean : (b : ℕ) → is_ascii_alphabetic b ≡ true → is_clean b ≡ true
 letter_clean b h = grind (arith, nat_tests)
 
-pub letter_small : (b : ℕ) → is_letter b ≡ true → b < 128
+pub letter_small : (b : ℕ) → is_ascii_alphabetic b ≡ true → b < 128
 letter_small b h = grind (arith, nat_tests)
 
 pub record KeepsLetters (field canonical : List ℕ) : Type 0 where
-  pub letters : list_all is_letter canonical ≡ true
+  pub letters : list_all is_ascii_alphabetic canonical ≡ true
   pub again : set_of canonical ≡ set_of field
   pub neat : Neat field canonical
   pub same : is_empty canonical ≡ is_empty field
 
-pub letters_empty : (field : List ℕ) → list_all is_letter field ≡ true → is_empty (set_of field) ≡ is_empty field
+pub letters_empty : (field : List ℕ) → list_all is_ascii_alphabetic field ≡ true → is_empty (set_of field) ≡ is_empty field
 unfolding set_of
 letters_empty [] h = refl
-letters_empty (b ∷ field) h = set_of-some b field (letter_small b (and_parts (is_letter b) (list_all is_letter field) h).0) ∙ sym (ne_eqb (suc (length field)) 0 (λ e. omega arith))
+letters_empty (b ∷ field) h = set_of-some b field (letter_small b (and_parts (is_ascii_alphabetic b) (list_all is_ascii_alphabetic field) h).0) ∙ sym (ne_eqb (suc (length field)) 0 (λ e. omega arith))
 
-pub letters_again : (field : List ℕ) → list_all is_letter field ≡ true → KeepsLetters field (map spelled (set_of field))
+pub letters_again : (field : List ℕ) → list_all is_ascii_alphabetic field ≡ true → KeepsLetters field (map spelled (set_of field))
 letters_again field h =
-    let all = set_of-all is_letter field h in
-    subst (λ (x : List ℕ). KeepsLetters field x) (sym (map_same is_letter spelled letter_spelled (set_of field) all)) (record {
+    let all = set_of-all is_ascii_alphabetic field h in
+    subst (λ (x : List ℕ). KeepsLetters field x) (sym (map_same is_ascii_alphabetic spelled letter_spelled (set_of field) all)) (record {
       letters = all;
       again = set_of-again field;
-      neat = record { shorter = set_of-shorter field; clean = each_weaker is_letter is_clean letter_clean (set_of field) all };
+      neat = record { shorter = set_of-shorter field; clean = each_weaker is_ascii_alphabetic is_clean letter_clean (set_of field) all };
       same = letters_empty field h;
     })

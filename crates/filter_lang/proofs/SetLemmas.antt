@@ -10,9 +10,9 @@ use Rattle.std.proofs.lemmas.Nat.Bits.{bit_at_set_same, bit_at_set_other}
 use Rattle.std.specs.Int.{w128}
 use Rattle.std.proofs.lemmas.List.{take_more, map-append}
 use Rattle.std.proofs.lemmas.List.Sums.{AllPass-from_list_all}
+use Rattle.std.specs.Char.{is_ascii_alphabetic}
 use Rattle.filter_lang.proofs.Tools.{map_same}
 use Rattle.aprs_base.proofs.CallLemmas.{each_weaker}
-use Rattle.aprs_base.specs.Bytes.{is_letter}
 use Rattle.filter_lang.specs.Names.{meant}
 use Rattle.filter_lang.specs.Grammar.{is_printing}
 use Rattle.filter_lang.specs.Sets.{has, is_set, members_of, set_of, mask_over, classes}
@@ -44,11 +44,11 @@ has_more text i k h = rw (take_more text i 0 h, map-append meant (take i text) (
 pub printing_meant : (text : List ℕ) (i : ℕ) → list_all is_printing text ≡ true → i < length text → meant (get_or text i 0) < 128
 printing_meant text i h lt = let printing = AllPass-from_list_all is_printing text h i 0 lt in grind (arith, nat_tests)
 
-pub letters_printing : (text : List ℕ) → list_all is_letter text ≡ true → list_all is_printing text ≡ true
-letters_printing text h = each_weaker is_letter is_printing (λ b e. grind (arith, nat_tests)) text h
+pub letters_printing : (text : List ℕ) → list_all is_ascii_alphabetic text ≡ true → list_all is_printing text ≡ true
+letters_printing text h = each_weaker is_ascii_alphabetic is_printing (λ b e. grind (arith, nat_tests)) text h
 
-pub letters_meant : (text : List ℕ) → list_all is_letter text ≡ true → map meant text ≡ text
-letters_meant text h = map_same is_letter meant (λ b e. grind (arith, nat_tests)) text h
+pub letters_meant : (text : List ℕ) → list_all is_ascii_alphabetic text ≡ true → map meant text ≡ text
+letters_meant text h = map_same is_ascii_alphabetic meant (λ b e. grind (arith, nat_tests)) text h
 
 pub mask_over_step : (i : ℕ) (letters : List ℕ) → i < 10 → mask_over (drop i classes) letters ≡ (if has letters (slice_index_or classes i (0, 0)).0 then (slice_index_or classes i (0, 0)).1 else 0) + mask_over (drop (i + 1) classes) letters
 mask_over_step i letters h = rw (drop-cons classes i (0, 0) h, add-one i) refl

@@ -5,9 +5,10 @@ use Rattle.std.specs.List.{list_all}
 use Rattle.std.proofs.lemmas.List.Folds.{list_all-append, list_all-map}
 use Rattle.std.proofs.lemmas.List.{map-id}
 use Rattle.aprs_base.proofs.CallLemmas.{each_weaker}
-use Rattle.aprs_base.specs.Bytes.{is_blank, is_inner, is_digit}
+use Rattle.aprs_base.specs.Bytes.{is_blank, is_inner}
 use Rattle.std.proofs.lemmas.Bool.{and_parts, not-true}
 use Rattle.std.proofs.lemmas.Bool.Decides.{nat_tests}
+use Rattle.std.specs.Char.{is_ascii_digit}
 use Rattle.filter_lang.specs.Parts.{is_slash}
 
 -- a test that refuses
@@ -40,7 +41,7 @@ module _ (p : ℕ → Bool) where
 pub clean_append : (xs ys : List ℕ) → list_all is_clean xs ≡ true → list_all is_clean ys ≡ true → list_all is_clean (xs ++ ys) ≡ true
 clean_append xs ys p q = rw (list_all-append is_clean xs ys, p, q) refl
 
-pub digit_clean : (b : ℕ) → is_digit b ≡ true → is_clean b ≡ true
+pub digit_clean : (b : ℕ) → is_ascii_digit b ≡ true → is_clean b ≡ true
 digit_clean b h = grind (arith, nat_tests)
 
 -- a canonical text is no longer than the text that it is for, and it has no blank, no line end and no slash

@@ -1,5 +1,6 @@
 -- The canonical text of a filter (aprs-is.net, Server-side Filter Commands).
 use Rattle.std.specs.Prelude.{ℕ, ℤ, ◌&&◌, Bool, List, [], ◌∷◌, ◌++◌, map, if◌then◌else◌}
+use Rattle.std.specs.Str.{byte}
 use Rattle.std.specs.Fmt.{decimal}
 use Rattle.filter_lang.specs.declared.terms.What.{What}
 use Rattle.filter_lang.specs.declared.terms.What.TheVariants as what
@@ -11,7 +12,7 @@ use Rattle.filter_lang.specs.Sets.{letters_of}
 
 -- a field after its slash
 abbrev pub field : List ℕ → List ℕ
-field text = 47 ∷ text
+field text = byte "/" ∷ text
 
 abbrev pub near_text : List ℕ → ℕ → List ℕ
 near_text call km = field call ++ field (decimal km)
@@ -33,28 +34,28 @@ abbrev pub classes_text : ℕ → List ℕ
 classes_text mask = field (letters_of mask)
 
 abbrev pub gates_text : Bool → List ℕ
-gates_text gates = if gates then field (73 ∷ []) else []
+gates_text gates = if gates then field (byte "I" ∷ []) else []
 
 abbrev pub point_text : ℤ → ℤ → List ℕ
 point_text lat lon = field (degrees_text lat) ++ field (degrees_text lon)
 
 -- the letter of a term
 abbrev pub kind_letter : What → ℕ
-kind_letter (what.Range lat lon km) = 114
-kind_letter (what.Prefix names) = 112
-kind_letter (what.Buddy names) = 98
-kind_letter (what.Object names) = 111
-kind_letter (what.Class mask) = 116
-kind_letter (what.ClassNear mask call km) = 116
-kind_letter (what.Symbol pri alt over) = 115
-kind_letter (what.Digi names) = 100
-kind_letter (what.Entry names) = 101
-kind_letter (what.Group names) = 103
-kind_letter (what.Dest names) = 117
-kind_letter (what.Friend call km) = 102
-kind_letter (what.Mine km) = 109
-kind_letter (what.Area north west south east) = 97
-kind_letter (what.Construct letters gates) = 113
+kind_letter (what.Range lat lon km) = byte "r"
+kind_letter (what.Prefix names) = byte "p"
+kind_letter (what.Buddy names) = byte "b"
+kind_letter (what.Object names) = byte "o"
+kind_letter (what.Class mask) = byte "t"
+kind_letter (what.ClassNear mask call km) = byte "t"
+kind_letter (what.Symbol pri alt over) = byte "s"
+kind_letter (what.Digi names) = byte "d"
+kind_letter (what.Entry names) = byte "e"
+kind_letter (what.Group names) = byte "g"
+kind_letter (what.Dest names) = byte "u"
+kind_letter (what.Friend call km) = byte "f"
+kind_letter (what.Mine km) = byte "m"
+kind_letter (what.Area north west south east) = byte "a"
+kind_letter (what.Construct letters gates) = byte "q"
 
 -- its fields, each after its slash
 abbrev pub what_fields : What → List ℕ
@@ -78,12 +79,12 @@ abbrev pub what_text : What → List ℕ
 what_text w = kind_letter w ∷ what_fields w
 
 unfoldable pub term_text : TermSeen → List ℕ
-term_text t = if t.exclude then 45 ∷ what_text t.what else what_text t.what
+term_text t = if t.exclude then byte "-" ∷ what_text t.what else what_text t.what
 
 -- each term after a blank
 abbrev pub more_text : List TermSeen → List ℕ
 more_text [] = []
-more_text (t ∷ terms) = (32 ∷ term_text t) ++ more_text terms
+more_text (t ∷ terms) = (byte " " ∷ term_text t) ++ more_text terms
 
 -- the terms in order, with one blank between
 unfoldable pub canonical : List TermSeen → List ℕ

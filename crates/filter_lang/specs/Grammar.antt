@@ -1,8 +1,10 @@
 -- The grammar of a filter text: which terms a text reads as, or its first fault (aprs-is.net, Server-side Filter
 -- Commands).
 use Rattle.std.specs.Prelude.{◌≡◌, ℕ, ◌==◌, ◌+◌, Bool, true, false, not, nat_le, nat_lt, ◌&&◌, ◌||◌, List, [], ◌∷◌, ◌++◌, length, map, count_by, drop, Option, Some, None, option_map, Result, Ok, Err, if◌then◌else◌}
+use Rattle.std.specs.Char.{is_ascii_alphabetic}
 use Rattle.std.specs.List.{list_all}
-use Rattle.aprs_base.specs.Bytes.{is_call, is_letter}
+use Rattle.std.specs.Str.{byte}
+use Rattle.aprs_base.specs.Bytes.{is_call}
 use Rattle.filter_lang.specs.declared.terms.What.{What}
 use Rattle.filter_lang.specs.declared.terms.What.TheVariants as what
 use Rattle.filter_lang.specs.declared.errors.FilterError.{FilterError}
@@ -66,7 +68,7 @@ class_of (letters ∷ fields) = mask_of letters >>= λ mask. class_near mask fie
 
 -- printing bytes, with the two that stand for others
 abbrev pub is_printing : ℕ → Bool
-is_printing b = nat_le 33 b && nat_le b 126
+is_printing b = nat_le (byte "!") b && nat_le b (byte "~")
 
 unfoldable pub symbols_of : List ℕ → Option (List ℕ)
 symbols_of field = if list_all is_printing field then Some (set_of (map meant field)) else None
@@ -85,10 +87,10 @@ symbol_of _ = None
 
 unfoldable pub construct_if : List ℕ → Bool → Option What
 construct_if letters gates =
-    if list_all is_letter letters && (gates || not (is_empty letters)) then Some (what.Construct (set_of letters) gates) else None
+    if list_all is_ascii_alphabetic letters && (gates || not (is_empty letters)) then Some (what.Construct (set_of letters) gates) else None
 
 abbrev pub is_gates : List ℕ → Bool
-is_gates (b ∷ []) = b == 73
+is_gates (b ∷ []) = b == byte "I"
 is_gates _ = false
 
 -- q/letters, q/letters/I
@@ -99,29 +101,29 @@ construct_of _ = None
 
 -- a letter without case
 abbrev pub lower : ℕ → ℕ
-lower b = if nat_le 65 b && nat_le b 90 then b + 32 else b
+lower b = if nat_le (byte "A") b && nat_le b (byte "Z") then b + 32 else b
 
 -- the terms of names
 unfoldable pub named_of : ℕ → List (List ℕ) → Option What
 named_of letter fields =
-    if letter == 112 then option_map (λ names. what.Prefix (map starless names)) (names_of fields)
-    else if letter == 98 then option_map what.Buddy (names_of fields)
-    else if letter == 111 then option_map what.Object (names_of fields)
-    else if letter == 100 then option_map what.Digi (names_of fields)
-    else if letter == 101 then option_map what.Entry (names_of fields)
-    else if letter == 103 then option_map what.Group (names_of fields)
-    else if letter == 117 then option_map what.Dest (names_of fields)
+    if letter == byte "p" then option_map (λ names. what.Prefix (map starless names)) (names_of fields)
+    else if letter == byte "b" then option_map what.Buddy (names_of fields)
+    else if letter == byte "o" then option_map what.Object (names_of fields)
+    else if letter == byte "d" then option_map what.Digi (names_of fields)
+    else if letter == byte "e" then option_map what.Entry (names_of fields)
+    else if letter == byte "g" then option_map what.Group (names_of fields)
+    else if letter == byte "u" then option_map what.Dest (names_of fields)
     else None
 
 unfoldable pub other_of : ℕ → List (List ℕ) → Option What
 other_of letter fields =
-    if letter == 114 then range_of fields
-    else if letter == 97 then area_of fields
-    else if letter == 102 then friend_of fields
-    else if letter == 109 then mine_of fields
-    else if letter == 116 then class_of fields
-    else if letter == 115 then symbol_of fields
-    else if letter == 113 then construct_of fields
+    if letter == byte "r" then range_of fields
+    else if letter == byte "a" then area_of fields
+    else if letter == byte "f" then friend_of fields
+    else if letter == byte "m" then mine_of fields
+    else if letter == byte "t" then class_of fields
+    else if letter == byte "s" then symbol_of fields
+    else if letter == byte "q" then construct_of fields
     else named_of letter fields
 
 abbrev pub what_of_fields : List (List ℕ) → Option What
@@ -130,7 +132,7 @@ what_of_fields _ = None
 
 -- one slash at the end is dropped
 unfoldable pub what_of : List ℕ → Option What
-what_of body = what_of_fields (fields_of (without_last 47 body))
+what_of body = what_of_fields (fields_of (without_last (byte "/") body))
 
 abbrev pub term_if : Bool → List ℕ → Option TermSeen
 term_if exclude body = option_map (λ w. record { exclude = exclude; what = w }) (what_of body)
@@ -141,9 +143,9 @@ term_of word = if has_minus word then term_if true (drop 1 word) else term_if fa
 
 -- the letter of a kind of which there may be only nine
 abbrev pub limited : What → Option ℕ
-limited (what.Range lat lon km) = Some 114
-limited (what.Friend call km) = Some 102
-limited (what.Area north west south east) = Some 97
+limited (what.Range lat lon km) = Some (byte "r")
+limited (what.Friend call km) = Some (byte "f")
+limited (what.Area north west south east) = Some (byte "a")
 limited _ = None
 
 abbrev pub is_letter_of : ℕ → Option ℕ → Bool
@@ -156,7 +158,7 @@ count_of letter terms = count_by (λ t. is_letter_of letter (limited t.what)) te
 
 -- the letter of what there would be too many with one more: a tenth of its kind, or a 65th of all
 abbrev pub excess_of_all : List TermSeen → Option ℕ
-excess_of_all terms = if nat_le 64 (length terms) then Some 42 else None
+excess_of_all terms = if nat_le 64 (length terms) then Some (byte "*") else None
 
 abbrev pub excess_by : List TermSeen → Option ℕ → Option ℕ
 excess_by terms None = excess_of_all terms

@@ -1,19 +1,20 @@
 -- Degrees and kilometres, as filters spell them (aprs-is.net, Server-side Filter Commands).
 use Rattle.std.specs.Prelude.{ℕ, ℤ, pos, ◌==◌, ◌+◌, ◌-◌, ◌*◌, ◌/◌, ◌%◌, Bool, not, nat_le, ◌&&◌, List, [], ◌∷◌, ◌++◌, length, drop, slice_index, Option, Some, None, option_map, if◌then◌else◌, unsigned_abs}
 use Rattle.std.specs.List.{list_all, before_first, after_first}
+use Rattle.std.specs.Str.{byte}
 use Rattle.std.specs.Str.Parse.{digits_value}
 use Rattle.std.specs.Fmt.{decimal}
 use Rattle.std.proofs.Math.IntN.{neg_ℤ}
-use Rattle.aprs_base.specs.Bytes.{is_digit}
+use Rattle.std.specs.Char.{is_ascii_digit}
 use Rattle.filter_lang.specs.Parts.{is_empty}
 use Rattle.aprs_base.specs.OptionSteps.{◌>>=◌}
 
 abbrev pub are_digits : List ℕ → Bool
-are_digits text = list_all is_digit text && not (is_empty text)
+are_digits text = list_all is_ascii_digit text && not (is_empty text)
 
 -- the digits before and after the dot; without a dot the second are none
 abbrev pub is_dot : ℕ → Bool
-is_dot b = b == 46
+is_dot b = b == byte "."
 
 abbrev pub digits_if : List ℕ → List ℕ → Option (List ℕ × List ℕ)
 digits_if whole more = if are_digits whole && are_digits more then Some (whole, more) else None
@@ -31,7 +32,7 @@ places = 100000 ∷ 10000 ∷ 1000 ∷ 100 ∷ 10 ∷ 1 ∷ []
 abbrev pub fraction_of : List ℕ → List ℕ → ℕ
 fraction_of [] digits = 0
 fraction_of (place ∷ more) [] = 0
-fraction_of (place ∷ more) (d ∷ digits) = (d - 48) * place + fraction_of more digits
+fraction_of (place ∷ more) (d ∷ digits) = (d - byte "0") * place + fraction_of more digits
 
 -- at most so many digits before the dot
 abbrev pub shorter : ℕ → List ℕ × List ℕ → Option (List ℕ × List ℕ)
@@ -51,7 +52,7 @@ abbrev pub size_of : ℕ → List ℕ → Option ℕ
 size_of limit text = millionths_of text >>= at_most limit
 
 abbrev pub has_minus : List ℕ → Bool
-has_minus text = slice_index text 0 == 45
+has_minus text = slice_index text 0 == byte "-"
 
 -- degrees, in millionths, within a limit
 unfoldable pub degrees_of : ℕ → List ℕ → Option ℤ
@@ -68,17 +69,17 @@ kilometres_of text = do
 -- the digits after the dot, up to the last that isn't 0
 abbrev pub fraction_text : List ℕ → ℕ → List ℕ
 fraction_text [] rest = []
-fraction_text (place ∷ more) rest = if rest == 0 then [] else (48 + rest / place) ∷ fraction_text more (rest % place)
+fraction_text (place ∷ more) rest = if rest == 0 then [] else (byte "0" + rest / place) ∷ fraction_text more (rest % place)
 
 unfoldable pub fraction_digits : ℕ → List ℕ
 fraction_digits rest = fraction_text places rest
 
 abbrev pub dotted_text : ℕ → List ℕ
-dotted_text rest = if rest == 0 then [] else 46 ∷ fraction_digits rest
+dotted_text rest = if rest == 0 then [] else byte "." ∷ fraction_digits rest
 
 unfoldable pub millionths_text : ℕ → List ℕ
 millionths_text n = decimal (n / 1000000) ++ dotted_text (n % 1000000)
 
 unfoldable pub degrees_text : ℤ → List ℕ
 degrees_text (pos n) = millionths_text n
-degrees_text z = 45 ∷ millionths_text (unsigned_abs z)
+degrees_text z = byte "-" ∷ millionths_text (unsigned_abs z)

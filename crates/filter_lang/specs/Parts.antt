@@ -1,6 +1,7 @@
 -- The words of a text and the fields of a term (aprs-is.net, Server-side Filter Commands).
 use Rattle.std.specs.Prelude.{ℕ, ◌==◌, ◌-◌, Bool, not, List, [], ◌∷◌, length, take, filter, slice_index, Option, Some, None, option_map, if◌then◌else◌}
 use Rattle.std.specs.List.{slice_split}
+use Rattle.std.specs.Str.{byte}
 use Rattle.aprs_base.specs.Bytes.{is_blank}
 use Rattle.aprs_base.specs.OptionSteps.{◌>>=◌}
 
@@ -20,7 +21,7 @@ words_from word words = if is_used word then word ∷ words else words
 
 -- the fields, parted by slashes
 abbrev pub is_slash : ℕ → Bool
-is_slash b = b == 47
+is_slash b = b == byte "/"
 
 abbrev pub fields_of : List ℕ → List (List ℕ)
 fields_of text = slice_split is_slash text

@@ -3,6 +3,7 @@
 use Rattle.std.specs.Prelude.{ℕ, ◌==◌, ◌+◌, ◌++◌, bit_and, ◌&&◌, not, length, Option, Some, None, Bool, List, [], ◌∷◌, filter, if◌then◌else◌}
 use Rattle.std.specs.Int.{bit_at}
 use Rattle.std.specs.List.{list_all, list_any, range_with_len}
+use Rattle.std.specs.Str.{byte}
 
 abbrev pub is_set : ℕ → ℕ → Bool
 is_set bits b = bit_at bits b == 1
@@ -20,7 +21,7 @@ set_of bytes = filter (has bytes) (range_with_len 0 128)
 
 -- the class letters, each with its bit in a mask (aprs-is.net, Server-side Filter Commands, t)
 abbrev pub classes : List (ℕ × ℕ)
-classes = (112, 1) ∷ (111, 2) ∷ (105, 4) ∷ (109, 8) ∷ (113, 16) ∷ (115, 32) ∷ (116, 64) ∷ (117, 128) ∷ (110, 256) ∷ (119, 512) ∷ []
+classes = (byte "p", 1) ∷ (byte "o", 2) ∷ (byte "i", 4) ∷ (byte "m", 8) ∷ (byte "q", 16) ∷ (byte "s", 32) ∷ (byte "t", 64) ∷ (byte "u", 128) ∷ (byte "n", 256) ∷ (byte "w", 512) ∷ []
 
 abbrev pub is_class : ℕ → Bool
 is_class letter = list_any (λ class. class.0 == letter) classes

@@ -1,8 +1,8 @@
 //! Degrees and kilometres, read and written.
 ghost use Rattle.std.specs.Prelude.{◌≡◌, ◌<◌, ◌≤◌, ◌^◌, ℕ, length, IsTrue, IfSome, option_map, unsigned_abs};
+ghost use Rattle.std.specs.Char.{is_ascii_digit};
 ghost use Rattle.std.specs.List.{list_all};
 ghost use Rattle.std.specs.Str.Parse.{digits_value};
-ghost use Rattle.aprs_base.specs.Bytes.{is_digit};
 ghost use Rattle.filter_lang.specs.Numbers.{are_digits, at_most, degrees_of, dotted_of, fraction_of, kilometres_of, millionths_of, places};
 
 use aprs_base::{all_digits, first_place};
@@ -21,7 +21,7 @@ fn is_number(text: &[u8]) -> bool
 #[tactic(auto, unfolding(crate::specs::Numbers::dotted_of))]
 fn dotted(text: &[u8]) -> Option<(&[u8], &[u8])>
     ensures value { option_map (λ x. (x.0.now, x.1.now)) result ≡ dotted_of text.now }
-    ensures digits { IfSome result (λ x. IsTrue (list_all is_digit x.0.now) × IsTrue (list_all is_digit x.1.now)) }
+    ensures digits { IfSome result (λ x. IsTrue (list_all is_ascii_digit x.0.now) × IsTrue (list_all is_ascii_digit x.1.now)) }
 {
     let place = first_place(b'.', text);
     if place == text.len() {
@@ -41,7 +41,7 @@ fn dotted(text: &[u8]) -> Option<(&[u8], &[u8])>
 
 /// The number of at most five digits.
 fn number(digits: &[u8]) -> u32
-    requires digits { IsTrue (list_all is_digit digits.now) }
+    requires digits { IsTrue (list_all is_ascii_digit digits.now) }
     requires short { length digits.now ≤ 5 }
     ensures value { result ≡ digits_value 10 digits.now }
     ensures bound { result < 10 ^ length digits.now }
@@ -55,7 +55,7 @@ fn number(digits: &[u8]) -> u32
 
 /// The digits after the dot, in millionths.
 fn fraction(digits: &[u8]) -> u32
-    requires { IsTrue (list_all is_digit digits.now) }
+    requires { IsTrue (list_all is_ascii_digit digits.now) }
     ensures value { result ≡ fraction_of places digits.now }
     ensures bound { result < 1000000 }
 {

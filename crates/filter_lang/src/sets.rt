@@ -1,7 +1,7 @@
 //! Sets of bytes and masks of classes, read and written.
 ghost use Rattle.std.specs.Prelude.{◌≡◌, ◌<◌, ◌≤◌, ◌↔◌, ◌==◌, ℕ, List, [], length, map, IsTrue, if◌then◌else◌};
+ghost use Rattle.std.specs.Char.{is_ascii_alphabetic};
 ghost use Rattle.std.specs.List.{list_all, list_any};
-ghost use Rattle.aprs_base.specs.Bytes.{is_letter};
 ghost use Rattle.filter_lang.specs.Parts.{is_empty};
 ghost use Rattle.filter_lang.specs.Names.{meant};
 ghost use Rattle.filter_lang.specs.Grammar.{is_printing, symbols_of};
@@ -89,14 +89,14 @@ pub fn symbols(field: &[u8]) -> Option<Marks>
 
 /// Whether all bytes are letters.
 pub fn all_letters(text: &[u8]) -> bool
-    ensures { result ≡ list_all is_letter text.now }
+    ensures { result ≡ list_all is_ascii_alphabetic text.now }
 {
     text.iter().all(|byte| byte.is_ascii_alphabetic())
 }
 
 /// A set of letters.
 pub fn letters(field: &[u8]) -> Marks
-    requires { IsTrue (list_all is_letter field.now) }
+    requires { IsTrue (list_all is_ascii_alphabetic field.now) }
     ensures { result ≡ set_of field.now }
 {
     marks(field)

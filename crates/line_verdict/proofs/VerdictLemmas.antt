@@ -7,6 +7,7 @@ use Rattle.std.specs.Fmt.{decimal}
 use Rattle.aprs_base.proofs.CallLemmas.{call_inner, call_short, each_weaker}
 use Rattle.filter_lang.proofs.NumberLaws.{decimal_is, decimal_short, digits_all}
 use Rattle.std.proofs.lemmas.Fmt.{decimal_is_IsNumeral, length-decimal-le}
+use Rattle.std.specs.Char.{is_ascii_digit}
 use Rattle.filter_lang.specs.Grammar.{terms_of}
 use Rattle.filter_lang.specs.Terms.{TermSeen}
 use Rattle.filter_lang.specs.declared.errors.FilterError.{FilterError}
@@ -25,7 +26,7 @@ use Rattle.comment_date.proofs.TextLemmas.{date_prints, is_printed}
 use Rattle.aprs_history.specs.Dates.{comment_text}
 use Rattle.aprs_history.specs.declared.verdicts.Session.{Session}
 use Rattle.aprs_history.specs.Texts.{login_by, login_reply, verified_word}
-use Rattle.aprs_base.specs.Bytes.{IsCall, is_digit, is_inner, is_station, IsInner, IsLine}
+use Rattle.aprs_base.specs.Bytes.{IsCall, is_inner, is_station, IsInner, IsLine}
 use Rattle.aprs_base.specs.declared.packets.Parts.{Parts}
 use Rattle.tnc2_line.specs.Packet.{parts_of, text_of}
 use Rattle.aprs_history.specs.Verdicts.{Carrier, Scene, Speaker, Visitor, answer_by, answer_of, carried_verdict, command_verdict, filter_command, login_answer, login_verdict, spoken_verdict, text_at, verdict_of, packet_verdict, read_and_routed, is_comment}
@@ -70,20 +71,20 @@ comment_is_line server moment h =
     rw (le-leb 1 (length (comment_text server moment)) some, le-leb (length (comment_text server moment)) 510 size) inner
 
 -- what is said of a term has no line end
-no_line_end : (b : ℕ) → is_digit b ≡ true → is_inner b ≡ true
+no_line_end : (b : ℕ) → is_ascii_digit b ≡ true → is_inner b ≡ true
 no_line_end b digit = grind (arith, nat_tests)
 
 pub term_words : (n : ℕ) → n < 2 ^ 16 → (IsInner (codes "term " ++ decimal n)) × (length (codes "term " ++ decimal n) ≤ 30)
 term_words n small =
     let short : length (decimal n) ≤ 5 = decimal_short n 5 (omega arith) (omega arith) (omega arith) in
     let digits = decimal_is n (omega arith) in
-    (rw list_all-append (rw (each_weaker is_digit is_inner no_line_end (decimal n) digits.digits) refl), omega (arith, length-append (codes "term ") (decimal n), short))
+    (rw list_all-append (rw (each_weaker is_ascii_digit is_inner no_line_end (decimal n) digits.digits) refl), omega (arith, length-append (codes "term ") (decimal n), short))
 
 -- the line by which the server logs in is one
 pub code_digits : (n : ℕ) → n < 2 ^ 32 → (IsInner (decimal n)) × (length (decimal n) ≤ 10)
 code_digits n small =
     let digits = decimal_is_IsNumeral n (omega arith) in
-    (each_weaker is_digit is_inner no_line_end (decimal n) (digits_all (decimal n) digits.0.1), length-decimal-le 10 n (omega arith) (omega arith) (omega arith))
+    (each_weaker is_ascii_digit is_inner no_line_end (decimal n) (digits_all (decimal n) digits.0.1), length-decimal-le 10 n (omega arith) (omega arith) (omega arith))
 
 pub login_is_line : (server digits : List ℕ) → IsCall server → IsInner digits → length digits ≤ 10 → IsLine (login_by server digits)
 login_is_line server digits h inner_digits short =

@@ -1,10 +1,11 @@
 -- Lines with their ends, one after another, and what is left of them where some bytes are taken.
 use Rattle.std.specs.Prelude.{ℕ, ◌+◌, ◌-◌, ◌<◌, ◌≤◌, nat_le, List, [], ◌∷◌, ◌++◌, length, if◌then◌else◌, ⊤}
 use Rattle.std.specs.List.{flat_map}
+use Rattle.std.specs.Str.{byte}
 
 -- a line with its CR and LF, and lines one after another
 abbrev pub ended_line : List ℕ → List ℕ
-ended_line line = line ++ 13 ∷ 10 ∷ []
+ended_line line = line ++ byte "\r" ∷ byte "\n" ∷ []
 
 abbrev pub text_bytes : List (List ℕ) → List ℕ
 text_bytes lines = flat_map ended_line lines

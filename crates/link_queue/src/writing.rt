@@ -1,5 +1,5 @@
 //! Lines with their ends, written one after another into a buffer.
-ghost use Rattle.std.specs.Prelude.{◌≡◌, ◌+◌, ◌-◌, ◌≤◌, ◌<◌, ◌++◌, [], ◌∷◌, length, take, drop, min};
+ghost use Rattle.std.specs.Prelude.{◌≡◌, ◌+◌, ◌-◌, ◌≤◌, ◌<◌, ◌++◌, codes, length, take, drop, min};
 ghost use Rattle.link_queue.specs.Lines.{ended_line};
 
 /// Writes `bytes` from `at` on, as many as fit, and says where they end.
@@ -31,7 +31,7 @@ fn put_whole(out: &mut [u8], at: usize, bytes: &[u8]) -> usize
 fn put_end(out: &mut [u8], at: usize) -> usize
     requires { at + 2 ≤ length out.old }
     ensures end { result ≡ at + 2 }
-    ensures bytes { take result out.new ≡ take at out.old ++ 13 ∷ 10 ∷ [] }
+    ensures bytes { take result out.new ≡ take at out.old ++ codes "\r\n" }
     ensures rest { drop result out.new ≡ drop result out.old }
 {
     out[at] = b'\r';

@@ -1,9 +1,10 @@
 -- The login line, on the list of its words (aprs-is.net, Connecting).
 use Rattle.std.specs.Prelude.{ℕ, ◌+◌, ◌-◌, ◌*◌, ◌==◌, ◌&&◌, Bool, false, if◌then◌else◌, nat_le, not, List, [], ◌∷◌, length, drop, map, codes, Option, Some, None, Result, Ok, Err}
 use Rattle.std.specs.List.{list_all, slice_split, prefix_len, suffix_len}
-use Rattle.std.specs.Char.{to_ascii_lowercase}
+use Rattle.std.specs.Char.{is_ascii_digit, to_ascii_lowercase}
+use Rattle.std.specs.Str.{byte}
 use Rattle.std.specs.Cmp.Lexicographic.{pointwise}
-use Rattle.aprs_base.specs.Bytes.{is_blank, is_digit, is_station}
+use Rattle.aprs_base.specs.Bytes.{is_blank, is_station}
 use Rattle.login_pass.specs.Passcode.{passcode_of}
 use Rattle.login_pass.specs.declared.login_line.Login.{Login}
 use Rattle.login_pass.specs.declared.login_line.LoginFault.{LoginFault}
@@ -44,10 +45,10 @@ is_keyword keyword text = pointwise ◌==◌ (map to_ascii_lowercase text) (map 
 -- the number that decimal digits spell
 abbrev pub number_from : ℕ → List ℕ → ℕ
 number_from before [] = before
-number_from before (digit ∷ digits) = number_from (before * 10 + (digit - 48)) digits
+number_from before (digit ∷ digits) = number_from (before * 10 + (digit - byte "0")) digits
 
 abbrev pub is_code_number : List ℕ → Bool
-is_code_number text = nat_le 1 (length text) && nat_le (length text) 5 && list_all is_digit text
+is_code_number text = nat_le 1 (length text) && nat_le (length text) 5 && list_all is_ascii_digit text
 
 -- a code: `-1`, which is none, or one to five digits
 abbrev pub code_of : List ℕ → Option (Option ℕ)

@@ -1,7 +1,8 @@
 //! The login line.
 ghost use Rattle.std.specs.Prelude.{◌≡◌, ℕ, ◌+◌, ◌≤◌, List, Some, None, length, drop, true, false, if◌then◌else◌, IfSome, IfNone};
+ghost use Rattle.std.specs.Char.{is_ascii_digit};
 ghost use Rattle.std.specs.List.{list_all};
-ghost use Rattle.aprs_base.specs.Bytes.{is_digit, is_station};
+ghost use Rattle.aprs_base.specs.Bytes.{is_station};
 ghost use Rattle.login_pass.specs.Login.{code_of, filter_in, is_code_number, is_verified, login_of, number_from, trimmed};
 ghost use Rattle.login_pass.specs.Words.{words_from};
 

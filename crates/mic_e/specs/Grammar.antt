@@ -1,6 +1,7 @@
 -- The form as a grammar: which destinations and bodies write which place, apart from how they are read
 -- (APRS Protocol Reference 1.0.1, Mic-E Data Format).
 use Rattle.std.specs.Prelude.{◌≡◌, ℕ, ◌+◌, ◌*◌, ◌<◌, ◌≤◌, ◌⊎◌, Bool, true, false, not, List, [], ◌∷◌, IsTrue, if◌then◌else◌}
+use Rattle.std.specs.Str.{byte}
 use Rattle.aprs_base.specs.Bytes.{base_of}
 use Rattle.aprs_base.specs.declared.packets.Place.{Place}
 use Rattle.aprs_position.specs.Places.{is_code, is_table}
@@ -8,20 +9,20 @@ use Rattle.aprs_position.specs.Plain.{angle}
 use Rattle.mic_e.specs.MicE.{signed}
 
 -- what a byte of the destination says: a digit, where a blank counts as 0; whether the byte is for the first three places alone; its bit
-pub data Says (byte digit : ℕ) (early set : Bool) : Type 0 where
-  figure : digit < 10 → byte ≡ digit + 48 → early ≡ false → set ≡ false → Says byte digit early set  -- 0 to 9
-  custom_letter : digit < 10 → byte ≡ digit + 65 → early ≡ true → set ≡ false → Says byte digit early set  -- A to J
-  standard_letter : digit < 10 → byte ≡ digit + 80 → early ≡ false → set ≡ true → Says byte digit early set  -- P to Y
-  custom_blank : byte ≡ 75 → digit ≡ 0 → early ≡ true → set ≡ false → Says byte digit early set  -- K
-  plain_blank : byte ≡ 76 → digit ≡ 0 → early ≡ false → set ≡ false → Says byte digit early set  -- L
-  standard_blank : byte ≡ 90 → digit ≡ 0 → early ≡ false → set ≡ true → Says byte digit early set  -- Z
+pub data Says (sent digit : ℕ) (early set : Bool) : Type 0 where
+  figure : digit < 10 → sent ≡ digit + byte "0" → early ≡ false → set ≡ false → Says sent digit early set
+  custom_letter : digit < 10 → sent ≡ digit + byte "A" → early ≡ true → set ≡ false → Says sent digit early set
+  standard_letter : digit < 10 → sent ≡ digit + byte "P" → early ≡ false → set ≡ true → Says sent digit early set
+  custom_blank : sent ≡ byte "K" → digit ≡ 0 → early ≡ true → set ≡ false → Says sent digit early set
+  plain_blank : sent ≡ byte "L" → digit ≡ 0 → early ≡ false → set ≡ false → Says sent digit early set
+  standard_blank : sent ≡ byte "Z" → digit ≡ 0 → early ≡ false → set ≡ true → Says sent digit early set
 
 -- at one of the first three places, and at one of the last three
-abbrev pub SaysEarly : (byte digit : ℕ) → Type 0
-SaysEarly byte digit = (early set : Bool) × Says byte digit early set
+abbrev pub SaysEarly : (sent digit : ℕ) → Type 0
+SaysEarly sent digit = (early set : Bool) × Says sent digit early set
 
-abbrev pub SaysLate : (byte digit : ℕ) → Bool → Type 0
-SaysLate byte digit set = Says byte digit false set
+abbrev pub SaysLate : (sent digit : ℕ) → Bool → Type 0
+SaysLate sent digit set = Says sent digit false set
 
 -- 180 to 189 stand for 100 to 109, and 190 to 199 for 0 to 9
 abbrev pub IsDegrees : (sent degrees : ℕ) → Type 0
@@ -67,7 +68,7 @@ pub record WritesMicE (base body : List ℕ) (place : Place) : Type 0 where
   pub u : ℕ
   pub rest : List ℕ
   pub body_is : body ≡ mark ∷ (x + 28) ∷ (y + 28) ∷ (z + 28) ∷ s ∷ t ∷ u ∷ place.code ∷ place.table ∷ rest
-  pub mark_is : (mark ≡ 96) ⊎ (mark ≡ 39)
+  pub mark_is : (mark ≡ byte "`") ⊎ (mark ≡ byte "'")
   pub sent : (x < 100) × (y < 100) × (z < 100)
   pub degrees_east : ℕ
   pub minutes_east : ℕ

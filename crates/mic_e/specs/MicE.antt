@@ -3,6 +3,7 @@ use Rattle.std.specs.Prelude.{ℕ, ◌+◌, ◌-◌, ◌*◌, ◌==◌, ◌&&◌
 use Rattle.std.specs.List.{list_all}
 use Rattle.std.specs.declared.option.Option.{Option}
 use Rattle.std.specs.Option.{option_map}
+use Rattle.std.specs.Str.{byte}
 use Rattle.aprs_base.specs.Bytes.{base_of}
 use Rattle.aprs_base.specs.declared.packets.Place.{Place}
 use Rattle.aprs_position.specs.Places.{is_code, is_table, place_at}
@@ -16,14 +17,14 @@ between low high b = nat_le low b && nat_le b high
 -- the digit that a byte of the destination stands for (Mic-E Destination Field Encoding); a blank counts as 0
 unfoldable pub digit_of : ℕ → Option ℕ
 digit_of b =
-    if between 48 57 b then Some (b - 48) else  -- 0 to 9
-    if between 65 74 b then Some (b - 65) else  -- A to J
-    if between 80 89 b then Some (b - 80) else  -- P to Y
-    if b == 75 || b == 76 || b == 90 then Some 0 else None  -- K, L and Z: a blank
+    if between (byte "0") (byte "9") b then Some (b - byte "0") else
+    if between (byte "A") (byte "J") b then Some (b - byte "A") else
+    if between (byte "P") (byte "Y") b then Some (b - byte "P") else
+    if b == byte "K" || b == byte "L" || b == byte "Z" then Some 0 else None  -- a blank
 
 -- A to K stand at the first three places alone
 abbrev pub is_custom : ℕ → Bool
-is_custom b = between 65 75 b
+is_custom b = between (byte "A") (byte "K") b
 
 -- the digit at one of the last three places
 unfoldable pub late_digit_of : ℕ → Option ℕ
@@ -31,7 +32,7 @@ late_digit_of b = if is_custom b then None else digit_of b
 
 -- P to Z set their place's bit
 abbrev pub is_set : ℕ → Bool
-is_set b = between 80 90 b
+is_set b = between (byte "P") (byte "Z") b
 
 -- north and east are positive
 abbrev pub signed : (positive : Bool) → ℕ → ℤ
@@ -66,7 +67,7 @@ from_greenwich more _ = None
 
 -- the first byte of such a body
 abbrev pub is_mark : ℕ → Bool
-is_mark b = b == 96 || b == 39
+is_mark b = b == byte "`" || b == byte "'"
 
 -- a bit of the base
 abbrev pub bit : List ℕ → ℕ → Bool

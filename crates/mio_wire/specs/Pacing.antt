@@ -1,14 +1,15 @@
 -- Line ends in a piece of a stream, and what was handed up since the last tick.
 use Rattle.std.specs.Prelude.{ℕ, ◌+◌, ◌-◌, ◌^◌, ◌==◌, ◌&&◌, ◌||◌, Bool, true, false, not, min, nat_le, List, [], ◌∷◌, length, if◌then◌else◌}
+use Rattle.std.specs.Str.{byte}
 use Rattle.mio_wire.specs.declared.pace.Pace.{Pace}
 
 abbrev pub begins_with_lf : List ℕ → Bool
 begins_with_lf [] = false
-begins_with_lf (b ∷ bs) = b == 10
+begins_with_lf (b ∷ bs) = b == byte "\n"
 
 -- the last byte of a line end: LF, or a CR before another byte
 abbrev pub ends_at : ℕ → List ℕ → Bool
-ends_at b after = b == 10 || (b == 13 && not (begins_with_lf after))
+ends_at b after = b == byte "\n" || (b == byte "\r" && not (begins_with_lf after))
 
 -- CR, LF, or CR and LF together
 abbrev pub line_ends : List ℕ → ℕ
@@ -17,7 +18,7 @@ line_ends (b ∷ bs) = (if ends_at b bs then 1 else 0) + line_ends bs
 
 -- the first byte of a line end: CR, or an LF that doesn't stand after one
 abbrev pub begins_end : ℕ → (after_cr : Bool) → Bool
-begins_end b after_cr = b == 13 || (b == 10 && not after_cr)
+begins_end b after_cr = b == byte "\r" || (b == byte "\n" && not after_cr)
 
 -- nothing was handed up or sent
 abbrev pub rested : Pace

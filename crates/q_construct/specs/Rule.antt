@@ -2,6 +2,7 @@
 use Rattle.std.specs.Prelude.{ℕ, ◌+◌, ◌-◌, ◌/◌, ◌%◌, ◌==◌, ◌&&◌, ◌||◌, Bool, true, false, if◌then◌else◌, nat_le, nat_lt, not, List, [], ◌∷◌, ◌++◌, length, take, drop, map, codes, Option, Some, None, Result, Ok, Err, slice_index}
 use Rattle.std.specs.List.{list_any, before_first, after_first, find}
 use Rattle.std.specs.Option.{option_map}
+use Rattle.std.specs.Str.{byte}
 use Rattle.std.specs.Cmp.Lexicographic.{pointwise}
 use Rattle.aprs_base.specs.Bytes.{is_station}
 use Rattle.aprs_base.specs.declared.texts.Addr.{Addr}
@@ -79,7 +80,7 @@ ends_in_gate_of call path = ends_in_gate path && same (gate_call path) call
 -- ---- the origin
 
 abbrev pub hex_digit : ℕ → ℕ
-hex_digit d = if nat_lt d 10 then 48 + d else 55 + d
+hex_digit d = if nat_lt d 10 then byte "0" + d else byte "A" - 10 + d
 
 abbrev pub hex_byte : ℕ → List ℕ
 hex_byte b = hex_digit (b / 16) ∷ hex_digit (b % 16) ∷ []
@@ -218,8 +219,8 @@ abbrev pub bars : Via → Bool
 bars via = same via.call (codes "NOGATE") || same via.call (codes "RFONLY") || same via.call (codes "TCPXX")
 
 abbrev pub begins_with : ℕ → List ℕ → Bool
-begins_with byte [] = false
-begins_with byte (b ∷ body) = b == byte
+begins_with first [] = false
+begins_with first (b ∷ body) = b == first
 
 -- the first name that equals one before it
 abbrev pub first_twice : List (List ℕ) → List (List ℕ) → Option (List ℕ)
@@ -239,8 +240,8 @@ unfoldable pub given_drops : PartsSeen → Origin → List ℕ → List Via → 
 given_drops parts origin server given =
     when (is_unverified origin && not (same parts.source (name_of origin))) drop_for.Unverified
     ∷ when (is_submission origin && list_any bars (before given)) drop_for.NoGate
-    ∷ when (is_submission origin && begins_with 125 parts.body) drop_for.ThirdParty
-    ∷ when (is_submission origin && begins_with 63 parts.body) drop_for.Query
+    ∷ when (is_submission origin && begins_with (byte "}") parts.body) drop_for.ThirdParty
+    ∷ when (is_submission origin && begins_with (byte "?") parts.body) drop_for.Query
     ∷ when (same (construct_of given) (codes "qAZ")) drop_for.QAZ
     ∷ when (among server (names_after given)) drop_for.NamesServer
     ∷ []

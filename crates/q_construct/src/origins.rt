@@ -1,6 +1,7 @@
 //! Where lines come from.
 ghost use Rattle.std.specs.Prelude.{◌≡◌, ℕ, ◌<◌, ◌≤◌, ◌&&◌, ◌∷◌, ◌++◌, List, length, true, not};
-ghost use Rattle.aprs_base.specs.Bytes.{is_alphanumeric, is_station};
+ghost use Rattle.std.specs.Char.{is_ascii_alphanumeric};
+ghost use Rattle.aprs_base.specs.Bytes.{is_station};
 ghost use Rattle.q_construct.specs.Rule.{has_station, hex_byte, hex_digit, hex_of, is_client, is_own, is_submission, is_unverified, name_of, same};
 
 use aprs_base::{Addr, Call, copy_call};
@@ -28,7 +29,7 @@ pub enum Origin {
 fn hex_digit(digit: u8) -> u8
     requires { digit < 16 }
     ensures value { result ≡ hex_digit digit }
-    ensures letter { is_alphanumeric result ≡ true }
+    ensures letter { is_ascii_alphanumeric result ≡ true }
 {
     if digit < 10 {
         b'0' + digit

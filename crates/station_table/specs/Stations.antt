@@ -1,5 +1,6 @@
 -- Where stations were last seen, and which are gates (aprs-is.net, Server-side Filter Commands).
 use Rattle.std.specs.Prelude.{ℕ, ◌==◌, ◌||◌, Bool, List, [], filter, Option, Some, None, option_map, if◌then◌else◌}
+use Rattle.std.specs.Str.{byte}
 use Rattle.std.specs.Map.{lookup}
 use Rattle.std.specs.declared.random_state.RandomState.{RandomState}
 use Rattle.indexmap.specs.IndexMap.{insert_entry}
@@ -36,7 +37,7 @@ seen_in packet = if has_class packet.body.class position_bit then option_map (se
 
 -- the letters of qAr, qAR and qAo
 abbrev pub is_gate_letter : ℕ → Bool
-is_gate_letter letter = letter == 114 || letter == 82 || letter == 111
+is_gate_letter letter = letter == byte "r" || letter == byte "R" || letter == byte "o"
 
 -- the call right after such a construct
 abbrev pub gate_in : PartsSeen → Option (List ℕ)

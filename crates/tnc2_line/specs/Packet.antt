@@ -2,6 +2,7 @@
 use Rattle.std.specs.Prelude.{ℕ, ◌+◌, ◌==◌, ◌&&◌, ◌||◌, ◌≡◌, Bool, if◌then◌else◌, nat_le, nat_lt, not, List, [], ◌∷◌, ◌++◌, length, IsTrue, Option, Some, None, Result, Ok, Err, count_by, position}
 use Rattle.std.specs.List.{list_all, list_any, before_first, after_first, slice_split, flat_map}
 use Rattle.std.specs.Option.{ok_or, option_and_then}
+use Rattle.std.specs.Str.{byte}
 use Rattle.aprs_base.specs.Bytes.{is_call, is_construct, is_inner}
 use Rattle.aprs_base.specs.declared.packets.Via.{Via}
 use Rattle.aprs_base.specs.PartsSeen.{PartsSeen}
@@ -10,30 +11,30 @@ use Rattle.tnc2_line.specs.declared.reading.LineFault.{LineFault}
 use Rattle.tnc2_line.specs.declared.reading.LineFault.TheVariants as fault
 
 abbrev pub is_colon : ℕ → Bool
-is_colon b = b == 58
+is_colon b = b == byte ":"
 
 abbrev pub is_arrow : ℕ → Bool
-is_arrow b = b == 62
+is_arrow b = b == byte ">"
 
 abbrev pub is_comma : ℕ → Bool
-is_comma b = b == 44
+is_comma b = b == byte ","
 
 abbrev pub is_star : ℕ → Bool
-is_star b = b == 42
+is_star b = b == byte "*"
 
 -- ---- the texts of parts (aprs-is.net, Connecting)
 
 -- an element: its call, and perhaps `*`
 abbrev pub via_text : Via → List ℕ
-via_text via = via.call ++ (if via.star then 42 ∷ [] else [])
+via_text via = via.call ++ (if via.star then byte "*" ∷ [] else [])
 
 -- an element with the comma before it
 abbrev pub with_comma : Via → List ℕ
-with_comma via = 44 ∷ via_text via
+with_comma via = byte "," ∷ via_text via
 
 -- source, `>`, destination, the elements, `:`, body
 unfoldable pub text_of : PartsSeen → List ℕ
-text_of parts = parts.source ++ (62 ∷ (parts.dest ++ (flat_map with_comma parts.vias ++ (58 ∷ parts.body))))
+text_of parts = parts.source ++ (byte ">" ∷ (parts.dest ++ (flat_map with_comma parts.vias ++ (byte ":" ∷ parts.body))))
 
 -- an element whose call is a construct (aprs-is.net, q Construct)
 abbrev pub names_construct : Via → Bool
