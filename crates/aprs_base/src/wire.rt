@@ -179,20 +179,6 @@ impl MemWire {
         })
     }
 
-    /// Adds an event, which comes after those that are left. The room of those that came is used again.
-    pub fn give(&mut self, event: Event) -> Result<(), Memory>
-        requires { IsTrue (are_numbered self.old.links (self.old.left ++ event ∷ [])) }
-        ensures ok { OnOk result (self.new ≡ record self.old { left = self.old.left ++ event ∷ [] }) }
-        ensures err { OnErr result (self.new ≡ self.old) }
-    {
-        if self.at >= self.events.len() {
-            self.events.clear();
-            self.at = 0;
-        }
-        self.events.push(event)?;
-        Ok(())
-    }
-
     /// Tells an event that comes from elsewhere as if it were the next of the list, where none is left. The caller has it already.
     pub fn note(&mut self, event: &Event) -> Result<(), Memory>
         requires none { self.old.left ≡ [] }

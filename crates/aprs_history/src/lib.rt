@@ -7,5 +7,5 @@ mod verdicts;
 pub use laws::{messages_follow_the_rule, runs_keep_the_promise, servers_get_submissions};
 pub use verdicts::{
     Admission, EndReason, FilterAnswer, FilterFault, LinkKind, Refusal, Session, Verdict,
-    copy_session,
+
 };

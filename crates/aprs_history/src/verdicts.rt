@@ -111,10 +111,3 @@ pub enum Verdict {
     /// A packet, its parts and its line as they are sent on.
     Accepted(Parts, Line),
 }
-
-/// A copy of a session, which takes no memory.
-pub fn copy_session(session: &Session) -> Session
-    ensures { result ≡ session.now }
-{
-    session.clone().unwrap()
-}

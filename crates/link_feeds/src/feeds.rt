@@ -86,13 +86,6 @@ impl Feeds {
         self.states.len()
     }
 
-    /// Whether all that came is matched.
-    pub fn is_settled(&self) -> bool
-        ensures { result ≡ self.now.settled }
-    {
-        self.items.is_empty()
-    }
-
     /// How many things came that aren't matched yet.
     pub fn waiting(&self) -> usize
         ensures { (result == 0) ≡ self.now.settled }

@@ -10,6 +10,8 @@ ghost use Rattle.line_verdict.specs.Voices.{HasStation, voice_of};
 ghost use Rattle.served_links.specs.Fed.{AllMatch, offer_of, shows_kept};
 ghost use Rattle.served_links.specs.Links.{Rises, client_at, clients_in, filters_at, has_number, has_that, held_at, is_late_link, is_lost, is_none_of, numbers, speaker_at, submitted_from};
 ghost use Rattle.served_links.specs.Changes.{at_link, is_asked_at, when_gone, with_bytes, with_room};
+ghost use Rattle.uplinks_peers.specs.Sides.{is_passed_on};
+ghost use Rattle.uplinks_peers.specs.declared.sides.Side.TheVariants as side;
 ghost use Rattle.worker_match.specs.Items.{item_seen};
 ghost use Rattle.worker_match.specs.Seen.{Came};
 ghost use Rattle.worker_match.specs.Seen as worker;
@@ -20,6 +22,7 @@ use crate::messages::is_message;
 use aprs_base::{Cut, Cutter, Memory, Packet, Shared, Source};
 use line_verdict::Voice;
 use std::alloc::Global;
+use uplinks_peers::{Side, goes_to};
 use worker_match::Item;
 
 /// Where the link of that number stands.
@@ -212,16 +215,36 @@ pub(crate) fn is_client_at(links: &[Link], number: u32) -> bool
     }
 }
 
-/// Whether what comes from there was submitted here.
+/// The side at the other end of that link.
+fn side_at(links: &[Link], number: u32) -> Side
+    requires { Rises 0 (numbers links.now) (2 ^ 32) }
+    ensures { is_passed_on result side.Peer ≡ client_at number links.now }
+{
+    if is_client_at(links, number) {
+        Side::Client
+    } else {
+        Side::Uplink
+    }
+}
+
+/// The side that sends what comes from there. A link that is no client is an uplink.
+fn side_of(links: &[Link], from: &Source) -> Side
+    requires { Rises 0 (numbers links.now) (2 ^ 32) }
+    ensures { is_passed_on result side.Peer ≡ submitted_from from.now links.now }
+{
+    match from {
+        Source::Link(number) => side_at(links, *number),
+        Source::Submit(_) => Side::Client,
+        Source::Peer(_) => Side::Peer,
+    }
+}
+
+/// Whether what comes from there was submitted here: that alone goes on to peers and uplinks.
 pub(crate) fn is_submitted(links: &[Link], from: &Source) -> bool
     requires { Rises 0 (numbers links.now) (2 ^ 32) }
     ensures { result ≡ submitted_from from.now links.now }
 {
-    match from {
-        Source::Link(number) => is_client_at(links, *number),
-        Source::Submit(_) => true,
-        Source::Peer(_) => false,
-    }
+    goes_to(side_of(links, from), Side::Peer)
 }
 
 /// How many clients there are.
