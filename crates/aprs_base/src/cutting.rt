@@ -12,7 +12,7 @@ use std::alloc::Global;
 use std::marker::Model;
 
 /// A line that is cut off, or that one of more than 510 bytes was.
-#[derive(Clone, PartialEq, Eq, Debug, Drop)]
+#[derive(Clone, PartialEq, Eq, Drop)]
 pub enum Cut {
     Line(Line),
     Long,
@@ -20,7 +20,7 @@ pub enum Cut {
 
 /// What is kept between two pieces of a link's bytes: at most 510 bytes of the line that is not ended yet,
 /// or only that it is longer.
-#[derive(Clone, PartialEq, Eq, Debug, Drop)]
+#[derive(Clone, PartialEq, Eq, Drop)]
 pub struct Cutter {
     text: ArrayVec<u8, 510>,
     long: bool,

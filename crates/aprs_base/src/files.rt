@@ -50,7 +50,7 @@ pub trait Files {
 }
 
 /// A file in memory.
-#[derive(Debug, Drop)]
+#[derive(Drop)]
 pub struct MemFile {
     pub name: Text,
     pub bytes: Text,

@@ -12,7 +12,7 @@ use std::alloc::Global;
 use std::marker::Model;
 
 /// What a line of a journal is about.
-#[derive(Clone, Copy, PartialEq, Eq, Debug)]
+#[derive(Clone, Copy, PartialEq, Eq)]
 pub enum Kind {
     /// A line, login, filter or datagram was refused.
     Refusal,
@@ -23,7 +23,7 @@ pub enum Kind {
 }
 
 /// A line for the journals.
-#[derive(Clone, PartialEq, Eq, Debug, Drop)]
+#[derive(Clone, PartialEq, Eq, Drop)]
 pub struct JournalLine {
     pub kind: Kind,
     /// In seconds since 1970.

@@ -8,7 +8,7 @@ use std::sync::Arc;
 
 /// A place on the globe, with the symbol that stands there: millionths of a degree, north and east positive,
 /// the latitude within 90 degrees and the longitude within 180.
-#[derive(Clone, Copy, PartialEq, Eq, Debug)]
+#[derive(Clone, Copy, PartialEq, Eq)]
 pub struct Place {
     pub lat: i32,
     pub lon: i32,
@@ -25,14 +25,14 @@ pub struct Place {
 }
 
 /// One element of a path: a call, and whether `*` follows it.
-#[derive(Clone, Default, PartialEq, Eq, Hash, Debug, Drop)]
+#[derive(Clone, Default, PartialEq, Eq, Hash, Drop)]
 pub struct Via {
     pub call: Call,
     pub star: bool,
 }
 
 /// A packet's parts: `source>dest`, then for each element of the path a comma and the element, then `:` and the body.
-#[derive(Clone, PartialEq, Eq, Debug, Drop)]
+#[derive(Clone, PartialEq, Eq, Drop)]
 pub struct Parts {
     pub source: Call,
     pub dest: Call,
@@ -66,7 +66,7 @@ impl Parts {
 }
 
 /// What a body is: the bits of its class, and what it names.
-#[derive(Clone, PartialEq, Eq, Debug, Drop)]
+#[derive(Clone, PartialEq, Eq, Drop)]
 pub struct Body {
     pub class: u16,
     pub place: Option<Place>,
@@ -79,7 +79,7 @@ pub struct Body {
 }
 
 /// Where a packet came from: a link by its number, a submission by its listener, or a peer.
-#[derive(Clone, Copy, PartialEq, Eq, Debug)]
+#[derive(Clone, Copy, PartialEq, Eq)]
 pub enum Source {
     Link(u32),
     Submit(u16),
@@ -121,14 +121,14 @@ pub enum PortKind {
 }
 
 /// A listener: what it serves, and where.
-#[derive(Clone, Copy, PartialEq, Eq, Debug)]
+#[derive(Clone, Copy, PartialEq, Eq)]
 pub struct ListenSpec {
     pub kind: PortKind,
     pub at: Addr,
 }
 
 /// A server to dial: its name or address, and its port.
-#[derive(Clone, PartialEq, Eq, Debug, Drop)]
+#[derive(Clone, PartialEq, Eq, Drop)]
 pub struct UplinkSpec {
     pub host: ArrayVec<u8, 64>,
     pub port: u16,

@@ -12,7 +12,7 @@ use std::hash::{Hash, Hasher};
 use std::marker::Model;
 
 /// Memory was wanting.
-#[derive(Clone, Copy, PartialEq, Eq, Debug)]
+#[derive(Clone, Copy, PartialEq, Eq)]
 pub struct Memory;
 
 impl From<AllocError> for Memory {
@@ -28,12 +28,12 @@ impl<T: Drop> From<AllocFailed<T>> for Memory {
 }
 
 /// Something outside the program failed.
-#[derive(Clone, Copy, PartialEq, Eq, Debug)]
+#[derive(Clone, Copy, PartialEq, Eq)]
 pub struct Failed;
 
 /// The name of a station: 1 to 9 letters and digits, perhaps `-` and one or two more, at most 9 bytes in all
 /// (aprs-is.net, Connecting).
-#[derive(Clone, Debug, Drop)]
+#[derive(Clone, Drop)]
 pub struct Call {
     text: [u8; 9],
     /// How many of these bytes are its own.
@@ -248,7 +248,7 @@ pub fn copy_call(call: &Call) -> Call
 }
 
 /// A text of 0 to 9 bytes, as a name or the receiver of a message.
-#[derive(Clone, PartialEq, Eq, Hash, Debug, Drop)]
+#[derive(Clone, PartialEq, Eq, Hash, Drop)]
 pub struct Word9 {
     pub text: ArrayVec<u8, 9>,
 }
@@ -285,7 +285,7 @@ impl Word9 {
 }
 
 /// A line without its end: 1 to 510 bytes, none of them CR or LF.
-#[derive(Clone, PartialEq, Eq, Debug, Drop)]
+#[derive(Clone, PartialEq, Eq, Drop)]
 pub struct Line {
     pub text: ArrayVec<u8, 510>,
 }
@@ -332,7 +332,7 @@ impl Line {
 }
 
 /// A piece of what a link or a datagram brought: 0 to 1,460 bytes.
-#[derive(Clone, PartialEq, Eq, Debug, Drop)]
+#[derive(Clone, PartialEq, Eq, Drop)]
 pub struct Chunk {
     pub text: ArrayVec<u8, 1460>,
 }
@@ -379,7 +379,7 @@ pub(crate) fn copy_chunk(chunk: &Chunk) -> Chunk
 }
 
 /// A text of any length.
-#[derive(Debug, Drop)]
+#[derive(Drop)]
 pub struct Text {
     pub bytes: Vec<u8>,
 }
@@ -439,7 +439,7 @@ impl Eq for Text {
 }
 
 /// An IPv4 address and a port.
-#[derive(Clone, Copy, PartialEq, Eq, Debug)]
+#[derive(Clone, Copy, PartialEq, Eq)]
 pub struct Addr {
     pub ip: [u8; 4],
     pub port: u16,

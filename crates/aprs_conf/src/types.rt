@@ -3,7 +3,7 @@ use aprs_base::{Addr, Call, ListenSpec, Text, UplinkSpec};
 use std::marker::Model;
 
 /// A listener: its name, what it serves and where. An idle one is read, and has no number.
-#[derive(Debug, Drop)]
+#[derive(Drop)]
 pub struct Listen {
     pub name: Text,
     pub spec: ListenSpec,
@@ -11,14 +11,14 @@ pub struct Listen {
 }
 
 /// Another server of the group: its call, and where it takes datagrams.
-#[derive(Clone, PartialEq, Eq, Debug, Drop)]
+#[derive(Clone, PartialEq, Eq, Drop)]
 pub struct PeerSpec {
     pub call: Call,
     pub at: Addr,
 }
 
 /// The configuration of a server.
-#[derive(Debug, Drop)]
+#[derive(Drop)]
 pub struct Conf {
     pub server: Call,
     /// The server's passcode, 0 to 99,999.

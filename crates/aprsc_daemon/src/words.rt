@@ -22,7 +22,7 @@ pub enum Task {
 }
 
 /// What the words ask of the server.
-#[derive(Debug, Drop)]
+#[derive(Drop)]
 pub struct ServerWords<'a> {
     /// The name of the file that holds the configuration.
     pub file: &'a str,
@@ -40,7 +40,7 @@ impl<'a> Model for ServerWords<'a> {
 }
 
 /// What the words ask of a drill.
-#[derive(Clone, Copy, PartialEq, Eq, Debug)]
+#[derive(Clone, Copy, PartialEq, Eq)]
 pub struct DrillWords {
     pub plan: Plan,
     /// The most workers, from 1 to 64.
@@ -48,14 +48,14 @@ pub struct DrillWords {
 }
 
 /// What the words ask for.
-#[derive(Debug, Drop)]
+#[derive(Drop)]
 pub enum Words<'a> {
     Server(ServerWords<'a>),
     Drill(DrillWords),
 }
 
 /// Why the words ask for nothing.
-#[derive(Clone, Copy, PartialEq, Eq, Debug)]
+#[derive(Clone, Copy, PartialEq, Eq)]
 pub enum WordsError {
     /// They are no words of the program.
     Refused,

@@ -16,7 +16,7 @@ const BEGIN: u64 = 1_000_000;
 const LINES_A_SECOND: u32 = 100;
 
 /// Which drill.
-#[derive(Clone, Copy, PartialEq, Eq, Debug)]
+#[derive(Clone, Copy, PartialEq, Eq)]
 pub struct Plan {
     /// Where its states begin.
     pub seed: u32,

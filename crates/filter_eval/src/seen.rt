@@ -10,7 +10,7 @@ use std::marker::Model;
 pub const POSITION_AGE: u64 = 172_800;
 
 /// Where a station was last seen, and when, in seconds.
-#[derive(Clone, Copy, PartialEq, Eq, Debug)]
+#[derive(Clone, Copy, PartialEq, Eq)]
 pub struct Seen {
     pub place: Place,
     pub moment: u64,
@@ -34,7 +34,7 @@ impl Seen {
 
 /// For each term of a filter, where the call that it names was last seen: None for a term that names none, and for a call
 /// that wasn't seen.
-#[derive(Debug, Drop)]
+#[derive(Drop)]
 pub struct Friends {
     pub at: ArrayVec<Option<Seen>, 64>,
 }

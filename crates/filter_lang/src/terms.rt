@@ -6,7 +6,7 @@ use arrayvec::ArrayVec;
 use std::marker::Model;
 
 /// A name of 0 to 9 bytes. A wild one matches whatever begins with it.
-#[derive(Clone, PartialEq, Eq, Debug, Drop)]
+#[derive(Clone, PartialEq, Eq, Drop)]
 pub struct Name {
     pub text: ArrayVec<u8, 9>,
     pub wild: bool,
@@ -23,7 +23,7 @@ impl Model for Name {
 }
 
 /// One or more names.
-#[derive(Debug, Drop)]
+#[derive(Drop)]
 pub struct Names {
     pub list: Vec<Name>,
 }
@@ -38,7 +38,7 @@ impl Model for Names {
 }
 
 /// A set of bytes below 128, one bit for each.
-#[derive(Debug, Drop)]
+#[derive(Drop)]
 pub struct Marks {
     pub bits: u128,
 }
@@ -53,7 +53,7 @@ impl Model for Marks {
 }
 
 /// What a term asks of a packet. Degrees are in millionths, north and east positive.
-#[derive(Debug, Drop)]
+#[derive(Drop)]
 pub enum What {
     /// A place within so many kilometres of a point.
     Range {
@@ -116,7 +116,7 @@ pub enum What {
 
 /// One term, which passes packets or excludes them. Its numbers are in range: latitudes within 90 degrees,
 /// longitudes within 180, and at most 99,999 km.
-#[derive(Debug, Drop)]
+#[derive(Drop)]
 pub struct Term {
     pub exclude: bool,
     pub what: What,
@@ -134,7 +134,7 @@ impl Model for Term {
 }
 
 /// A filter.
-#[derive(Debug, Drop)]
+#[derive(Drop)]
 pub struct FilterSet {
     pub terms: Vec<Term>,
 }

@@ -2,7 +2,7 @@
 use q_construct::Origin;
 
 /// Who speaks on a link or in a datagram.
-#[derive(Debug, Drop)]
+#[derive(Drop)]
 pub enum Voice {
     /// A client that hasn't logged in, on a port with filters or without.
     Nameless { filters: bool },

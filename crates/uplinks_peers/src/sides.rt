@@ -4,7 +4,7 @@ ghost use Rattle.uplinks_peers.specs.Sides.{is_passed_on};
 ghost use Rattle.uplinks_peers.specs.declared.sides.Side.TheVariants as side;
 
 /// Who sends or gets a line. What is submitted by UDP comes from a client.
-#[derive(Clone, Copy, PartialEq, Eq, Debug)]
+#[derive(Clone, Copy, PartialEq, Eq)]
 pub enum Side {
     Client,
     Uplink,

@@ -10,7 +10,7 @@ use std::marker::Model;
 const PAUSE: u64 = 10;
 
 /// What happens to uplinks and to links.
-#[derive(Clone, Copy, PartialEq, Eq, Debug)]
+#[derive(Clone, Copy, PartialEq, Eq)]
 pub enum UpEvent {
     /// A second has passed.
     Tick,
@@ -25,7 +25,7 @@ pub enum UpEvent {
 }
 
 /// What is to be done after an event.
-#[derive(Clone, Copy, Default, PartialEq, Eq, Debug)]
+#[derive(Clone, Copy, Default, PartialEq, Eq)]
 pub struct UpActs {
     /// The uplink to dial.
     pub dial: Option<u16>,
@@ -36,7 +36,7 @@ pub struct UpActs {
 }
 
 /// How far the last try is.
-#[derive(Clone, Copy, PartialEq, Eq, Debug)]
+#[derive(Clone, Copy, PartialEq, Eq)]
 enum Attempt {
     Idle,
     Dialled(u16),
