@@ -8,7 +8,7 @@ use std::alloc::{AllocError, AllocFailed, Global};
 use std::marker::Model;
 
 /// What comes from the outside.
-#[derive(Clone, PartialEq, Eq, Drop)]
+#[derive(Clone, Drop)]
 pub enum Event {
     /// A moment, in seconds since 1970.
     Tick(u64),
@@ -74,7 +74,7 @@ impl From<Memory> for WireError {
 }
 
 /// An event without the bytes that it brings.
-#[derive(Clone, Copy, PartialEq, Eq)]
+#[derive(Clone, Copy)]
 enum Head {
     Tick(u64),
     Opened {
@@ -99,7 +99,7 @@ enum Head {
 }
 
 /// An event that came, which takes no more room than its bytes need.
-#[derive(PartialEq, Eq, Drop)]
+#[derive(Drop)]
 pub struct Came {
     head: Head,
     bytes: Text,
@@ -175,7 +175,7 @@ impl Came {
 }
 
 /// One thing that happened on a wire: what came, and what was done.
-#[derive(PartialEq, Eq, Drop)]
+#[derive(Drop)]
 pub enum Happening {
     Listen(u16),
     Event(Came),

@@ -8,7 +8,7 @@ use std::sync::Arc;
 
 /// A place on the globe, with the symbol that stands there: millionths of a degree, north and east positive,
 /// the latitude within 90 degrees and the longitude within 180.
-#[derive(Clone, Copy, PartialEq, Eq)]
+#[derive(Clone, Copy)]
 pub struct Place {
     pub lat: i32,
     pub lon: i32,
@@ -32,7 +32,7 @@ pub struct Via {
 }
 
 /// A packet's parts: `source>dest`, then for each element of the path a comma and the element, then `:` and the body.
-#[derive(Clone, PartialEq, Eq, Drop)]
+#[derive(Clone, Drop)]
 pub struct Parts {
     pub source: Call,
     pub dest: Call,
@@ -66,7 +66,7 @@ impl Parts {
 }
 
 /// What a body is: the bits of its class, and what it names.
-#[derive(Clone, PartialEq, Eq, Drop)]
+#[derive(Clone, Drop)]
 pub struct Body {
     pub class: u16,
     pub place: Option<Place>,
@@ -121,7 +121,7 @@ pub enum PortKind {
 }
 
 /// A listener: what it serves, and where.
-#[derive(Clone, Copy, PartialEq, Eq)]
+#[derive(Clone, Copy)]
 pub struct ListenSpec {
     pub kind: PortKind,
     pub at: Addr,

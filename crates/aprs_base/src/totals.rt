@@ -1,7 +1,7 @@
 //! What a server has counted.
 
 /// Counts since the server's start, each at most the greatest u64.
-#[derive(Clone, Copy, PartialEq, Eq)]
+#[derive(Clone, Copy)]
 pub struct Totals {
     /// Packets accepted.
     pub accepted: u64,

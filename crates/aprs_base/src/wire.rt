@@ -40,7 +40,7 @@ pub trait Wire {
 }
 
 /// What a wire in memory does with one offer of bytes.
-#[derive(Clone, Copy, PartialEq, Eq)]
+#[derive(Clone, Copy)]
 pub enum Take {
     All,
     /// At most so many bytes.
@@ -49,7 +49,7 @@ pub enum Take {
 }
 
 /// The links that events bring aren't numbered in order from 1.
-#[derive(Clone, Copy, PartialEq, Eq)]
+#[derive(Clone, Copy)]
 pub struct WrongNumbers;
 
 /// A wire in memory, which gives listed events and tells all that happened.

@@ -8,14 +8,14 @@ use q_construct::QDrop;
 use tnc2_line::LineFault;
 
 /// Who a link has logged in as.
-#[derive(Clone, PartialEq, Eq, Drop)]
+#[derive(Clone, Drop)]
 pub struct Session {
     pub call: Call,
     pub verified: bool,
 }
 
 /// What a link is to the server.
-#[derive(Clone, Copy, PartialEq, Eq)]
+#[derive(Clone, Copy)]
 pub enum LinkKind {
     /// A client, on a port of this kind.
     Client(PortKind),
@@ -24,7 +24,7 @@ pub enum LinkKind {
 }
 
 /// What becomes of a connection.
-#[derive(Clone, Copy, PartialEq, Eq)]
+#[derive(Clone, Copy)]
 pub enum Admission {
     /// The listener isn't one for clients.
     NoPort,
@@ -36,7 +36,7 @@ pub enum Admission {
 }
 
 /// Why a link ended.
-#[derive(Clone, Copy, PartialEq, Eq)]
+#[derive(Clone, Copy)]
 pub enum EndReason {
     /// The other side ended it.
     ByPeer,
@@ -56,7 +56,7 @@ pub enum EndReason {
 }
 
 /// Why a line is refused.
-#[derive(Clone, PartialEq, Eq, Drop)]
+#[derive(Clone, Drop)]
 pub enum Refusal {
     /// It has more than 510 bytes.
     Long,
@@ -78,7 +78,7 @@ pub enum Refusal {
 }
 
 /// Why a filter is refused.
-#[derive(Clone, Copy, PartialEq, Eq)]
+#[derive(Clone, Copy)]
 pub enum FilterFault {
     /// The port has no filters.
     NoFilters,

@@ -10,7 +10,7 @@ use aprs_conf::{Conf, ConfError, ConfFault, ConfWord, Listen, read};
 use std::alloc::Global;
 
 /// Why a text is no configuration.
-#[derive(Clone, Copy, PartialEq, Eq)]
+#[derive(Clone, Copy)]
 pub enum Trouble {
     /// The first bad line, and its first fault.
     Line(u32, ConfFault),
@@ -19,7 +19,7 @@ pub enum Trouble {
 }
 
 /// Why a text gives no configuration.
-#[derive(Clone, Copy, PartialEq, Eq)]
+#[derive(Clone, Copy)]
 pub(crate) enum Unfit {
     Trouble(Trouble),
     Memory,

@@ -25,7 +25,7 @@ const DRILL_CONF: &[u8] = b"ServerId DRILL\nPassCode 13052\nMaxClients 1000\n\
 Listen \"full\" fullfeed tcp 0.0.0.0 1\nListen \"igate\" igate tcp 0.0.0.0 2\n";
 
 /// What a drill counts.
-#[derive(Clone, Copy, PartialEq, Eq)]
+#[derive(Clone, Copy)]
 pub(crate) struct Counts {
     pub totals: Totals,
     /// The bytes that all links took.

@@ -34,7 +34,7 @@ use std::thread::Threads;
 const MOST_READ: usize = 65_536;
 
 /// How the program ends.
-#[derive(Clone, Copy, PartialEq, Eq)]
+#[derive(Clone, Copy)]
 pub(crate) enum Status {
     Stopped,
     Checked,

@@ -39,7 +39,7 @@ use std::thread::Threads;
 const MOST_OFFERED: usize = 65_536;
 
 /// Why not every listener was opened.
-#[derive(Clone, Copy, PartialEq, Eq)]
+#[derive(Clone, Copy)]
 pub(crate) enum ListenError {
     /// The call for the listener of this number failed.
     Failed(u16),
@@ -442,7 +442,7 @@ fn serve_round<R: Threads + Sync, W: Wire, G: Gate + Sync>(
 }
 
 /// How the serving of a wire ends.
-#[derive(Clone, Copy, PartialEq, Eq)]
+#[derive(Clone, Copy)]
 pub(crate) enum End {
     /// A stop was read, and every act that it made due was done.
     Stopped,

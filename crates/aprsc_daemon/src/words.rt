@@ -40,7 +40,7 @@ impl<'a> Model for ServerWords<'a> {
 }
 
 /// What the words ask of a drill.
-#[derive(Clone, Copy, PartialEq, Eq)]
+#[derive(Clone, Copy)]
 pub struct DrillWords {
     pub plan: Plan,
     /// The most workers, from 1 to 64.
@@ -55,7 +55,7 @@ pub enum Words<'a> {
 }
 
 /// Why the words ask for nothing.
-#[derive(Clone, Copy, PartialEq, Eq)]
+#[derive(Clone, Copy)]
 pub enum WordsError {
     /// They are no words of the program.
     Refused,

@@ -10,7 +10,7 @@ use std::marker::Model;
 pub const POSITION_AGE: u64 = 172_800;
 
 /// Where a station was last seen, and when, in seconds.
-#[derive(Clone, Copy, PartialEq, Eq)]
+#[derive(Clone, Copy)]
 pub struct Seen {
     pub place: Place,
     pub moment: u64,

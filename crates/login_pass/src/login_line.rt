@@ -11,7 +11,7 @@ use crate::words::{is_word, next_word};
 use aprs_base::{Call, Line, all_digits, leading_blanks, trailing_blanks};
 
 /// Who logs in, by which code, and with which filter.
-#[derive(Clone, PartialEq, Eq, Drop)]
+#[derive(Clone, Drop)]
 pub struct Login {
     pub call: Call,
     /// `None` stands for `-1`.
@@ -21,7 +21,7 @@ pub struct Login {
 }
 
 /// Why a line is no login: the first of these that applies.
-#[derive(Clone, Copy, PartialEq, Eq)]
+#[derive(Clone, Copy)]
 pub enum LoginFault {
     /// The first word isn't `user`.
     NotUser,

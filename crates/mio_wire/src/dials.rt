@@ -36,7 +36,7 @@ impl Dial {
 }
 
 /// What is known of a dial.
-#[derive(Clone, Copy, PartialEq, Eq)]
+#[derive(Clone, Copy)]
 pub(crate) enum Outcome {
     Waits,
     Joins,

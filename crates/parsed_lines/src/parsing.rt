@@ -14,7 +14,7 @@ use std::thread::Threads;
 use tnc2_line::{LineFault, read_into};
 
 /// What a line is.
-#[derive(PartialEq, Eq, Drop)]
+#[derive(Drop)]
 pub enum Parsed {
     /// A packet: its parts, and what its body says.
     Good { parts: Parts, body: Body },

@@ -10,7 +10,7 @@ use std::marker::Model;
 const PAUSE: u64 = 10;
 
 /// What happens to uplinks and to links.
-#[derive(Clone, Copy, PartialEq, Eq)]
+#[derive(Clone, Copy)]
 pub enum UpEvent {
     /// A second has passed.
     Tick,
@@ -25,7 +25,7 @@ pub enum UpEvent {
 }
 
 /// What is to be done after an event.
-#[derive(Clone, Copy, Default, PartialEq, Eq)]
+#[derive(Clone, Copy, Default)]
 pub struct UpActs {
     /// The uplink to dial.
     pub dial: Option<u16>,

@@ -19,7 +19,7 @@ use std::marker::Model;
 use std::sync::Arc;
 
 /// What a link is fed.
-#[derive(Clone, Copy, PartialEq, Eq)]
+#[derive(Clone, Copy)]
 pub enum Feed {
     Nothing,
     /// All packets.
