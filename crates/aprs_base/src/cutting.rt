@@ -12,7 +12,7 @@ use std::alloc::Global;
 use std::marker::Model;
 
 /// A line that is cut off, or that one of more than 510 bytes was.
-#[derive(Clone, Drop)]
+#[derive(Drop)]
 pub enum Cut {
     Line(Line),
     Long,

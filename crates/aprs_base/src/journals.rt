@@ -23,7 +23,7 @@ pub enum Kind {
 }
 
 /// A line for the journals.
-#[derive(Clone, Drop)]
+#[derive(Drop)]
 pub struct JournalLine {
     pub kind: Kind,
     /// In seconds since 1970.

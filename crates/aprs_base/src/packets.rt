@@ -25,14 +25,14 @@ pub struct Place {
 }
 
 /// One element of a path: a call, and whether `*` follows it.
-#[derive(Clone, Default, PartialEq, Eq, Hash, Drop)]
+#[derive(Default, PartialEq, Eq, Hash, Drop)]
 pub struct Via {
     pub call: Call,
     pub star: bool,
 }
 
 /// A packet's parts: `source>dest`, then for each element of the path a comma and the element, then `:` and the body.
-#[derive(Clone, Drop)]
+#[derive(Drop)]
 pub struct Parts {
     pub source: Call,
     pub dest: Call,

@@ -285,7 +285,7 @@ impl Word9 {
 }
 
 /// A line without its end: 1 to 510 bytes, none of them CR or LF.
-#[derive(Clone, PartialEq, Eq, Drop)]
+#[derive(PartialEq, Eq, Drop)]
 pub struct Line {
     pub text: ArrayVec<u8, 510>,
 }

@@ -11,7 +11,7 @@ pub struct Listen {
 }
 
 /// Another server of the group: its call, and where it takes datagrams.
-#[derive(Clone, Drop)]
+#[derive(Drop)]
 pub struct PeerSpec {
     pub call: Call,
     pub at: Addr,

@@ -8,7 +8,7 @@ use q_construct::QDrop;
 use tnc2_line::LineFault;
 
 /// Who a link has logged in as.
-#[derive(Clone, Drop)]
+#[derive(Drop)]
 pub struct Session {
     pub call: Call,
     pub verified: bool,
@@ -56,7 +56,7 @@ pub enum EndReason {
 }
 
 /// Why a line is refused.
-#[derive(Clone, Drop)]
+#[derive(Drop)]
 pub enum Refusal {
     /// It has more than 510 bytes.
     Long,

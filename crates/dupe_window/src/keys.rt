@@ -14,7 +14,7 @@ use std::marker::Model;
 
 /// What the copies of a packet have in common: its source, its destination without the SSID, and its body without the blanks
 /// at its end. The way that it took is no part of it. It is kept as one text.
-#[derive(Clone, PartialEq, Eq, Drop)]
+#[derive(PartialEq, Eq, Drop)]
 pub struct Key {
     text: ArrayVec<u8, 530>,
 }

@@ -6,7 +6,7 @@ use arrayvec::ArrayVec;
 use std::marker::Model;
 
 /// A name of 0 to 9 bytes. A wild one matches whatever begins with it.
-#[derive(Clone, Drop)]
+#[derive(Drop)]
 pub struct Name {
     pub text: ArrayVec<u8, 9>,
     pub wild: bool,

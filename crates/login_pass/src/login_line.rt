@@ -11,7 +11,7 @@ use crate::words::{is_word, next_word};
 use aprs_base::{Call, Line, all_digits, leading_blanks, trailing_blanks};
 
 /// Who logs in, by which code, and with which filter.
-#[derive(Clone, Drop)]
+#[derive(Drop)]
 pub struct Login {
     pub call: Call,
     /// `None` stands for `-1`.

@@ -7,7 +7,7 @@ ghost use Rattle.q_construct.specs.Rule.{has_station, hex_byte, hex_digit, hex_o
 use aprs_base::{Addr, Call, copy_call};
 
 /// Where a line came from.
-#[derive(Clone, Drop)]
+#[derive(Drop)]
 pub enum Origin {
     /// A datagram with a login.
     Udp {
