@@ -12,7 +12,7 @@ use std::alloc::Global;
 use std::marker::Model;
 
 /// A line that is cut off, or that one of more than 510 bytes was.
-#[derive(Drop)]
+#[derive(PartialEq, Eq, Drop)]
 pub enum Cut {
     Line(Line),
     Long,

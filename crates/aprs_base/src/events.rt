@@ -43,7 +43,7 @@ pub enum Sent {
 }
 
 /// Why a wire gives no answer.
-#[derive(Clone, Copy, PartialEq, Eq)]
+#[derive(Clone, Copy, PartialEq, Eq, Debug)]
 pub enum WireError {
     Failed,
     Memory,
@@ -74,7 +74,7 @@ impl From<Memory> for WireError {
 }
 
 /// An event without the bytes that it brings.
-#[derive(Clone, Copy)]
+#[derive(Clone, Copy, PartialEq, Eq)]
 enum Head {
     Tick(u64),
     Opened {
@@ -99,7 +99,7 @@ enum Head {
 }
 
 /// An event that came, which takes no more room than its bytes need.
-#[derive(Drop)]
+#[derive(PartialEq, Eq, Drop)]
 pub struct Came {
     head: Head,
     bytes: Text,
@@ -175,7 +175,7 @@ impl Came {
 }
 
 /// One thing that happened on a wire: what came, and what was done.
-#[derive(Drop)]
+#[derive(PartialEq, Eq, Drop)]
 pub enum Happening {
     Listen(u16),
     Event(Came),

@@ -32,7 +32,7 @@ pub struct Via {
 }
 
 /// A packet's parts: `source>dest`, then for each element of the path a comma and the element, then `:` and the body.
-#[derive(Drop)]
+#[derive(PartialEq, Eq, Drop)]
 pub struct Parts {
     pub source: Call,
     pub dest: Call,

@@ -12,7 +12,7 @@ use std::hash::{Hash, Hasher};
 use std::marker::Model;
 
 /// Memory was wanting.
-#[derive(Clone, Copy)]
+#[derive(Clone, Copy, PartialEq, Eq, Debug)]
 pub struct Memory;
 
 impl From<AllocError> for Memory {
@@ -28,7 +28,7 @@ impl<T: Drop> From<AllocFailed<T>> for Memory {
 }
 
 /// Something outside the program failed.
-#[derive(Clone, Copy)]
+#[derive(Clone, Copy, PartialEq, Eq, Debug)]
 pub struct Failed;
 
 /// The name of a station: 1 to 9 letters and digits, perhaps `-` and one or two more, at most 9 bytes in all

@@ -49,7 +49,7 @@ pub enum Take {
 }
 
 /// The links that events bring aren't numbered in order from 1.
-#[derive(Clone, Copy)]
+#[derive(Clone, Copy, PartialEq, Eq, Debug)]
 pub struct WrongNumbers;
 
 /// A wire in memory, which gives listed events and tells all that happened.

@@ -6,7 +6,7 @@ use std::alloc::{AllocError, AllocFailed};
 use thiserror::Error;
 
 /// The first fault of a line.
-#[derive(Clone, Copy, Debug, Error)]
+#[derive(Clone, Copy, PartialEq, Eq, Debug, Error)]
 pub enum ConfFault {
     /// A word begins with a `"` that no other ends.
     #[error("open-quote")]
@@ -44,7 +44,7 @@ pub enum ConfFault {
 }
 
 /// A word of which there must be a line.
-#[derive(Clone, Copy, Debug, Error)]
+#[derive(Clone, Copy, PartialEq, Eq, Debug, Error)]
 pub enum ConfWord {
     #[error("ServerId")]
     ServerId,
@@ -55,7 +55,7 @@ pub enum ConfWord {
 }
 
 /// Why a text is no configuration.
-#[derive(Clone, Copy, Debug, Error)]
+#[derive(Clone, Copy, PartialEq, Eq, Debug, Error)]
 pub enum ConfError {
     /// The number of the first bad line, counted from 1, and its first fault. The number stays at 4,294,967,295 for every later line.
     #[error("line {0}: {1}")]

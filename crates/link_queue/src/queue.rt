@@ -14,7 +14,7 @@ use std::marker::Model;
 use std::sync::Arc;
 
 /// The queue has as many lines as its limit.
-#[derive(Clone, Copy)]
+#[derive(Clone, Copy, PartialEq, Eq, Debug)]
 pub struct Overfull;
 
 /// The lines that a link has still to take, in order, each shared with other queues. Of the first a part may be taken:

@@ -21,7 +21,7 @@ pub struct Login {
 }
 
 /// Why a line is no login: the first of these that applies.
-#[derive(Clone, Copy)]
+#[derive(Clone, Copy, PartialEq, Eq, Debug)]
 pub enum LoginFault {
     /// The first word isn't `user`.
     NotUser,

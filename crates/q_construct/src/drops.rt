@@ -11,7 +11,7 @@ use crate::paths::{after, before, construct_bytes, has_bar, has_call};
 use aprs_base::{Call, Parts, Via, copy_call};
 
 /// Why a packet goes no further: the first of these that applies.
-#[derive(Drop)]
+#[derive(PartialEq, Eq, Drop)]
 pub enum QDrop {
     /// The login is unverified, and the source is another.
     Unverified,

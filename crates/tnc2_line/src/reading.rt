@@ -11,7 +11,7 @@ use aprs_base::{Call, Line, Parts, Via, first_place, is_construct_text};
 use arrayvec::ArrayVec;
 
 /// Why a line is no packet: the first of these that applies.
-#[derive(Clone, Copy, Debug)]
+#[derive(Clone, Copy, PartialEq, Eq, Debug)]
 pub enum LineFault {
     /// There is no `:`.
     NoColon,

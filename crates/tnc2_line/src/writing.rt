@@ -7,7 +7,7 @@ use aprs_base::{Line, Parts, Via};
 use arrayvec::ArrayVec;
 
 /// The text has more than 510 bytes.
-#[derive(Clone, Copy)]
+#[derive(Clone, Copy, PartialEq, Eq, Debug)]
 pub struct LongOut;
 
 /// Appends the bytes, where they fit.
