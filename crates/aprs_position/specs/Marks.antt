@@ -1,5 +1,5 @@
 -- Fine marks, the field's `!DAO!` (APRS 1.2, a profile of it): more digits of both numbers, in the bytes after a position.
-use Rattle.std.specs.Prelude.{ℕ, ◌-◌, ◌*◌, ◌==◌, ◌&&◌, if◌then◌else◌, List, [], ◌∷◌, Some, None}
+use Rattle.std.specs.Prelude.{ℕ, ◌-◌, ◌*◌, ◌<◌, ◌==◌, ◌&&◌, if◌then◌else◌, List, [], ◌∷◌, Some, None}
 use Rattle.std.specs.Char.{is_ascii_digit}
 use Rattle.std.specs.declared.option.Option.{Option}
 use Rattle.std.specs.Option.{option_or}
@@ -22,6 +22,10 @@ mark_at _ = None
 abbrev pub mark_in : List ℕ → Option Mark
 mark_in [] = None
 mark_in (b ∷ more) = option_or (mark_at (b ∷ more)) (mark_in more)
+
+-- what a mark adds is less than a hundredth of a minute
+abbrev pub IsPart : Mark → Type 0
+IsPart mark = (mark.lat < 910) × (mark.lon < 910)
 
 -- what no mark adds
 abbrev pub unmarked : Mark

@@ -1,6 +1,6 @@
 //! Fine marks, the field's `!DAO!`: more digits of both numbers, in the bytes after a position.
 ghost use Rattle.std.specs.Prelude.{◌≡◌, ℕ, ◌<◌, ◌≤◌, IfSome, length};
-ghost use Rattle.aprs_position.specs.Marks.{mark_at, mark_in, mark_with};
+ghost use Rattle.aprs_position.specs.Marks.{IsPart, mark_at, mark_in, mark_with};
 ghost use Rattle.aprs_position.specs.declared.marks.Mark.{Mark};
 
 use crate::compressed::{base91_digit, is_base91};
@@ -17,7 +17,7 @@ pub struct Mark {
 /// What stands between the two `!` of a mark.
 fn mark_with(letter: u8, lat: u8, lon: u8) -> Option<Mark>
     ensures value { result ≡ mark_with letter lat lon }
-    ensures below { IfSome result (λ m. (m.lat < 910) × (m.lon < 910)) }
+    ensures below { IfSome result IsPart }
 {
     match letter {
         b'W' if lat.is_ascii_digit() && lon.is_ascii_digit() => Some(Mark {
@@ -35,7 +35,7 @@ fn mark_with(letter: u8, lat: u8, lon: u8) -> Option<Mark>
 /// The mark that a text begins with.
 fn mark_at(text: &[u8]) -> Option<Mark>
     ensures value { result ≡ mark_at text.now }
-    ensures below { IfSome result (λ m. (m.lat < 910) × (m.lon < 910)) }
+    ensures below { IfSome result IsPart }
 {
     match text {
         [b'!', letter, lat, lon, b'!', ..] => mark_with(*letter, *lat, *lon),
@@ -54,7 +54,7 @@ fn from_first(text: &[u8]) -> &[u8]
 /// The leftmost mark of a text.
 pub fn find_mark(text: &[u8]) -> Option<Mark>
     ensures value { result ≡ mark_in text.now }
-    ensures below { IfSome result (λ m. (m.lat < 910) × (m.lon < 910)) }
+    ensures below { IfSome result IsPart }
 {
     let mut rest = from_first(text);
     while let [_, later @ ..] = rest {

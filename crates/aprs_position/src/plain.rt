@@ -5,6 +5,7 @@ ghost use Rattle.std.specs.List.{list_all, prefix_len};
 ghost use Rattle.aprs_base.specs.Bytes.{is_blank};
 ghost use Rattle.aprs_base.specs.declared.packets.Place.{Place};
 ghost use Rattle.aprs_position.specs.Grammar.{BeginsPlain};
+ghost use Rattle.aprs_position.specs.Marks.{IsPart};
 ghost use Rattle.aprs_position.specs.Plain.{angle_of, degrees_of, digit_value, ends_in_blanks, hundredths_of, is_exact, mark_after, plain_place, side_of, written_of};
 ghost use Rattle.aprs_position.specs.Written.{IsAngle};
 
@@ -148,7 +149,7 @@ fn is_exact(text: &[u8]) -> bool
 fn mark_after(text: &[u8]) -> Option<Mark>
     requires { 19 ≤ length text.now }
     ensures value { result ≡ mark_after text.now }
-    ensures below { IfSome result (λ m. (m.lat < 910) × (m.lon < 910)) }
+    ensures below { IfSome result IsPart }
 {
     let mark = find_mark(&text[19..])?;
     is_exact(text).then_some(mark)

@@ -1,5 +1,6 @@
 //! Positions as their own bytes write them, and the places that they are with the marks after them.
 ghost use Rattle.std.specs.Prelude.{◌≡◌, ℕ, ◌<◌, ◌≤◌, IfSome};
+ghost use Rattle.aprs_position.specs.Marks.{IsPart};
 ghost use Rattle.aprs_position.specs.Written.{IsAngle, finest, millionths, place_with, value_of};
 ghost use Rattle.aprs_position.specs.declared.marks.Mark.{Mark};
 ghost use Rattle.aprs_position.specs.declared.written.Written.{Written};
@@ -55,7 +56,7 @@ fn value_of(angle: &Angle, parts: u32) -> i32
 fn place_with(written: &Written, mark: Mark) -> Option<Place>
     requires lat { IsAngle written.now.lat }
     requires lon { IsAngle written.now.lon }
-    requires mark { (mark.lat < 910) × (mark.lon < 910) }
+    requires mark { IsPart mark }
     ensures { result ≡ place_with written.now mark }
 {
     let lat = value_of(&written.lat, mark.lat);
@@ -68,7 +69,7 @@ fn place_with(written: &Written, mark: Mark) -> Option<Place>
 pub fn finest(written: &Written, mark: Option<Mark>) -> Option<Place>
     requires lat { IsAngle written.now.lat }
     requires lon { IsAngle written.now.lon }
-    requires mark { IfSome mark (λ m. (m.lat < 910) × (m.lon < 910)) }
+    requires mark { IfSome mark IsPart }
     ensures { result ≡ finest written.now mark }
 {
     let finer = match mark {

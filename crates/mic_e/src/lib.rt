@@ -5,6 +5,7 @@ ghost use Rattle.std.specs.Prelude.{◌≡◌, ℕ, ◌+◌, ◌-◌, ◌*◌, �
 ghost use Rattle.std.specs.List.{list_all, list_any};
 ghost use Rattle.aprs_base.specs.declared.packets.Place.{Place};
 ghost use Rattle.mic_e.specs.Grammar.{IsMicE};
+ghost use Rattle.aprs_position.specs.Marks.{IsPart};
 ghost use Rattle.aprs_position.specs.Written.{IsAngle};
 ghost use Rattle.mic_e.specs.MicE.{between, degrees_of, digit_of, from_equator, from_greenwich, is_blank_letter, is_mark, is_set, late_digit_of, mark_after, mic_e_place, minutes_of, pair, written_of};
 
@@ -182,7 +183,7 @@ fn mark_after(base: &[u8], body: &[u8]) -> Option<Mark>
     requires base { length base.now ≡ 6 }
     requires body { 9 ≤ length body.now }
     ensures value { result ≡ mark_after base.now body.now }
-    ensures below { IfSome result (λ m. (m.lat < 910) × (m.lon < 910)) }
+    ensures below { IfSome result IsPart }
 {
     let mark = find_mark(&body[9..])?;
     (!any_blank(&base[2..6])).then_some(mark)
