@@ -1,7 +1,7 @@
 //! Positions whose latitude stands in the destination's call.
 #![tactic(auto)]
 
-ghost use Rattle.std.specs.Prelude.{◌≡◌, ℕ, ◌+◌, ◌-◌, ◌*◌, ◌<◌, ◌≤◌, ◌^◌, IfSome, OnSome, length, not, if◌then◌else◌};
+ghost use Rattle.std.specs.Prelude.{◌≡◌, ℕ, ◌-◌, ◌≤◌, IfSome, OnSome, length};
 ghost use Rattle.std.specs.List.{list_all, list_any};
 ghost use Rattle.aprs_base.specs.declared.packets.Place.{Place};
 ghost use Rattle.mic_e.specs.Grammar.{IsMicE};
