@@ -1,11 +1,12 @@
 #!/usr/bin/env python3
-"""Prints the tables of the position tests, by the rules of the APRS Protocol Reference 1.0.1 alone.
+"""Prints the rows of positions and their answers, by the rules of the APRS Protocol Reference 1.0.1 alone.
 
 The values are worked out in exact fractions of a degree and cut to whole millionths. Nothing here is taken from
-the server's own output. Usage: position_values.py plain | compressed | mic_e
+the server's own output. The rows are those of crates/reading_rows. Usage: position_values.py plain | compressed | mic_e | marks
 """
 import math
 import random
+import re
 import sys
 from fractions import Fraction
 
@@ -16,28 +17,50 @@ def cut(degrees):
     return -millionths if degrees < 0 else millionths
 
 
-def rust(text):
+def field(text):
+    """The text as the last field of a row."""
     shown = ""
-    for char in text:
-        if char in '\\"':
-            shown += "\\" + char
+    for index, char in enumerate(text):
+        if char == "\\":
+            shown += "\\x5c" if text[index + 1:index + 2] == "(" else "\\\\"
+        elif char == " " and index in (0, len(text) - 1):
+            shown += "\\s"
         elif 32 <= ord(char) < 127:
             shown += char
         else:
             shown += "\\x%02x" % ord(char)
-    return '"' + shown + '"'
+    return shown
 
 
-def degrees(digits, sign):
+def mark(text):
+    """What the leftmost fine mark adds to the two numbers, in degrees: tenths or ninety-firsts of a hundredth of a minute."""
+    found = re.search("!(W[0-9][0-9]|w[!-{][!-{])!", text)
+    if not found:
+        return 0, 0
+    letter, lat, lon = found.group(1)
+    if letter == "W":
+        return Fraction(int(lat), 60000), Fraction(int(lon), 60000)
+    return Fraction(ord(lat) - 33, 546000), Fraction(ord(lon) - 33, 546000)
+
+
+def finer(lat, lon, added):
+    """Both numbers with what a mark adds, or as they are where it would lead off the globe."""
+    if lat + added[0] > 90 or lon + added[1] > 180:
+        return lat, lon
+    return lat + added[0], lon + added[1]
+
+
+def degrees(digits):
     """`DDMM.hh` as degrees: a blank counts as 0."""
     digits = digits.replace(" ", "0")
-    return sign * (Fraction(digits[:-5]) + Fraction(digits[-5:]) / 60)
+    return Fraction(digits[:-5]) + Fraction(digits[-5:]) / 60
 
 
 def plain_value(text):
-    lat = degrees(text[:7], {"N": 1, "S": -1}[text[7]])
-    lon = degrees(text[9:17], {"E": 1, "W": -1}[text[17]])
-    return cut(lat), cut(lon), text[8], text[18]
+    lat, lon = degrees(text[:7]), degrees(text[9:17])
+    if " " not in text[:18]:
+        lat, lon = finer(lat, lon, mark(text[19:]))
+    return cut({"N": lat, "S": -lat}[text[7]]), cut({"E": lon, "W": -lon}[text[17]]), text[8], text[18]
 
 
 PLAIN = """4903.50N/07201.75W-|4903.5 N/07201.75W-|4903.  N/07201.75W-|490 .  N/07201.75W-|49  .  N/07201.75W-
@@ -55,7 +78,7 @@ def plain():
         texts.append(lat + rng.choice("NS") + rng.choice("/\\059AMZ") + lon + rng.choice("EW") + chr(rng.randrange(33, 127)) + rng.choice(["", "x", "/A=001234"]))
     for text in texts:
         lat, lon, table, code = plain_value(text)
-        print("    (%s, %d, %d, b'%s', b'%s')," % (rust(text), lat, lon, table.replace("\\", "\\\\"), code.replace("\\", "\\\\").replace("'", "\\'")))
+        print("plain %s = %d %d %s %s 19" % (field(text), lat, lon, table, code))
 
 
 def base91(text):
@@ -96,7 +119,7 @@ def compressed():
         texts.append(rng.choice("/\\AMZabcdefghij") + digits91(south) + digits91(east) + chr(rng.randrange(33, 127)) + "".join(chr(rng.randrange(32, 127)) for _ in range(3)))
     for text in texts:
         lat, lon, table, code = compressed_value(text)
-        print("    (%s, %d, %d, b'%s', b'%s')," % (rust(text), lat, lon, table.replace("\\", "\\\\"), code.replace("\\", "\\\\").replace("'", "\\'")))
+        print("compressed %s = %d %d %s %s 13" % (field(text), lat, lon, table, code))
 
 
 def mic_e_value(dest, body):
@@ -113,8 +136,6 @@ def mic_e_value(dest, body):
             digits += "0"
     set_bits = ["P" <= char <= "Z" for char in base]
     lat = Fraction(digits[:2]) + Fraction(int(digits[2:]), 6000)
-    if not set_bits[3]:
-        lat = -lat
     d = ord(body[1]) - 28 + (100 if set_bits[4] else 0)
     if 180 <= d <= 189:
         d -= 80
@@ -124,9 +145,9 @@ def mic_e_value(dest, body):
     if m >= 60:
         m -= 60
     lon = d + Fraction(m * 100 + ord(body[3]) - 28, 6000)
-    if set_bits[5]:
-        lon = -lon
-    return cut(lat), cut(lon), body[8], body[7]
+    if not set(base[2:]) & set("KLZ"):
+        lat, lon = finer(lat, lon, mark(body[9:]))
+    return cut(lat if set_bits[3] else -lat), cut(-lon if set_bits[5] else lon), body[8], body[7]
 
 
 MIC_E = [("S32U6T", "`(_fn\"Oj/"), ("S32UVT", "`(_fn\"Oj/"), ("S32U6T", "'(_f \"Oj/"), ("S32UVT-7", "`(_fn\"Oj/>more"),
@@ -146,7 +167,31 @@ def mic_e():
         cases.append((dest, rng.choice("`'") + lon + "".join(chr(rng.randrange(32, 127)) for _ in range(3)) + chr(rng.randrange(33, 127)) + rng.choice("/\\059AMZ")))
     for dest, body in cases:
         lat, lon, table, code = mic_e_value(dest, body)
-        print("    (%s, %s, %d, %d, b'%s', b'%s')," % (rust(dest), rust(body), lat, lon, table.replace("\\", "\\\\"), code.replace("\\", "\\\\").replace("'", "\\'")))
+        print("mic-e %s %s = %d %d %s %s 9" % (dest, field(body), lat, lon, table, code))
 
 
-{"plain": plain, "compressed": compressed, "mic_e": mic_e}[sys.argv[1]]()
+# What follows `4903.50N/07201.75W-`.
+AFTER = """!W52!,!wN!!,Test!W52!/A=001234,!W00!,!W99!,!w!!!,!w{{!,!W52!!W99!,!wAB!W52!,!!W52!,!W!W52!,!W5!W99!W11!
+!W5A!,!W 5!,!W5 !,!w|!!,!w! !,!X52!,!W52,!W52?,W52!,!W5""".replace("\n", ",").split(",")
+
+MARKED = ["4903.5 N/07201.75W-!W52!", "4903.50N/07201.7 W-!W52!", "49  .  N/072  .  W-!wN!!", "9000.00N/00000.00E-!W11!", "9000.00N/00000.00E-!W01!",
+          "0000.00N/18000.00W-!W11!", "0000.00N/18000.00W-!W10!", "0000.00S/00000.00W-!W11!", "8959.99S/17959.99W-!W99!", "8959.99S/17959.99W-!w{{!",
+          "4903.50N/07201.75W!W52!", "4903.50N/07201.75W!!W52!"]
+
+MARKED_MIC_E = [("S32U6T", "`(_fn\"Oj/!W52!"), ("S32U6T", "'(_fn\"Oj/!wN!!"), ("S32UVT-7", "`(_fn\"Oj/>Test!W52!|3"), ("SK2U6T", "`(_fn\"Oj/!W52!"),
+                ("S3KU6T", "`(_fn\"Oj/!W52!"), ("S32L6T", "`(_fn\"Oj/!W52!"), ("S32UZT", "`(_fn\"Oj/!W52!"), ("S32U6L", "`(_fn\"Oj/!W52!"),
+                ("S32U6T", "`(_fab!W52!"), ("S32U6T", "`(_f!W52/!"), ("000000", "`\x1c\x1c\x1c...>/!W11!"), ("Y00PPP", "`(_fn\"Oj/!W11!"), ("Y00PPP", "`(_fn\"Oj/!W01!")]
+
+
+def marks():
+    for text in ["4903.50N/07201.75W-" + after for after in AFTER] + MARKED:
+        print("plain %s = %d %d %s %s 19" % (field(text), *plain_value(text)))
+    text = "4903.50N/07201.75W-!W52!"
+    print("either %s = %d %d %s %s 19" % (field(text), *plain_value(text)))
+    for text in ["/5L!!<*e7>7P[!W52!", "/5L!!<*e7>!W52!"]:
+        print("compressed %s = %d %d %s %s 13" % (field(text), *compressed_value(text)))
+    for dest, body in MARKED_MIC_E:
+        print("mic-e %s %s = %d %d %s %s 9" % (dest, field(body), *mic_e_value(dest, body)))
+
+
+{"plain": plain, "compressed": compressed, "mic_e": mic_e, "marks": marks}[sys.argv[1]]()

@@ -5,7 +5,8 @@ use Rattle.std.specs.declared.option.Option.{Option}
 use Rattle.std.specs.Option.{option_map}
 use Rattle.aprs_base.specs.declared.packets.Body.{Body}
 use Rattle.aprs_position.specs.Either.{either_place}
-use Rattle.aprs_position.specs.Plain.{plain_place}
+use Rattle.aprs_position.specs.Plain.{mark_after, plain_place, written_of}
+use Rattle.aprs_position.specs.Written.{finest, place_with}
 use Rattle.aprs_position.specs.Compressed.{compressed_place}
 use Rattle.mic_e.specs.MicE.{place_of}
 use Rattle.aprs_body.specs.Bodies.{body_of}
@@ -21,6 +22,8 @@ home = Some (pos 49058333, negsuc 72029165)
 rows :
     -- object
     (parts (body_of (codes "APRS") (codes ";LEADER   *092345z4903.50N/07201.75W>")) ≡ (2, home, Some (codes "LEADER"), true, None))
+    -- object with a fine mark
+    × (parts (body_of (codes "APRS") (codes ";LEADER   *092345z4903.50N/07201.75W>!W52!")) ≡ (2, Some (pos 49058416, negsuc 72029199), Some (codes "LEADER"), true, None))
     -- item
     × (parts (body_of (codes "APRS") (codes ")AID #2!4903.50N/07201.75WA")) ≡ (4, home, Some (codes "AID #2"), true, None))
     -- warning
@@ -37,5 +40,5 @@ rows :
     × (parts (body_of (codes "APRS") (codes "T#001")) ≡ (64, None, None, false, None))
     -- lone mark
     × (parts (body_of (codes "APRS") (codes "`")) ≡ (1, None, None, false, None))
-unfolding body_of either_place plain_place compressed_place place_of
-rows = (refl, refl, refl, refl, refl, refl, refl, refl, refl)
+unfolding body_of either_place plain_place written_of mark_after finest place_with compressed_place place_of
+rows = (refl, refl, refl, refl, refl, refl, refl, refl, refl, refl)

@@ -9,7 +9,8 @@ use Rattle.aprs_base.specs.declared.packets.PortKind.TheVariants as kind
 use Rattle.aprs_base.specs.declared.packets.Source.TheVariants as source
 use Rattle.aprs_body.specs.Bodies.{body_of}
 use Rattle.aprs_position.specs.Either.{either_place}
-use Rattle.aprs_position.specs.Plain.{plain_place}
+use Rattle.aprs_position.specs.Plain.{mark_after, plain_place, written_of}
+use Rattle.aprs_position.specs.Written.{finest, place_with}
 use Rattle.filter_eval.specs.Passes.{fits, passes_of}
 use Rattle.filter_lang.specs.Canonical.{canonical, term_text}
 use Rattle.filter_lang.specs.Grammar.{class_of, construct_if, construct_of, excess_of, friend_of, mine_of, named_of, near_of, other_of, range_of, term_of, terms_of, what_of}
@@ -202,27 +203,27 @@ active_friend km = codes "# filter f/OH7LZB/" ++ ((km ++ []) ++ codes " active")
 
 friend_of_two_days_less_a_second : told_in setting (near_friend 173799) 1
     ≡ greeting ++ codes "# filter f/OH7LZB/10 active" ∷ codes "K1ABC>APRS,TCPIP*,qAC,T2TEST:!4903.50N/07201.75W-a" ∷ []
-unfolding setting opened client crlf trace_of parts_of text_of via_of head_of login_of passcode_of process_of given_drops built_drops built_row rows body_of either_place plain_place terms_of term_of what_of other_of friend_of near_of dotted_of kilometres_of excess_of canonical term_text passes_of fits is_within haversine_of half_sine_of cosine_of
+unfolding setting opened client crlf trace_of parts_of text_of via_of head_of login_of passcode_of process_of given_drops built_drops built_row rows body_of either_place plain_place written_of mark_after finest place_with terms_of term_of what_of other_of friend_of near_of dotted_of kilometres_of excess_of canonical term_text passes_of fits is_within haversine_of half_sine_of cosine_of
 friend_of_two_days_less_a_second = subst
     (λ digits. told_in setting (near_friend 173799) 1
     ≡ greeting ++ active_friend digits ∷ codes "K1ABC>APRS,TCPIP*,qAC,T2TEST:!4903.50N/07201.75W-a" ∷ [])
     ten refl
 
 friend_of_two_days : told_in setting (near_friend 173800) 1 ≡ greeting ++ codes "# filter f/OH7LZB/10 active" ∷ []
-unfolding setting opened client crlf trace_of parts_of text_of via_of head_of login_of passcode_of process_of given_drops built_drops built_row rows body_of either_place plain_place terms_of term_of what_of other_of friend_of near_of dotted_of kilometres_of excess_of canonical term_text passes_of fits is_within haversine_of half_sine_of cosine_of
+unfolding setting opened client crlf trace_of parts_of text_of via_of head_of login_of passcode_of process_of given_drops built_drops built_row rows body_of either_place plain_place written_of mark_after finest place_with terms_of term_of what_of other_of friend_of near_of dotted_of kilometres_of excess_of canonical term_text passes_of fits is_within haversine_of half_sine_of cosine_of
 friend_of_two_days = subst (λ digits. told_in setting (near_friend 173800) 1 ≡ greeting ++ active_friend digits ∷ []) ten refl
 
 -- six minutes of latitude are more than 10 km, and five are less
 far_from_friend : told_in setting (after_friend 100001 (codes "K1ABC>APRS:!4909.50N/07201.75W-")) 1
     ≡ greeting ++ codes "# filter f/OH7LZB/10 active" ∷ []
-unfolding setting opened client crlf trace_of parts_of text_of via_of head_of login_of passcode_of process_of given_drops built_drops built_row rows body_of either_place plain_place terms_of term_of what_of other_of friend_of near_of dotted_of kilometres_of excess_of canonical term_text passes_of fits is_within haversine_of half_sine_of cosine_of
+unfolding setting opened client crlf trace_of parts_of text_of via_of head_of login_of passcode_of process_of given_drops built_drops built_row rows body_of either_place plain_place written_of mark_after finest place_with terms_of term_of what_of other_of friend_of near_of dotted_of kilometres_of excess_of canonical term_text passes_of fits is_within haversine_of half_sine_of cosine_of
 far_from_friend = subst
     (λ digits. told_in setting (after_friend 100001 (codes "K1ABC>APRS:!4909.50N/07201.75W-")) 1 ≡ greeting ++ active_friend digits ∷ [])
     ten refl
 
 by_friend : told_in setting (after_friend 100001 (codes "K1ABC>APRS:!4908.50N/07201.75W-")) 1
     ≡ greeting ++ codes "# filter f/OH7LZB/10 active" ∷ codes "K1ABC>APRS,TCPIP*,qAC,T2TEST:!4908.50N/07201.75W-" ∷ []
-unfolding setting opened client crlf trace_of parts_of text_of via_of head_of login_of passcode_of process_of given_drops built_drops built_row rows body_of either_place plain_place terms_of term_of what_of other_of friend_of near_of dotted_of kilometres_of excess_of canonical term_text passes_of fits is_within haversine_of half_sine_of cosine_of
+unfolding setting opened client crlf trace_of parts_of text_of via_of head_of login_of passcode_of process_of given_drops built_drops built_row rows body_of either_place plain_place written_of mark_after finest place_with terms_of term_of what_of other_of friend_of near_of dotted_of kilometres_of excess_of canonical term_text passes_of fits is_within haversine_of half_sine_of cosine_of
 by_friend = subst
     (λ digits. told_in setting (after_friend 100001 (codes "K1ABC>APRS:!4908.50N/07201.75W-")) 1
     ≡ greeting ++ active_friend digits ∷ codes "K1ABC>APRS,TCPIP*,qAC,T2TEST:!4908.50N/07201.75W-" ∷ [])
@@ -240,7 +241,7 @@ own_position =
 
 by_own_position : told_in setting own_position 1
     ≡ greeting ++ codes "# filter m/10 active" ∷ codes "K1ABC>APRS,TCPIP*,qAC,T2TEST:!4903.50N/07201.75W-two" ∷ []
-unfolding setting own_position opened client crlf trace_of parts_of text_of via_of head_of login_of passcode_of process_of given_drops built_drops built_row rows body_of either_place plain_place terms_of term_of what_of other_of mine_of dotted_of kilometres_of excess_of canonical term_text passes_of fits is_within haversine_of half_sine_of cosine_of
+unfolding setting own_position opened client crlf trace_of parts_of text_of via_of head_of login_of passcode_of process_of given_drops built_drops built_row rows body_of either_place plain_place written_of mark_after finest place_with terms_of term_of what_of other_of mine_of dotted_of kilometres_of excess_of canonical term_text passes_of fits is_within haversine_of half_sine_of cosine_of
 by_own_position = subst
     (λ digits. told_in setting own_position 1
     ≡ greeting ++ (codes "# filter m/" ++ ((digits ++ []) ++ codes " active")) ∷ codes "K1ABC>APRS,TCPIP*,qAC,T2TEST:!4903.50N/07201.75W-two" ∷ [])
@@ -255,9 +256,9 @@ for_gates = says 2 (codes "user K1ABC pass 14993") ∷ says 1 (codes "#filter q/
 
 position_of_a_gate : told_in setting (gate_position (says 2 (codes "N1ABC>APRS,K1ABC,I:>x") ∷ for_gates)) 1
     ≡ greeting ++ codes "# filter q//I active" ∷ codes "K1ABC>APRS,TCPIP*,qAC,T2TEST:!4903.50N/07201.75W-" ∷ []
-unfolding setting for_gates opened client crlf trace_of parts_of text_of via_of head_of login_of passcode_of process_of given_drops built_drops built_row rows body_of either_place plain_place terms_of term_of what_of other_of construct_if construct_of set_of excess_of canonical term_text passes_of fits
+unfolding setting for_gates opened client crlf trace_of parts_of text_of via_of head_of login_of passcode_of process_of given_drops built_drops built_row rows body_of either_place plain_place written_of mark_after finest place_with terms_of term_of what_of other_of construct_if construct_of set_of excess_of canonical term_text passes_of fits
 position_of_a_gate = refl
 
 position_of_no_gate : told_in setting (gate_position for_gates) 1 ≡ greeting ++ codes "# filter q//I active" ∷ []
-unfolding setting for_gates opened client crlf trace_of parts_of text_of via_of head_of login_of passcode_of process_of given_drops built_drops built_row rows body_of either_place plain_place terms_of term_of what_of other_of construct_if construct_of set_of excess_of canonical term_text passes_of fits
+unfolding setting for_gates opened client crlf trace_of parts_of text_of via_of head_of login_of passcode_of process_of given_drops built_drops built_row rows body_of either_place plain_place written_of mark_after finest place_with terms_of term_of what_of other_of construct_if construct_of set_of excess_of canonical term_text passes_of fits
 position_of_no_gate = refl

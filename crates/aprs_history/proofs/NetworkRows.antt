@@ -11,7 +11,8 @@ use Rattle.aprs_base.specs.declared.events.Happening.TheVariants as did
 use Rattle.aprs_base.specs.declared.packets.PortKind.TheVariants as kind
 use Rattle.aprs_body.specs.Bodies.{body_of}
 use Rattle.aprs_position.specs.Either.{either_place}
-use Rattle.aprs_position.specs.Plain.{plain_place}
+use Rattle.aprs_position.specs.Plain.{mark_after, plain_place, written_of}
+use Rattle.aprs_position.specs.Written.{finest, place_with}
 use Rattle.filter_eval.specs.Passes.{fits, passes_of}
 use Rattle.login_pass.specs.Login.{login_of}
 use Rattle.login_pass.specs.Passcode.{passcode_of}
@@ -410,13 +411,13 @@ greeted : List (List ℕ)
 greeted = banner ∷ codes "# logresp K1XYZ verified, server T2TEST" ∷ codes "OH7LZB>APRS,qAS,T2HUB::N0CALL   :hello" ∷ []
 
 message_to_heard : told_in gates message 1 ≡ greeted
-unfolding trace_of gates network message greeted peer_at client crlf parts_of text_of via_of head_of login_of passcode_of process_of given_drops built_drops built_row rows body_of either_place plain_place fits passes_of
+unfolding trace_of gates network message greeted peer_at client crlf parts_of text_of via_of head_of login_of passcode_of process_of given_drops built_drops built_row rows body_of either_place plain_place written_of mark_after finest place_with fits passes_of
 message_to_heard = refl
 
 -- the sender's next position goes along, and no other
 next_position : told_in gates (did.Event (event.Datagram 1 client (positions (codes "user OH7LZB pass 20900"))) ∷ message) 1
     ≡ greeted ++ codes "OH7LZB>APRS,TCPIP*,qAU,T2TEST:!4903.50N/07201.75W-" ∷ []
-unfolding trace_of gates network message greeted positions peer_at client crlf parts_of text_of via_of head_of login_of passcode_of process_of given_drops built_drops built_row rows body_of either_place plain_place fits passes_of
+unfolding trace_of gates network message greeted positions peer_at client crlf parts_of text_of via_of head_of login_of passcode_of process_of given_drops built_drops built_row rows body_of either_place plain_place written_of mark_after finest place_with fits passes_of
 next_position = refl
 
 -- ---- the order of the acts

@@ -1,6 +1,8 @@
 pub mod PlaceLemmas
 pub mod Rows
 pub mod PlainLemmas
+pub mod MarkLemmas
+pub mod WrittenLemmas
 pub mod Steps
 pub mod PlainGrammar
 pub mod CompressedGrammar

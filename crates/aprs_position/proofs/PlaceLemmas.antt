@@ -53,3 +53,25 @@ place_at_numbers lat lon table code used place h =
       code = sym (ap (λ (p : Place). p.code) same);
       used = sym (ap (λ (p : Place). p.used) same);
     }
+
+-- a place that is given is on the globe
+pub place_at_on : (lat lon : ℤ) (table code used : ℕ) (place : Place) → place_at lat lon table code used ≡ Some place → OnGlobe lat lon
+place_at_on lat lon table code used place h =
+    let south = given_some (int_le (negsuc 89999999) lat) _ place h in
+    let north = given_some (int_le lat (pos 90000000)) _ place south.1 in
+    let west = given_some (int_le (negsuc 179999999) lon) _ place north.1 in
+    let east = given_some (int_le lon (pos 180000000)) _ place west.1 in
+    (record { le = south.0 }, record { le = north.0 }, record { le = west.0 }, record { le = east.0 })
+
+-- and numbers on the globe give one
+pub place_at_some : (lat lon : ℤ) (table code used : ℕ) → OnGlobe lat lon → (place : Place) × (place_at lat lon table code used ≡ Some place)
+place_at_some lat lon table code used on =
+    let place : Place = record { lat = lat; lon = lon; table = table; code = code; used = used; south = on.0; north = on.1; west = on.2; east = on.3 } in
+    (place, place_at_same place)
+
+pub place_at_again : (lat lon : ℤ) (table code used : ℕ) (place : Place) → HasNumbers place lat lon table code used → place_at lat lon table code used ≡ Some place
+place_at_again lat lon table code used place has =
+    subst (λ n. place_at n lon table code used ≡ Some place) has.lat
+    (subst (λ n. place_at place.lat n table code used ≡ Some place) has.lon
+    (subst (λ n. place_at place.lat place.lon n code used ≡ Some place) has.table
+    (subst (λ n. place_at place.lat place.lon place.table n used ≡ Some place) has.code (place_at_used place used has.used))))

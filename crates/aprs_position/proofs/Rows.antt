@@ -5,7 +5,8 @@ use Rattle.std.specs.declared.option.Option.{Option}
 use Rattle.std.specs.Option.{option_map}
 use Rattle.aprs_base.specs.declared.packets.Place.{Place}
 use Rattle.aprs_position.specs.Compressed.{compressed_place}
-use Rattle.aprs_position.specs.Plain.{plain_place}
+use Rattle.aprs_position.specs.Plain.{mark_after, plain_place, written_of}
+use Rattle.aprs_position.specs.Written.{finest, place_with}
 
 -- a place's numbers
 abbrev numbers : Option Place → Option (ℤ × ℤ × ℕ × ℕ × ℕ)
@@ -25,11 +26,27 @@ rows :
     × (plain_place (codes "4903. 0N/07201.75W-") ≡ None)
     -- sixty minutes
     × (plain_place (codes "4960.00N/07201.75W-") ≡ None)
+    -- tenths of a hundredth
+    × (numbers (plain_place (codes "4903.50N/07201.75W-!W52!")) ≡ Some (pos 49058416, negsuc 72029199, 47, 45, 19))
+    -- ninety-firsts of a hundredth
+    × (numbers (plain_place (codes "4903.50N/07201.75W-!wN!!")) ≡ Some (pos 49058415, negsuc 72029165, 47, 45, 19))
+    -- blank digit with a mark
+    × (numbers (plain_place (codes "4903.5 N/07201.75W-!W52!")) ≡ Some (pos 49058333, negsuc 72029165, 47, 45, 19))
+    -- mark that leads beyond the pole
+    × (numbers (plain_place (codes "9000.00N/00000.00E-!W11!")) ≡ Some (pos 90000000, pos 0, 47, 45, 19))
+    -- mark that leaves one number as it is, and so stays on the pole
+    × (numbers (plain_place (codes "9000.00N/00000.00E-!W01!")) ≡ Some (pos 90000000, pos 16, 47, 45, 19))
+    -- leftmost of two, within a comment, over an earlier `!`
+    × (numbers (plain_place (codes "4903.50N/07201.75W-Hi!!W52!!W99!")) ≡ Some (pos 49058416, negsuc 72029199, 47, 45, 19))
+    -- mark that begins within the position
+    × (numbers (plain_place (codes "4903.50N/07201.75W!W52!")) ≡ Some (pos 49058333, negsuc 72029165, 47, 33, 19))
+    -- bytes that only look like a mark
+    × (numbers (plain_place (codes "4903.50N/07201.75W-!W5A!!X52!")) ≡ Some (pos 49058333, negsuc 72029165, 47, 45, 19))
     -- compressed
-    × (numbers (compressed_place (codes "/5L!!<*e7>7P[")) ≡ Some (pos 49500000, negsuc 72750003, 47, 62, 13))
+    × (numbers (compressed_place (codes "/5L!!<*e7>7P[!W52!")) ≡ Some (pos 49500000, negsuc 72750003, 47, 62, 13))
     -- overlay three
     × (numbers (compressed_place (codes "d5L!!<*e7>7P[")) ≡ Some (pos 49500000, negsuc 72750003, 51, 62, 13))
     -- too short
     × (compressed_place (codes "/5L!!<*e7>7P") ≡ None)
-unfolding plain_place compressed_place
-rows = (refl, refl, refl, refl, refl, refl, refl, refl, refl)
+unfolding plain_place written_of mark_after finest place_with compressed_place
+rows = (refl, refl, refl, refl, refl, refl, refl, refl, refl, refl, refl, refl, refl, refl, refl, refl, refl)

@@ -1,5 +1,8 @@
 pub mod Places
-pub mod Plain
 pub mod Compressed
+pub mod Marks
+pub mod Written
+pub mod Plain
 pub mod Either
+pub mod MarkGrammar
 pub mod Grammar

@@ -1,13 +1,17 @@
 -- The plain form of a position, `DDMM.hhN/DDDMM.hhW$` (APRS Protocol Reference 1.0.1, Lat/Long Format, Position Ambiguity).
-use Rattle.std.specs.Prelude.{ℕ, ◌+◌, ◌-◌, ◌*◌, ◌/◌, ◌==◌, ◌&&◌, ℤ, pos, neg_ℤ, Bool, true, nat_lt, List, [], ◌∷◌, length, slice_index, slice_range, Some, None, if◌then◌else◌}
+use Rattle.std.specs.Prelude.{ℕ, ◌+◌, ◌-◌, ◌*◌, ◌==◌, ◌&&◌, Bool, true, false, nat_lt, List, [], ◌∷◌, ◌++◌, length, drop, slice_index, slice_range, Some, None, if◌then◌else◌}
 use Rattle.std.specs.Char.{is_ascii_digit}
 use Rattle.std.specs.List.{fold, list_all}
 use Rattle.std.specs.declared.option.Option.{Option}
-use Rattle.std.specs.Option.{option_map}
 use Rattle.std.specs.Str.{byte}
 use Rattle.aprs_base.specs.Bytes.{is_blank}
 use Rattle.aprs_base.specs.declared.packets.Place.{Place}
-use Rattle.aprs_position.specs.Places.{is_code, is_table, place_at}
+use Rattle.aprs_position.specs.Marks.{mark_in}
+use Rattle.aprs_position.specs.Places.{is_code, is_table}
+use Rattle.aprs_position.specs.Written.{finest}
+use Rattle.aprs_position.specs.declared.marks.Mark.{Mark}
+use Rattle.aprs_position.specs.declared.written.Angle.{Angle}
+use Rattle.aprs_position.specs.declared.written.Written.{Written}
 use Rattle.aprs_base.specs.OptionSteps.{◌>>=◌}
 
 -- what a digit counts, and a blank counts as 0
@@ -29,10 +33,6 @@ hundredths_of (m ∷ n ∷ point ∷ h ∷ i ∷ []) =
     if point == byte "." && ends_in_blanks (m ∷ n ∷ h ∷ i ∷ []) && nat_lt (number (m ∷ n ∷ [])) 60 then Some (number (m ∷ n ∷ h ∷ i ∷ [])) else None
 hundredths_of _ = None
 
--- whole degrees and hundredths of minutes, in millionths of a degree: the division is whole
-abbrev pub angle : ℕ → ℕ → ℕ
-angle degrees hundredths = degrees * 1000000 + hundredths * 1000000 / 6000
-
 -- a number of digits alone
 abbrev pub whole_of : List ℕ → Option ℕ
 whole_of digits = if list_all is_ascii_digit digits then Some (number digits) else None
@@ -43,19 +43,35 @@ degrees_of (t ∷ o ∷ []) = whole_of (t ∷ o ∷ [])
 degrees_of (h ∷ t ∷ o ∷ []) = whole_of (h ∷ t ∷ o ∷ [])
 degrees_of _ = None
 
--- degrees and then minutes
-abbrev pub angle_of : List ℕ → List ℕ → Option ℕ
-angle_of degrees minutes = degrees_of degrees >>= λ d. option_map (angle d) (hundredths_of minutes)
+-- degrees and then minutes, to one side
+abbrev pub angle_of : (positive : Bool) → (degrees minutes : List ℕ) → Option Angle
+angle_of positive degrees minutes = do
+  d ← degrees_of degrees
+  h ← hundredths_of minutes
+  Some (record { positive = positive; degrees = d; hundredths = h })
 
--- the side that a letter names: one gives the angle, the other its negative
-abbrev pub toward : (plus minus letter angle : ℕ) → Option ℤ
-toward plus minus letter angle = if letter == plus then Some (pos angle) else if letter == minus then Some (neg_ℤ (pos angle)) else None
+-- whether a letter names the positive side or the other one
+abbrev pub side_of : (plus minus letter : ℕ) → Option Bool
+side_of plus minus letter = if letter == plus then Some true else if letter == minus then Some false else None
 
--- the place that a text begins with, in the plain form (Lat/Long Format)
+-- what nineteen bytes write (Lat/Long Format)
+unfoldable pub written_of : List ℕ → Option Written
+written_of text = do
+  north ← side_of (byte "N") (byte "S") (slice_index text 7)
+  lat ← angle_of north (slice_range text 0 2) (slice_range text 2 7)
+  east ← side_of (byte "E") (byte "W") (slice_index text 17)
+  lon ← angle_of east (slice_range text 9 12) (slice_range text 12 17)
+  if is_table (slice_index text 8) && is_code (slice_index text 18)
+      then Some (record { lat = lat; lon = lon; table = slice_index text 8; code = slice_index text 18; used = 19 }) else None
+
+-- whether each digit of `DDMM.hhN/DDDMM.hhW` from the minutes on is given, none left blank
+abbrev pub is_exact : List ℕ → Bool
+is_exact text = list_all is_ascii_digit (slice_range text 2 4 ++ (slice_range text 5 7 ++ (slice_range text 12 14 ++ slice_range text 15 17)))
+
+-- the mark that makes the numbers finer
+unfoldable pub mark_after : List ℕ → Option Mark
+mark_after text = if is_exact text then mark_in (drop 19 text) else None
+
+-- the place that a text begins with, in the plain form
 unfoldable pub plain_place : List ℕ → Option Place
-plain_place text = if nat_lt (length text) 19 then None else do
-  north ← angle_of (slice_range text 0 2) (slice_range text 2 7)
-  lat ← toward (byte "N") (byte "S") (slice_index text 7) north
-  east ← angle_of (slice_range text 9 12) (slice_range text 12 17)
-  lon ← toward (byte "E") (byte "W") (slice_index text 17) east
-  if is_table (slice_index text 8) && is_code (slice_index text 18) then place_at lat lon (slice_index text 8) (slice_index text 18) 19 else None
+plain_place text = if nat_lt (length text) 19 then None else written_of text >>= λ written. finest written (mark_after text)

@@ -11,7 +11,7 @@ use aprs_base::Place;
 /// Half the globe from pole to pole, and the whole of it round the equator, in the units of the form.
 const WHOLE: u32 = 68_566_680;
 
-fn is_base91(byte: u8) -> bool
+pub fn is_base91(byte: u8) -> bool
     ensures { result ≡ is_base91 byte }
 {
     matches!(byte, 33..=123)
@@ -24,7 +24,7 @@ fn all_base91(text: &[u8]) -> bool
 }
 
 /// The digit to base 91 that a byte stands for.
-fn base91_digit(byte: u8) -> u32
+pub fn base91_digit(byte: u8) -> u32
     ensures value { result ≡ byte - 33 }
     ensures below { result ≤ 222 }
 {

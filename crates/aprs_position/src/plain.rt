@@ -1,14 +1,17 @@
 //! The plain form of a position, `DDMM.hhN/DDDMM.hhW$`.
-ghost use Rattle.std.specs.Prelude.{◌≡◌, ℕ, ◌+◌, ◌*◌, ◌^◌, ◌<◌, ◌≤◌, IfSome, length};
+ghost use Rattle.std.specs.Prelude.{◌≡◌, ℕ, ◌+◌, ◌*◌, ◌<◌, ◌≤◌, IfSome, length};
 ghost use Rattle.std.specs.Char.{is_ascii_digit};
 ghost use Rattle.std.specs.List.{list_all, prefix_len};
 ghost use Rattle.aprs_base.specs.Bytes.{is_blank};
 ghost use Rattle.aprs_base.specs.declared.packets.Place.{Place};
 ghost use Rattle.aprs_position.specs.Grammar.{BeginsPlain};
-ghost use Rattle.aprs_position.specs.Places.{is_code, is_table};
-ghost use Rattle.aprs_position.specs.Plain.{angle, angle_of, degrees_of, digit_value, ends_in_blanks, hundredths_of, plain_place, toward};
+ghost use Rattle.aprs_position.specs.Marks.{IsPart};
+ghost use Rattle.aprs_position.specs.Plain.{angle_of, degrees_of, digit_value, ends_in_blanks, hundredths_of, is_exact, mark_after, plain_place, side_of, written_of};
+ghost use Rattle.aprs_position.specs.Written.{IsAngle};
 
-use crate::places::{is_code, is_table, place_at};
+use crate::marks::{Mark, find_mark};
+use crate::places::{is_code, is_table};
+use crate::written::{Angle, Written, finest};
 use aprs_base::{Place, all_digits};
 
 /// What a digit counts, and 0 for a blank.
@@ -83,36 +86,73 @@ fn read_degrees(text: &[u8]) -> Option<u32>
     all_digits(text).then_some(degrees)
 }
 
-/// An angle in millionths of a degree.
-pub fn angle(degrees: u32, hundredths: u32) -> u32
-    requires degrees { degrees < 1000 }
-    requires minutes { hundredths < 6000 }
-    ensures value { result ≡ angle degrees hundredths }
-    ensures below { result ≤ 1000000000 }
+fn read_angle(degrees: &[u8], minutes: &[u8], positive: bool) -> Option<Angle>
+    ensures value { result ≡ angle_of positive degrees.now minutes.now }
+    ensures below { IfSome result IsAngle }
 {
-    degrees * 1_000_000 + (u64::from(hundredths) * 1_000_000 / 6000) as u32
+    Some(Angle {
+        positive,
+        degrees: read_degrees(degrees)?,
+        hundredths: read_hundredths(minutes)?,
+    })
 }
 
-fn read_angle(degrees: &[u8], minutes: &[u8]) -> Option<u32>
-    ensures value { result ≡ angle_of degrees.now minutes.now }
-    ensures below { IfSome result (λ n. n ≤ 1000000000) }
+/// Whether a letter names the positive side or the other one.
+fn read_side(letter: u8, plus: u8, minus: u8) -> Option<bool>
+    ensures { result ≡ side_of plus minus letter }
 {
-    Some(angle(read_degrees(degrees)?, read_hundredths(minutes)?))
-}
-
-/// The angle that a letter gives its side: `plus` keeps it, `minus` makes it negative.
-fn toward(angle: u32, letter: u8, plus: u8, minus: u8) -> Option<i32>
-    requires { angle < 2 ^ 31 }
-    ensures { result ≡ toward plus minus letter angle }
-{
-    let angle = angle as i32;
     if letter == plus {
-        Some(angle)
+        Some(true)
     } else if letter == minus {
-        Some(-angle)
+        Some(false)
     } else {
         None
     }
+}
+
+/// What nineteen bytes write.
+#[tactic(auto, unfolding(crate::specs::Plain::written_of))]
+fn read_written(text: &[u8]) -> Option<Written>
+    requires { 19 ≤ length text.now }
+    ensures value { result ≡ written_of text.now }
+    ensures angles { IfSome result (λ w. IsAngle w.lat × IsAngle w.lon) }
+{
+    let north = read_side(text[7], b'N', b'S')?;
+    let lat = read_angle(&text[..2], &text[2..7], north)?;
+    let east = read_side(text[17], b'E', b'W')?;
+    let lon = read_angle(&text[9..12], &text[12..17], east)?;
+    if !is_table(text[8]) || !is_code(text[18]) {
+        return None;
+    }
+    Some(Written {
+        lat,
+        lon,
+        table: text[8],
+        code: text[18],
+        used: 19,
+    })
+}
+
+/// Whether no digit from the minutes on is left blank.
+fn is_exact(text: &[u8]) -> bool
+    requires { 19 ≤ length text.now }
+    ensures { result ≡ is_exact text.now }
+{
+    all_digits(&text[2..4])
+        && all_digits(&text[5..7])
+        && all_digits(&text[12..14])
+        && all_digits(&text[15..17])
+}
+
+/// The mark that makes the numbers finer.
+#[tactic(auto, unfolding(crate::specs::Plain::mark_after))]
+fn mark_after(text: &[u8]) -> Option<Mark>
+    requires { 19 ≤ length text.now }
+    ensures value { result ≡ mark_after text.now }
+    ensures below { IfSome result IsPart }
+{
+    let mark = find_mark(&text[19..])?;
+    is_exact(text).then_some(mark)
 }
 
 #[tactic(auto, unfolding(crate::specs::Plain::plain_place))]
@@ -122,17 +162,7 @@ fn parse(text: &[u8]) -> Option<Place>
     if text.len() < 19 {
         return None;
     }
-    let lat = toward(read_angle(&text[..2], &text[2..7])?, text[7], b'N', b'S')?;
-    let lon = toward(
-        read_angle(&text[9..12], &text[12..17])?,
-        text[17],
-        b'E',
-        b'W',
-    )?;
-    if !is_table(text[8]) || !is_code(text[18]) {
-        return None;
-    }
-    place_at(lat, lon, text[8], text[18], 19)
+    finest(&read_written(text)?, mark_after(text))
 }
 
 /// The place that `text` begins with, in the plain form. `None` exactly where it begins with none.

@@ -1,23 +1,27 @@
 -- What the definition reads is what the grammar writes.
 use Rattle.std.proofs.Common.{◌≡◌, ℕ, ◌+◌, ◌-◌, ◌*◌, ◌<◌, ◌≤◌, Bool, true, false, cond, not, ◌&&◌, ◌||◌, ◌⊎◌, inl, inr, ltb, leb, eqb, List, [], ◌∷◌, length, take, drop, get_or, Some, None, refl, sym, ap, subst, ◌∙◌, arith}
-use Rattle.std.specs.List.{list_all}
+use Rattle.std.specs.List.{list_all, list_any}
 use Rattle.std.specs.declared.option.Option.{Option}
 use Rattle.std.proofs.Math.Nat.{add-sub_cancel, sub-add_cancel}
 use Rattle.std.proofs.lemmas.Bool.Decides.{nat_tests}
 use Rattle.std.proofs.lemmas.Option.{same_Some}
 use Rattle.std.proofs.lemmas.Bool.{eqb-true, false≢true, le-ltb, leb-false, leb-true, lt-ltb, ltb-false, ltb-true, and_parts, cond-false, cond-true, not-false, or_cases, or_parts, and_cases}
 use Rattle.aprs_base.specs.declared.packets.Place.{Place}
-use Rattle.aprs_position.specs.Places.{is_code, is_table, place_at}
-use Rattle.aprs_position.specs.Plain.{angle}
-use Rattle.aprs_position.proofs.PlaceLemmas.{place_at_numbers, place_at_used}
+use Rattle.aprs_position.specs.MarkGrammar.{IsPlaceOf}
+use Rattle.aprs_position.specs.Places.{is_code, is_table}
+use Rattle.aprs_position.specs.Written.{finest}
+use Rattle.aprs_position.specs.declared.written.Angle.{Angle}
+use Rattle.aprs_position.specs.declared.written.Written.{Written}
+use Rattle.aprs_position.proofs.WrittenLemmas.{counted, finest_again, finest_read}
 use Rattle.aprs_base.proofs.StepLemmas.{bind_some, cond_not_some, cond_some, map_some}
 use Rattle.aprs_position.proofs.Steps.{chosen}
 use Rattle.mic_e.specs.Grammar.{IsDegrees, IsMinutes, Says, WritesMicE}
 use Rattle.mic_e.specs.Grammar.Says.{custom_blank, custom_letter, figure, plain_blank, standard_blank, standard_letter}
-use Rattle.mic_e.specs.MicE.{between, degrees_of, digit_of, from_equator, from_greenwich, is_custom, is_mark, is_set, late_digit_of, minutes_of, pair, place_of, signed}
+use Rattle.mic_e.specs.MicE.{between, degrees_of, digit_of, from_equator, from_greenwich, is_blank_letter, is_custom, is_mark, is_set, late_digit_of, mark_after, minutes_of, pair, place_of, written_of}
 
-same_value : (d e m n y z : ℕ) → d ≡ e → m ≡ n → y ≡ z → ◌≡◌ {A = Option ℕ} (Some (angle d (m * 100 + y))) (Some (angle e (n * 100 + z)))
-same_value d e m n y z de mn yz = cc
+angle_same : (positive : Bool) (d e m n y z : ℕ) → d ≡ e → m ≡ n → y ≡ z →
+    ◌≡◌ {A = Angle} (record { positive = positive; degrees = d; hundredths = m * 100 + y }) (record { positive = positive; degrees = e; hundredths = n * 100 + z })
+angle_same positive d e m n y z de mn yz = rw (de, mn, yz) refl
 
 range : (low high b : ℕ) → between low high b ≡ true → (low ≤ b) × (b ≤ high)
 range low high b h = let tests = and_parts (leb low b) (leb b high) h in (leb-true _ _ tests.0, leb-true _ _ tests.1)
@@ -125,18 +129,18 @@ minutes_again m n (inl same) = grind (arith, nat_tests)
 minutes_again m n (inr more) = grind (arith, nat_tests)
 
 -- three bytes of longitude
-record IsSent (text : List ℕ) (more value : ℕ) : Type 0 where
+record IsSent (positive : Bool) (text : List ℕ) (more : ℕ) (angle : Angle) : Type 0 where
   x : ℕ
   y : ℕ
   z : ℕ
   spelled : text ≡ (x + 28) ∷ (y + 28) ∷ (z + 28) ∷ []
   small : (x < 100) × (y < 100) × (z < 100)
-  value_is : value ≡ angle (degrees_of (x + more)) (minutes_of y * 100 + z)
+  angle_is : angle ≡ record { positive = positive; degrees = degrees_of (x + more); hundredths = minutes_of y * 100 + z }
 
-sent_read : (text : List ℕ) (more value : ℕ) → from_greenwich more text ≡ Some value → IsSent text more value
+sent_read : (positive : Bool) (text : List ℕ) (more : ℕ) (angle : Angle) → from_greenwich positive more text ≡ Some angle → IsSent positive text more angle
 unfolding from_greenwich
-sent_read (a ∷ b ∷ c ∷ []) more value h =
-    let test = cond_some (list_all (between 28 127) (a ∷ b ∷ c ∷ [])) _ value h in
+sent_read positive (a ∷ b ∷ c ∷ []) more angle h =
+    let test = cond_some (list_all (between 28 127) (a ∷ b ∷ c ∷ [])) _ angle h in
     let a_all = and_parts (between 28 127 a) (list_all (between 28 127) (b ∷ c ∷ [])) test.0 in
     let b_all = and_parts (between 28 127 b) (list_all (between 28 127) (c ∷ [])) a_all.1 in
     let c_all = and_parts (between 28 127 c) true b_all.1 in
@@ -149,26 +153,22 @@ sent_read (a ∷ b ∷ c ∷ []) more value h =
       z = c - 28;
       spelled = rw (sub-add_cancel ar.0, sub-add_cancel br.0, sub-add_cancel cr.0) refl;
       small = (omega arith, omega arith, omega arith);
-      value_is = sym (same_Some _ _ test.1);
+      angle_is = sym (same_Some _ _ test.1);
     }
-sent_read _ more value h = cc
+sent_read positive _ more angle h = cc
 
-sent_again : (x y z more degrees minutes : ℕ) → x < 100 → y < 100 → z < 100 → degrees_of (x + more) ≡ degrees → minutes_of y ≡ minutes →
-    from_greenwich more ((x + 28) ∷ (y + 28) ∷ (z + 28) ∷ []) ≡ Some (angle degrees (minutes * 100 + z))
+sent_again : (positive : Bool) (x y z more degrees minutes : ℕ) → x < 100 → y < 100 → z < 100 → degrees_of (x + more) ≡ degrees → minutes_of y ≡ minutes →
+    from_greenwich positive more ((x + 28) ∷ (y + 28) ∷ (z + 28) ∷ []) ≡ Some (record { positive = positive; degrees = degrees; hundredths = minutes * 100 + z })
 unfolding from_greenwich
-sent_again x y z more degrees minutes lx ly lz d m =
+sent_again positive x y z more degrees minutes lx ly lz d m =
     let digits : list_all (between 28 127) ((x + 28) ∷ (y + 28) ∷ (z + 28) ∷ []) ≡ true = grind (arith, nat_tests) in
     let dl : degrees_of (x + 28 - 28 + more) ≡ degrees = ap (λ n. degrees_of (n + more)) (add-sub_cancel x 28) ∙ d in
     let ml : minutes_of (y + 28 - 28) ≡ minutes = ap minutes_of (add-sub_cancel y 28) ∙ m in
-    cond-true _ _ _ digits ∙ same_value _ _ _ _ _ _ dl ml (add-sub_cancel z 28)
-
-angle_same : (value degrees minutes hundredths p r t : ℕ) → angle degrees (minutes * 100 + hundredths) ≡ value →
-    degrees ≡ p → minutes ≡ r → hundredths ≡ t → angle p (r * 100 + t) ≡ value
-angle_same value degrees minutes hundredths p r t is d m h = cc
+    cond-true _ _ _ digits ∙ ap Some (angle_same positive _ _ _ _ _ _ dl ml (add-sub_cancel z 28))
 
 latitude_again : (a b c d e f p q r s t u : ℕ) → digit_of a ≡ Some p → digit_of b ≡ Some q → digit_of c ≡ Some r →
     late_digit_of d ≡ Some s → late_digit_of e ≡ Some t → late_digit_of f ≡ Some u → r * 10 + s < 60 →
-    from_equator (a ∷ b ∷ c ∷ d ∷ e ∷ f ∷ []) ≡ Some (angle (p * 10 + q) ((r * 10 + s) * 100 + (t * 10 + u)))
+    from_equator (a ∷ b ∷ c ∷ d ∷ e ∷ f ∷ []) ≡ Some (record { positive = is_set d; degrees = p * 10 + q; hundredths = (r * 10 + s) * 100 + (t * 10 + u) })
 unfolding from_equator pair
 latitude_again a b c d e f p q r s t u ap' bq cr ds et fu below = rw (ap', bq, cr, ds, et, fu, lt-ltb _ _ below) refl
 
@@ -196,26 +196,35 @@ sent_small : (x : ℕ) (hundred : Bool) → x < 100 → x + cond hundred 100 0 <
 sent_small x true h = omega arith
 sent_small x false h = omega arith
 
+-- what is written, with equal parts
+written_same : (lat south lon east : Angle) (t table c code : ℕ) → lat ≡ south → lon ≡ east → t ≡ table → c ≡ code →
+    ◌≡◌ {A = Written} (record { lat = lat; lon = lon; table = t; code = c; used = 9 }) (record { lat = south; lon = east; table = table; code = code; used = 9 })
+written_same lat south lon east t table c code ls le tt' cc' = rw (ls, le, tt', cc') refl
+
 read_six : (a b c d e f : ℕ) (body : List ℕ) (place : Place) → place_of (a ∷ b ∷ c ∷ d ∷ e ∷ f ∷ []) body ≡ Some place →
     WritesMicE (a ∷ b ∷ c ∷ d ∷ e ∷ f ∷ []) body place
-unfolding place_of from_equator
+unfolding place_of written_of mark_after from_equator
 read_six a b c d e f body place h =
     let sized = cond_not_some (ltb (length body) 9 || not (is_mark (get_or body 0 0))) _ place h in
     let tests = or_parts (ltb (length body) 9) (not (is_mark (get_or body 0 0))) sized.0 in
-    let lat = bind_some (from_equator (a ∷ b ∷ c ∷ d ∷ e ∷ f ∷ [])) _ place sized.1 in
-    let lon = bind_some (from_greenwich (cond (is_set e) 100 0) (take 3 (drop 1 body))) _ place lat.2 in
-    let symbol = cond_some (is_code (get_or body 7 0) && is_table (get_or body 8 0)) _ place lon.2 in
+    let written = bind_some (written_of (a ∷ b ∷ c ∷ d ∷ e ∷ f ∷ []) body) _ place sized.1 in
+    let lat = bind_some (from_equator (a ∷ b ∷ c ∷ d ∷ e ∷ f ∷ [])) _ written.0 written.1 in
+    let lon = bind_some (from_greenwich (not (is_set f)) (cond (is_set e) 100 0) (take 3 (drop 1 body))) _ written.0 lat.2 in
+    let symbol = cond_some (is_code (get_or body 7 0) && is_table (get_or body 8 0)) _ written.0 lon.2 in
     let both_pass = and_parts (is_code (get_or body 7 0)) (is_table (get_or body 8 0)) symbol.0 in
-    let n = place_at_numbers (signed (is_set d) lat.0) (signed (not (is_set f)) lon.0) (get_or body 8 0) (get_or body 7 0) 9 place symbol.1 in
+    let exact = not (list_any is_blank_letter (c ∷ d ∷ e ∷ f ∷ [])) in
+    let n = finest_read exact (record { lat = lat.0; lon = lon.0; table = get_or body 8 0; code = get_or body 7 0; used = 9 }) (drop 9 body) place
+    (ap (λ w. finest w (counted exact (drop 9 body))) (same_Some _ _ symbol.1) ∙ written.2) in
     let whole = bind_some (pair (digit_of a) (digit_of b)) _ lat.0 lat.1 in
     let before = bind_some (pair (digit_of c) (late_digit_of d)) _ lat.0 whole.2 in
     let after = bind_some (pair (late_digit_of e) (late_digit_of f)) _ lat.0 before.2 in
-    let test = cond_some (ltb before.0 60) (Some (angle whole.0 (before.0 * 100 + after.0))) lat.0 after.2 in
+    let test = cond_some (ltb before.0 60) (Some (record { positive = is_set d; degrees = whole.0; hundredths = before.0 * 100 + after.0 })) lat.0 after.2 in
     let p = pair_read (digit_of a) (digit_of b) whole.0 whole.1 in
     let r = pair_read (digit_of c) (late_digit_of d) before.0 before.1 in
     let t = pair_read (late_digit_of e) (late_digit_of f) after.0 after.1 in
-    let v = sent_read (take 3 (drop 1 body)) (cond (is_set e) 100 0) lon.0 lon.1 in
+    let v = sent_read (not (is_set f)) (take 3 (drop 1 body)) (cond (is_set e) 100 0) lon.0 lon.1 in
     let cells = nine_cells body tests.0 in
+    let lat_is = sym (same_Some _ _ test.1) ∙ angle_same (is_set d) whole.0 (p.0 * 10 + p.1) before.0 (r.0 * 10 + r.1) after.0 (t.0 * 10 + t.1) p.4 r.4 t.4 in
     record {
       a = a;
       b = b;
@@ -255,11 +264,9 @@ read_six a b c d e f body place h =
       minutes_east = minutes_of v.y;
       degrees_are = degrees_read _ (sent_small v.x (is_set e) v.small.0);
       minutes_are = minutes_read v.y;
-      lat = n.lat ∙ ap (signed (is_set d)) (sym (angle_same _ _ _ _ _ _ _ (same_Some _ _ test.1) p.4 r.4 t.4));
-      lon = n.lon ∙ ap (signed (not (is_set f))) v.value_is;
       table = rw n.table both_pass.1;
       code = rw n.code both_pass.0;
-      used = n.used;
+      placed = subst (λ w. IsPlaceOf exact w (drop 9 body) place) (written_same _ _ _ _ _ _ _ _ lat_is v.angle_is (sym n.table) (sym n.code)) n;
     }
 
 -- no place comes of a base that isn't six bytes
@@ -268,15 +275,16 @@ no_place true place h = cc
 no_place false place h = cc
 
 pub place_read : (base body : List ℕ) (place : Place) → place_of base body ≡ Some place → WritesMicE base body place
-unfolding place_of from_equator
+unfolding place_of written_of from_equator
 place_read (a ∷ b ∷ c ∷ d ∷ e ∷ f ∷ []) body place h = read_six a b c d e f body place h
 place_read _ body place h = absurd (no_place _ place h)
 
-columns : (a b c d e f mark x y z s t u : ℕ) (rest : List ℕ) (place : Place) (lat lon : ℕ) → is_mark mark ≡ true →
-    from_equator (a ∷ b ∷ c ∷ d ∷ e ∷ f ∷ []) ≡ Some lat → from_greenwich (cond (is_set e) 100 0) (x ∷ y ∷ z ∷ []) ≡ Some lon →
-    is_code place.code ≡ true → is_table place.table ≡ true → place_at (signed (is_set d) lat) (signed (not (is_set f)) lon) place.table place.code 9 ≡ Some place →
+columns : (a b c d e f mark x y z s t u : ℕ) (rest : List ℕ) (place : Place) (lat lon : Angle) → is_mark mark ≡ true →
+    from_equator (a ∷ b ∷ c ∷ d ∷ e ∷ f ∷ []) ≡ Some lat → from_greenwich (not (is_set f)) (cond (is_set e) 100 0) (x ∷ y ∷ z ∷ []) ≡ Some lon →
+    is_code place.code ≡ true → is_table place.table ≡ true →
+    finest (record { lat = lat; lon = lon; table = place.table; code = place.code; used = 9 }) (counted (not (list_any is_blank_letter (c ∷ d ∷ e ∷ f ∷ []))) rest) ≡ Some place →
     place_of (a ∷ b ∷ c ∷ d ∷ e ∷ f ∷ []) (mark ∷ x ∷ y ∷ z ∷ s ∷ t ∷ u ∷ place.code ∷ place.table ∷ rest) ≡ Some place
-unfolding place_of
+unfolding place_of written_of mark_after
 columns a b c d e f mark x y z s t u rest place lat lon marked la lo code table placed =
     let long : ltb (length (mark ∷ x ∷ y ∷ z ∷ s ∷ t ∷ u ∷ place.code ∷ place.table ∷ rest)) 9 ≡ false = le-ltb _ _ (omega arith) in
     rw (long, marked, la, lo, code, table) placed
@@ -289,18 +297,15 @@ place_again base body place w =
     let ld = late_again w.d _ _ w.d_says in
     let le = late_again w.e _ _ w.e_says in
     let lf = late_again w.f _ _ w.f_says in
-    let lat = latitude_again w.a w.b w.c w.d w.e w.f _ _ _ _ _ _ la.0 lb.0 lc.0 ld.0 le.0 lf.0 w.below in
+    let six = w.a ∷ w.b ∷ w.c ∷ w.d ∷ w.e ∷ w.f ∷ [] in
     let sent = (w.x + 28) ∷ (w.y + 28) ∷ (w.z + 28) ∷ [] in
-    let south = angle (w.tens_of_degrees * 10 + w.degrees) ((w.tens * 10 + w.minutes) * 100 + (w.tenths * 10 + w.hundredths)) in
-    let east = angle w.degrees_east (w.minutes_east * 100 + w.z) in
-    let lon_sent = sent_again w.x w.y w.z (hundreds w.hundred) w.degrees_east w.minutes_east w.sent.0 w.sent.1 w.sent.2
+    let east : Angle = record { positive = not w.west; degrees = w.degrees_east; hundredths = w.minutes_east * 100 + w.z } in
+    let lat = subst (λ north. from_equator six ≡ Some (record { positive = north; degrees = w.tens_of_degrees * 10 + w.degrees; hundredths = (w.tens * 10 + w.minutes) * 100 + (w.tenths * 10 + w.hundredths) })) ld.1
+    (latitude_again w.a w.b w.c w.d w.e w.f _ _ _ _ _ _ la.0 lb.0 lc.0 ld.0 le.0 lf.0 w.below) in
+    let lon_sent = sent_again (not w.west) w.x w.y w.z (hundreds w.hundred) w.degrees_east w.minutes_east w.sent.0 w.sent.1 w.sent.2
     (degrees_again _ _ (sent_small w.x w.hundred w.sent.0) w.degrees_are) (minutes_again _ _ w.minutes_are) in
-    let lon : from_greenwich (hundreds (is_set w.e)) sent ≡ Some east =
-    subst (λ h. from_greenwich (hundreds h) sent ≡ Some east) (sym le.1) lon_sent in
-    let lat_is : place.lat ≡ signed (is_set w.d) south = w.lat ∙ ap (λ h. signed h south) (sym ld.1) in
-    let lon_is : place.lon ≡ signed (not (is_set w.f)) east = w.lon ∙ ap (λ h. signed (not h) east) (sym lf.1) in
-    let placed : place_at (signed (is_set w.d) south) (signed (not (is_set w.f)) east) place.table place.code 9 ≡ Some place =
-    subst (λ n. place_at n (signed (not (is_set w.f)) east) place.table place.code 9 ≡ Some place) lat_is
-    (subst (λ n. place_at place.lat n place.table place.code 9 ≡ Some place) lon_is (place_at_used place 9 w.used)) in
-    ap (λ b. place_of b body) w.base_is ∙ ap (λ t. place_of (w.a ∷ w.b ∷ w.c ∷ w.d ∷ w.e ∷ w.f ∷ []) t) w.body_is
-    ∙ columns w.a w.b w.c w.d w.e w.f w.mark (w.x + 28) (w.y + 28) (w.z + 28) w.s w.t w.u w.rest place south east (mark_again _ w.mark_is) lat lon w.code w.table placed
+    let lon = subst (λ west. from_greenwich (not west) (hundreds (is_set w.e)) sent ≡ Some east) (sym lf.1)
+    (subst (λ hundred. from_greenwich (not w.west) (hundreds hundred) sent ≡ Some east) (sym le.1) lon_sent) in
+    let found = finest_again (not (list_any is_blank_letter (w.c ∷ w.d ∷ w.e ∷ w.f ∷ []))) _ w.rest place w.placed in
+    ap (λ b. place_of b body) w.base_is ∙ ap (λ t. place_of six t) w.body_is
+    ∙ columns w.a w.b w.c w.d w.e w.f w.mark (w.x + 28) (w.y + 28) (w.z + 28) w.s w.t w.u w.rest place _ east (mark_again _ w.mark_is) lat lon w.code w.table found

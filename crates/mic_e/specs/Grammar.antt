@@ -1,12 +1,13 @@
 -- The form as a grammar: which destinations and bodies write which place, apart from how they are read
 -- (APRS Protocol Reference 1.0.1, Mic-E Data Format).
 use Rattle.std.specs.Prelude.{◌≡◌, ℕ, ◌+◌, ◌*◌, ◌<◌, ◌≤◌, ◌⊎◌, Bool, true, false, not, List, [], ◌∷◌, IsTrue, if◌then◌else◌}
+use Rattle.std.specs.List.{list_any}
 use Rattle.std.specs.Str.{byte}
 use Rattle.aprs_base.specs.Bytes.{base_of}
 use Rattle.aprs_base.specs.declared.packets.Place.{Place}
+use Rattle.aprs_position.specs.MarkGrammar.{IsPlaceOf}
 use Rattle.aprs_position.specs.Places.{is_code, is_table}
-use Rattle.aprs_position.specs.Plain.{angle}
-use Rattle.mic_e.specs.MicE.{signed}
+use Rattle.mic_e.specs.MicE.{is_blank_letter}
 
 -- what a byte of the destination says: a digit, where a blank counts as 0; whether the byte is for the first three places alone; its bit
 pub data Says (sent digit : ℕ) (early set : Bool) : Type 0 where
@@ -74,12 +75,16 @@ pub record WritesMicE (base body : List ℕ) (place : Place) : Type 0 where
   pub minutes_east : ℕ
   pub degrees_are : IsDegrees (x + (if hundred then 100 else 0)) degrees_east
   pub minutes_are : IsMinutes y minutes_east
-  -- the place
-  pub lat : place.lat ≡ signed north (angle (tens_of_degrees * 10 + degrees) ((tens * 10 + minutes) * 100 + (tenths * 10 + hundredths)))
-  pub lon : place.lon ≡ signed (not west) (angle degrees_east (minutes_east * 100 + z))
   pub table : IsTrue (is_table place.table)
   pub code : IsTrue (is_code place.code)
-  pub used : place.used ≡ 9
+  -- the place, which a mark may make finer where none of the four bytes of minutes and hundredths is a blank
+  pub placed : IsPlaceOf (not (list_any is_blank_letter (c ∷ d ∷ e ∷ f ∷ []))) (record {
+    lat = record { positive = north; degrees = tens_of_degrees * 10 + degrees; hundredths = (tens * 10 + minutes) * 100 + (tenths * 10 + hundredths) };
+    lon = record { positive = not west; degrees = degrees_east; hundredths = minutes_east * 100 + z };
+    table = place.table;
+    code = place.code;
+    used = 9;
+  }) rest place
 
 abbrev pub IsMicE : (dest body : List ℕ) → Place → Type 0
 IsMicE dest body place = WritesMicE (base_of dest) body place

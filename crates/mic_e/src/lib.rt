@@ -1,14 +1,16 @@
 //! Positions whose latitude stands in the destination's call.
 #![tactic(auto)]
 
-ghost use Rattle.std.specs.Prelude.{◌≡◌, ℕ, ◌+◌, ◌-◌, ◌*◌, ◌<◌, ◌≤◌, ◌^◌, IfSome, OnSome, length, not, if◌then◌else◌};
-ghost use Rattle.std.specs.List.{list_all};
+ghost use Rattle.std.specs.Prelude.{◌≡◌, ℕ, ◌-◌, ◌≤◌, IfSome, OnSome, length};
+ghost use Rattle.std.specs.List.{list_all, list_any};
 ghost use Rattle.aprs_base.specs.declared.packets.Place.{Place};
 ghost use Rattle.mic_e.specs.Grammar.{IsMicE};
-ghost use Rattle.mic_e.specs.MicE.{between, degrees_of, digit_of, is_custom, is_mark, is_set, late_digit_of, from_equator, from_greenwich, mic_e_place, minutes_of, pair, signed};
+ghost use Rattle.aprs_position.specs.Marks.{IsPart};
+ghost use Rattle.aprs_position.specs.Written.{IsAngle};
+ghost use Rattle.mic_e.specs.MicE.{between, degrees_of, digit_of, from_equator, from_greenwich, is_blank_letter, is_mark, is_set, late_digit_of, mark_after, mic_e_place, minutes_of, pair, written_of};
 
 use aprs_base::{Call, Place};
-use aprs_position::{angle, is_code, is_table, place_at};
+use aprs_position::{Angle, Mark, Written, find_mark, finest, is_code, is_table};
 
 /// The digit that a byte of the destination stands for, and 0 for a blank.
 #[tactic(auto, unfolding(crate::specs::MicE::digit_of))]
@@ -44,18 +46,6 @@ fn is_set(byte: u8) -> bool
     matches!(byte, b'P'..=b'Z')
 }
 
-/// An angle to one side or to the other.
-fn signed(angle: u32, positive: bool) -> i32
-    requires { angle < 2 ^ 31 }
-    ensures { result ≡ signed positive angle }
-{
-    if positive {
-        angle as i32
-    } else {
-        -(angle as i32)
-    }
-}
-
 /// A number of two digits.
 #[tactic(auto, unfolding(crate::specs::MicE::pair))]
 fn pair(tens: Option<u32>, ones: Option<u32>) -> Option<u32>
@@ -69,9 +59,9 @@ fn pair(tens: Option<u32>, ones: Option<u32>) -> Option<u32>
 
 /// How far from the equator the six bytes of a destination say.
 #[tactic(auto, unfolding(crate::specs::MicE::from_equator, crate::specs::MicE::pair))]
-fn read_latitude(base: &[u8]) -> Option<u32>
+fn read_latitude(base: &[u8]) -> Option<Angle>
     ensures value { result ≡ from_equator base.now }
-    ensures below { IfSome result (λ n. n ≤ 1000000000) }
+    ensures below { IfSome result IsAngle }
     ensures six { OnSome result (length base.now ≡ 6) }
 {
     let [a, b, c, d, e, f] = base else {
@@ -83,7 +73,11 @@ fn read_latitude(base: &[u8]) -> Option<u32>
     if minutes >= 60 {
         return None;
     }
-    Some(angle(degrees, minutes * 100 + hundredths))
+    Some(Angle {
+        positive: is_set(*d),
+        degrees,
+        hundredths: minutes * 100 + hundredths,
+    })
 }
 
 /// The degrees of a longitude: 180 to 189 stand for 100 to 109, and 190 to 199 for 0 to 9.
@@ -123,10 +117,10 @@ fn lowered(byte: u8) -> u32
 
 /// How far from Greenwich three bytes of the body say, where `more` degrees are added.
 #[tactic(auto, unfolding(crate::specs::MicE::from_greenwich))]
-fn read_longitude(text: &[u8], more: u32) -> Option<u32>
+fn read_longitude(text: &[u8], more: u32, positive: bool) -> Option<Angle>
     requires { more ≤ 100 }
-    ensures value { result ≡ from_greenwich more text.now }
-    ensures below { IfSome result (λ n. n ≤ 1000000000) }
+    ensures value { result ≡ from_greenwich positive more text.now }
+    ensures below { IfSome result IsAngle }
 {
     let [x, y, z] = text else {
         return None;
@@ -134,15 +128,65 @@ fn read_longitude(text: &[u8], more: u32) -> Option<u32>
     if !all_in_range(text) {
         return None;
     }
-    let degrees = wrap_degrees(lowered(*x) + more);
-    let hundredths = wrap_minutes(lowered(*y)) * 100 + lowered(*z);
-    Some(angle(degrees, hundredths))
+    Some(Angle {
+        positive,
+        degrees: wrap_degrees(lowered(*x) + more),
+        hundredths: wrap_minutes(lowered(*y)) * 100 + lowered(*z),
+    })
 }
 
 fn is_mark(byte: u8) -> bool
     ensures { result ≡ is_mark byte }
 {
     byte == b'`' || byte == b'\''
+}
+
+/// What a destination's base and a body write.
+#[tactic(auto, unfolding(crate::specs::MicE::written_of))]
+fn read_written(base: &[u8], body: &[u8]) -> Option<Written>
+    requires { 9 ≤ length body.now }
+    ensures value { result ≡ written_of base.now body.now }
+    ensures angles { IfSome result (λ w. IsAngle w.lat × IsAngle w.lon) }
+    ensures six { OnSome result (length base.now ≡ 6) }
+{
+    let lat = read_latitude(base)?;
+    let more = if is_set(base[4]) { 100 } else { 0 };
+    let lon = read_longitude(&body[1..4], more, !is_set(base[5]))?;
+    if !is_code(body[7]) || !is_table(body[8]) {
+        return None;
+    }
+    Some(Written {
+        lat,
+        lon,
+        table: body[8],
+        code: body[7],
+        used: 9,
+    })
+}
+
+fn is_blank_letter(byte: u8) -> bool
+    ensures { result ≡ is_blank_letter byte }
+{
+    matches!(byte, b'K' | b'L' | b'Z')
+}
+
+/// Whether one of the bytes stands for a blank.
+fn any_blank(text: &[u8]) -> bool
+    ensures { result ≡ list_any is_blank_letter text.now }
+{
+    text.iter().any(|byte| is_blank_letter(*byte))
+}
+
+/// The mark that makes the numbers finer, where no digit of minutes or hundredths is blank.
+#[tactic(auto, unfolding(crate::specs::MicE::mark_after))]
+fn mark_after(base: &[u8], body: &[u8]) -> Option<Mark>
+    requires base { length base.now ≡ 6 }
+    requires body { 9 ≤ length body.now }
+    ensures value { result ≡ mark_after base.now body.now }
+    ensures below { IfSome result IsPart }
+{
+    let mark = find_mark(&body[9..])?;
+    (!any_blank(&base[2..6])).then_some(mark)
 }
 
 #[tactic(auto, unfolding(crate::specs::MicE::place_of))]
@@ -153,14 +197,8 @@ fn parse(dest: &Call, body: &[u8]) -> Option<Place>
         return None;
     }
     let base = dest.base();
-    let lat = read_latitude(base)?;
-    let lon = read_longitude(&body[1..4], if is_set(base[4]) { 100 } else { 0 })?;
-    if !is_code(body[7]) || !is_table(body[8]) {
-        return None;
-    }
-    let lat = signed(lat, is_set(base[3]));
-    let lon = signed(lon, !is_set(base[5]));
-    place_at(lat, lon, body[8], body[7], 9)
+    let written = read_written(base, body)?;
+    finest(&written, mark_after(base, body))
 }
 
 /// The place of a destination and a body. `None` exactly where they aren't in the form.
