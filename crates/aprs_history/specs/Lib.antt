@@ -1,4 +1,5 @@
 pub mod Acts
+pub mod Arriving
 pub mod Counts
 pub mod Dates
 pub mod Headline

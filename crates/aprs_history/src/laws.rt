@@ -1,4 +1,5 @@
 //! What every run of the server keeps, as laws of the definitions.
+ghost use Rattle.aprs_history.specs.Arriving.{LinesArriveWhole, LinksBringWhatCame, LinksSayWhatTheyBrought};
 ghost use Rattle.aprs_history.specs.Headline.{ClosesHaveReasons, DialsAreOfUplinks, LinksEndByRules, LinksTakePrefixes, NoneHearThemselves, PeersGetSubmissions, UplinksGetSubmissions};
 ghost use Rattle.aprs_history.specs.MessageRule.{HeardIsLastAccepted, PromisesAreOwed};
 
@@ -26,4 +27,20 @@ pub fn servers_get_submissions()
     ensures uplinks { UplinksGetSubmissions }
     ensures peers { PeersGetSubmissions }
     ensures dials { DialsAreOfUplinks }
+{}
+
+/// Lines arrive whole: wherever the bytes of a text are cut, what has come of it is cut into some first lines of it, each as it
+/// is, and into all of them once nothing is left.
+pub fn lines_arrive_whole()
+    ensures { LinesArriveWhole }
+{}
+
+/// What is said on a link are the lines of what it brought, in order, and nothing else.
+pub fn links_say_what_they_brought()
+    ensures { LinksSayWhatTheyBrought }
+{}
+
+/// What a link brought is a beginning of what came for it, where nothing came before it was opened.
+pub fn links_bring_what_came()
+    ensures { LinksBringWhatCame }
 {}
