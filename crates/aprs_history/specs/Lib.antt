@@ -1,3 +1,4 @@
+pub mod Accepting
 pub mod Acts
 pub mod Arriving
 pub mod Counts

@@ -1,4 +1,5 @@
 //! What every run of the server keeps, as laws of the definitions.
+ghost use Rattle.aprs_history.specs.Accepting.{AcceptancesAreApart, NoneNamesTheServer, PacketsComeFromLines};
 ghost use Rattle.aprs_history.specs.Arriving.{LinesArriveWhole, LinksBringWhatCame, LinksSayWhatTheyBrought};
 ghost use Rattle.aprs_history.specs.Headline.{ClosesHaveReasons, DialsAreOfUplinks, LinksEndByRules, LinksTakePrefixes, NoneHearThemselves, PeersGetSubmissions, UplinksGetSubmissions};
 ghost use Rattle.aprs_history.specs.MessageRule.{HeardIsLastAccepted, PromisesAreOwed};
@@ -43,4 +44,20 @@ pub fn links_say_what_they_brought()
 /// What a link brought is a beginning of what came for it, where nothing came before it was opened.
 pub fn links_bring_what_came()
     ensures { LinksBringWhatCame }
+{}
+
+/// Each accepted packet is that of a line that was said there, with the path that the q construct rule asks for, by who said it and
+/// the logins of that moment.
+pub fn packets_come_from_lines()
+    ensures { PacketsComeFromLines }
+{}
+
+/// Two acceptances of one key are at least a window apart.
+pub fn acceptances_are_apart()
+    ensures { AcceptancesAreApart }
+{}
+
+/// No line is accepted in which the server stands after the construct.
+pub fn none_names_the_server()
+    ensures { NoneNamesTheServer }
 {}
