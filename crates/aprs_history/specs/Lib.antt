@@ -5,6 +5,7 @@ pub mod Counts
 pub mod Dates
 pub mod Headline
 pub mod History
+pub mod Joining
 pub mod Journal
 pub mod Links
 pub mod MessageRule

@@ -2,6 +2,7 @@
 ghost use Rattle.aprs_history.specs.Accepting.{AcceptancesAreApart, NoneNamesTheServer, PacketsComeFromLines};
 ghost use Rattle.aprs_history.specs.Arriving.{LinesArriveWhole, LinksBringWhatCame, LinksSayWhatTheyBrought};
 ghost use Rattle.aprs_history.specs.Headline.{ClosesHaveReasons, DialsAreOfUplinks, LinksEndByRules, LinksTakePrefixes, NoneHearThemselves, PeersGetSubmissions, UplinksGetSubmissions};
+ghost use Rattle.aprs_history.specs.Joining.{UplinkLoginsAreRead, UplinkLoginsAreVerified};
 ghost use Rattle.aprs_history.specs.MessageRule.{HeardIsLastAccepted, PromisesAreOwed};
 
 /// The bytes that each link takes are a prefix of its text, no line of its text is a packet that it sent itself, a link
@@ -60,4 +61,11 @@ pub fn acceptances_are_apart()
 /// No line is accepted in which the server stands after the construct.
 pub fn none_names_the_server()
     ensures { NoneNamesTheServer }
+{}
+
+/// The line by which the server joins an uplink is a login with its call and its code. Where the code is the call's passcode, a
+/// server of another call takes it for a verified login.
+pub fn uplink_logins_are_good()
+    ensures read { UplinkLoginsAreRead }
+    ensures verified { UplinkLoginsAreVerified }
 {}
