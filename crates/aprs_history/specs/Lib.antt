@@ -15,6 +15,7 @@ pub mod Runs
 pub mod Scenes
 pub mod Setting
 pub mod Sights
+pub mod Sound
 pub mod Stands
 pub mod Texts
 pub mod Trace

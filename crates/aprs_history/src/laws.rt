@@ -4,6 +4,7 @@ ghost use Rattle.aprs_history.specs.Arriving.{LinesArriveWhole, LinksBringWhatCa
 ghost use Rattle.aprs_history.specs.Headline.{ClosesHaveReasons, DialsAreOfUplinks, LinksEndByRules, LinksTakePrefixes, NoneHearThemselves, PeersGetSubmissions, UplinksGetSubmissions};
 ghost use Rattle.aprs_history.specs.Joining.{UplinkLoginsAreRead, UplinkLoginsAreVerified};
 ghost use Rattle.aprs_history.specs.MessageRule.{HeardIsLastAccepted, PromisesAreOwed};
+ghost use Rattle.aprs_history.specs.Sound.{OriginsAreStations, TextsAreLines};
 
 /// The bytes that each link takes are a prefix of its text, no line of its text is a packet that it sent itself, a link
 /// ends only by a rule, and it is closed only where it ended by a reason that closes.
@@ -68,4 +69,14 @@ pub fn none_names_the_server()
 pub fn uplink_logins_are_good()
     ensures read { UplinkLoginsAreRead }
     ensures verified { UplinkLoginsAreVerified }
+{}
+
+/// Where the server and its peers are stations and uplinks join from addresses, whoever says a line has the name of a station.
+pub fn origins_are_stations()
+    ensures { OriginsAreStations }
+{}
+
+/// Where that is so, each line of each text has 1 to 510 bytes, and no line end.
+pub fn texts_are_lines()
+    ensures { TextsAreLines }
 {}
