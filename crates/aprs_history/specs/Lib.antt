@@ -1,6 +1,7 @@
 pub mod Accepting
 pub mod Acts
 pub mod Arriving
+pub mod Casting
 pub mod Counts
 pub mod Dates
 pub mod Headline

@@ -1,6 +1,7 @@
 //! What every run of the server keeps, as laws of the definitions.
 ghost use Rattle.aprs_history.specs.Accepting.{AcceptancesAreApart, NoneNamesTheServer, PacketsComeFromLines};
 ghost use Rattle.aprs_history.specs.Arriving.{LinesArriveWhole, LinksBringWhatCame, LinksSayWhatTheyBrought};
+ghost use Rattle.aprs_history.specs.Casting.{SubmissionsAreCast};
 ghost use Rattle.aprs_history.specs.Headline.{ClosesHaveReasons, DialsAreOfUplinks, LinksEndByRules, LinksTakePrefixes, NoneHearThemselves, PeersGetSubmissions, UplinksGetSubmissions};
 ghost use Rattle.aprs_history.specs.Joining.{UplinkLoginsAreRead, UplinkLoginsAreVerified};
 ghost use Rattle.aprs_history.specs.MessageRule.{HeardIsLastAccepted, PromisesAreOwed};
@@ -79,4 +80,10 @@ pub fn origins_are_stations()
 /// Where that is so, each line of each text has 1 to 510 bytes, and no line end.
 pub fn texts_are_lines()
     ensures { TextsAreLines }
+{}
+
+/// In a run whose last round is finished, and in which nothing is due any more, each peer was sent the line of each packet that was
+/// submitted here, once and in order.
+pub fn submissions_are_cast()
+    ensures { SubmissionsAreCast }
 {}
