@@ -28,6 +28,7 @@ use Rattle.aprs_history.specs.Setting.{Setting}
 use Rattle.aprs_history.specs.Trace.{Trace, Said, live_links}
 use Rattle.aprs_history.specs.declared.verdicts.EndReason.TheVariants.{Silent, Unasked}
 use Rattle.aprs_history.specs.Dials.{CastSeen, casts_of}
+use Rattle.aprs_history.specs.Casting.{casts_to_peer, submitted_lines}
 use Rattle.aprs_history.specs.History.{History, trace_of}
 use Rattle.aprs_history.specs.Acts.{Casts, Closes, Dials, IsRun, Listens, Offers, due}
 use Rattle.aprs_history.specs.Runs.{told_after}
@@ -463,6 +464,15 @@ busy_is_run = ((((((((((dialling_is_run, (refl, tt)), (refl, tt)), (refl, tt)), 
 nothing_more : due for_one busy ≡ []
 unfolding due trace_of network busy busy_round unjoined dialling first_tick listening client crlf parts_of text_of via_of head_of login_of passcode_of process_of given_drops built_drops built_row rows body_of
 nothing_more = refl
+
+-- the peer was sent what was submitted
+submitted_in_order : submitted_lines (trace_of for_one busy) ≡ codes "N0CALL>APRS,TCPIP*,qAC,T2TEST:>b" ∷ codes "N0CALL>APRS,TCPIP*,qAC,T2TEST:>a" ∷ []
+unfolding trace_of network busy busy_round unjoined dialling first_tick listening client crlf parts_of text_of via_of head_of login_of passcode_of process_of given_drops built_drops built_row rows body_of
+submitted_in_order = refl
+
+cast_to_peer : casts_to_peer busy 0 ≡ (codes "N0CALL>APRS,TCPIP*,qAC,T2TEST:>b" ++ crlf) ∷ (codes "N0CALL>APRS,TCPIP*,qAC,T2TEST:>a" ++ crlf) ∷ []
+unfolding busy busy_round unjoined dialling first_tick listening
+cast_to_peer = refl
 
 -- where it listened, whom it dialled and to whom it cast are those of the setting
 abbrev told : Told

@@ -1,8 +1,12 @@
+pub mod Accepting
 pub mod Acts
+pub mod Arriving
+pub mod Casting
 pub mod Counts
 pub mod Dates
 pub mod Headline
 pub mod History
+pub mod Joining
 pub mod Journal
 pub mod Links
 pub mod MessageRule
@@ -12,6 +16,7 @@ pub mod Runs
 pub mod Scenes
 pub mod Setting
 pub mod Sights
+pub mod Sound
 pub mod Stands
 pub mod Texts
 pub mod Trace

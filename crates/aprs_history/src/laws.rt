@@ -1,6 +1,11 @@
 //! What every run of the server keeps, as laws of the definitions.
+ghost use Rattle.aprs_history.specs.Accepting.{AcceptancesAreApart, NoneNamesTheServer, PacketsComeFromLines};
+ghost use Rattle.aprs_history.specs.Arriving.{LinesArriveWhole, LinksBringWhatCame, LinksSayWhatTheyBrought};
+ghost use Rattle.aprs_history.specs.Casting.{SubmissionsAreCast};
 ghost use Rattle.aprs_history.specs.Headline.{ClosesHaveReasons, DialsAreOfUplinks, LinksEndByRules, LinksTakePrefixes, NoneHearThemselves, PeersGetSubmissions, UplinksGetSubmissions};
+ghost use Rattle.aprs_history.specs.Joining.{UplinkLoginsAreRead, UplinkLoginsAreVerified};
 ghost use Rattle.aprs_history.specs.MessageRule.{HeardIsLastAccepted, PromisesAreOwed};
+ghost use Rattle.aprs_history.specs.Sound.{OriginsAreStations, TextsAreLines};
 
 /// The bytes that each link takes are a prefix of its text, no line of its text is a packet that it sent itself, a link
 /// ends only by a rule, and it is closed only where it ended by a reason that closes.
@@ -26,4 +31,59 @@ pub fn servers_get_submissions()
     ensures uplinks { UplinksGetSubmissions }
     ensures peers { PeersGetSubmissions }
     ensures dials { DialsAreOfUplinks }
+{}
+
+/// Lines arrive whole: wherever the bytes of a text are cut, what has come of it is cut into some first lines of it, each as it
+/// is, and into all of them once nothing is left.
+pub fn lines_arrive_whole()
+    ensures { LinesArriveWhole }
+{}
+
+/// What is said on a link are the lines of what it brought, in order, and nothing else.
+pub fn links_say_what_they_brought()
+    ensures { LinksSayWhatTheyBrought }
+{}
+
+/// What a link brought is a beginning of what came for it, where nothing came before it was opened.
+pub fn links_bring_what_came()
+    ensures { LinksBringWhatCame }
+{}
+
+/// Each accepted packet is that of a line that was said there, with the path that the q construct rule asks for, by who said it and
+/// the logins of that moment.
+pub fn packets_come_from_lines()
+    ensures { PacketsComeFromLines }
+{}
+
+/// Two acceptances of one key are at least a window apart.
+pub fn acceptances_are_apart()
+    ensures { AcceptancesAreApart }
+{}
+
+/// No line is accepted in which the server stands after the construct.
+pub fn none_names_the_server()
+    ensures { NoneNamesTheServer }
+{}
+
+/// The line by which the server joins an uplink is a login with its call and its code. Where the code is the call's passcode, a
+/// server of another call takes it for a verified login.
+pub fn uplink_logins_are_good()
+    ensures read { UplinkLoginsAreRead }
+    ensures verified { UplinkLoginsAreVerified }
+{}
+
+/// Where the server and its peers are stations and uplinks join from addresses, whoever says a line has the name of a station.
+pub fn origins_are_stations()
+    ensures { OriginsAreStations }
+{}
+
+/// Where that is so, each line of each text has 1 to 510 bytes, and no line end.
+pub fn texts_are_lines()
+    ensures { TextsAreLines }
+{}
+
+/// In a run whose last round is finished, and in which nothing is due any more, each peer was sent the line of each packet that was
+/// submitted here, once and in order.
+pub fn submissions_are_cast()
+    ensures { SubmissionsAreCast }
 {}

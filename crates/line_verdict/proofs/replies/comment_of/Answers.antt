@@ -2,7 +2,7 @@ use Rattle.std.proofs.Common.{◌≡◌, subst, sym, arith}
 use Rattle.std.proofs.lemmas.Grind.{common_steps}
 use Rattle.aprs_base.specs.Bytes.{IsLine}
 use Rattle.aprs_history.specs.Dates.{comment_text}
-use Rattle.line_verdict.proofs.VerdictLemmas.{comment_is_line}
+use Rattle.aprs_history.proofs.LineLemmas.{comment_is_line}
 use Rattle.line_verdict.proofs.replies.comment_of.Goals as goal
 
 pub known_line-requires : goal.known_line-requires

@@ -1,6 +1,6 @@
 use Rattle.std.proofs.Common.{◌≤◌, ◌++◌, ap, codes, length, subst, sym, List, ℕ, ◌∙◌}
 use Rattle.aprs_base.specs.Bytes.{IsInner}
-use Rattle.line_verdict.proofs.VerdictLemmas.{term_words}
+use Rattle.aprs_history.proofs.LineLemmas.{term_words}
 use Rattle.line_verdict.proofs.replies.denied_term.Goals as goal
 
 pub denied_for-requires : goal.denied_for-requires

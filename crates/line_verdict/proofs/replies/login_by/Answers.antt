@@ -2,7 +2,7 @@ use Rattle.std.proofs.Common.{◌≡◌, subst, sym, arith}
 use Rattle.std.proofs.lemmas.Grind.{common_steps}
 use Rattle.aprs_base.specs.Bytes.{IsLine}
 use Rattle.aprs_history.specs.Texts.{login_by}
-use Rattle.line_verdict.proofs.VerdictLemmas.{login_is_line}
+use Rattle.aprs_history.proofs.LineLemmas.{login_is_line}
 use Rattle.line_verdict.proofs.replies.login_by.Goals as goal
 
 pub known_line-requires : goal.known_line-requires

@@ -2,7 +2,7 @@ use Rattle.std.proofs.Common.{◌≡◌, subst, sym, arith}
 use Rattle.std.proofs.lemmas.Grind.{common_steps}
 use Rattle.aprs_base.specs.Bytes.{IsLine}
 use Rattle.aprs_history.specs.Texts.{login_reply}
-use Rattle.line_verdict.proofs.VerdictLemmas.{reply_is_line}
+use Rattle.aprs_history.proofs.LineLemmas.{reply_is_line}
 use Rattle.line_verdict.proofs.replies.login_line.Goals as goal
 
 pub known_line-requires : goal.known_line-requires

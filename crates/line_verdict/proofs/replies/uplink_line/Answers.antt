@@ -1,6 +1,6 @@
 use Rattle.std.proofs.Common.{◌≤◌, ◌∙◌, length, subst, sym, List, ℕ}
 use Rattle.aprs_base.specs.Bytes.{IsInner}
-use Rattle.line_verdict.proofs.VerdictLemmas.{code_digits}
+use Rattle.aprs_history.proofs.LineLemmas.{code_digits}
 use Rattle.line_verdict.proofs.replies.uplink_line.Goals as goal
 
 pub login_by-requires : goal.login_by-requires

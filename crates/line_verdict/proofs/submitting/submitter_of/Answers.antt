@@ -1,5 +1,5 @@
 use Rattle.std.proofs.Common.{◌∙◌, sym}
-use Rattle.line_verdict.proofs.VerdictLemmas.{login_station}
+use Rattle.aprs_history.proofs.LineLemmas.{login_station}
 use Rattle.line_verdict.proofs.submitting.submitter_of.Goals as goal
 
 pub returns-in-Ok-3-clause-station : goal.returns-in-Ok-3-clause-station
