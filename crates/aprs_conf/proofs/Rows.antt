@@ -8,7 +8,7 @@ use Rattle.aprs_conf.specs.declared.errors.ConfWord.TheVariants as needed
 use Rattle.aprs_conf.specs.declared.types.Listen.{Listen}
 use Rattle.aprs_conf.specs.Seen.{ConfSeen}
 use Rattle.aprs_conf.specs.Words.{words_of}
-use Rattle.aprs_conf.specs.Arguments.{time_of, ip_of, code_of, port_of}
+use Rattle.aprs_conf.specs.Arguments.{time_of, window_of, ip_of, code_of, port_of}
 use Rattle.aprs_conf.specs.Grammar.{after, conf_of, group_says, listen_says, uplink_says}
 
 listen : List ℕ → PortKind → List ℕ → ℕ → Bool → Listen
@@ -28,6 +28,7 @@ plain listens = record {
   up_timeout = 15;
   client_timeout = 172800;
   max_clients = 500;
+  dupe_window = 30;
 }
 
 five_listens : conf_of (codes "ServerId T2TEST" ++ (10 ∷ [] ++ (codes "PassCode 8385" ++ (10 ∷ [] ++ (codes "Listen \"full\" fullfeed tcp 0.0.0.0 10152" ++ (10 ∷ [] ++ (codes "Listen \"filt\" igate tcp 0.0.0.0 14580" ++ (10 ∷ [] ++ (codes "Listen \"sub\" udpsubmit udp 0.0.0.0 8080" ++ (10 ∷ [] ++ (codes "Listen \"dup\" dupefeed tcp 0.0.0.0 20152" ++ (10 ∷ [] ++ (codes "Listen \"only\" clientonly tcp 0.0.0.0 14579" ++ (10 ∷ [])))))))))))))) ≡ Ok (plain (listen (codes "full") kind.Full (0 ∷ 0 ∷ 0 ∷ 0 ∷ []) 10152 false ∷ listen (codes "filt") kind.Igate (0 ∷ 0 ∷ 0 ∷ 0 ∷ []) 14580 false ∷ listen (codes "sub") kind.Submit (0 ∷ 0 ∷ 0 ∷ 0 ∷ []) 8080 false ∷ listen (codes "dup") kind.Dupe (0 ∷ 0 ∷ 0 ∷ 0 ∷ []) 20152 false ∷ listen (codes "only") kind.Only (0 ∷ 0 ∷ 0 ∷ 0 ∷ []) 14579 false ∷ []))
@@ -129,6 +130,14 @@ order : conf_of (10 ∷ [] ++ (codes "ServerId x" ++ (10 ∷ [] ++ (codes "Serve
 unfolding listen plain conf_of after
 order = refl
 
+window_twice : conf_of (codes "DupeWindow 60" ++ (10 ∷ codes "dupewindow 60")) ≡ Err (cause.Line 2 fault.Repeated)
+unfolding listen plain conf_of after
+window_twice = refl
+
+no_window : conf_of (codes "DupeWindow 301") ≡ Err (cause.Line 1 fault.BadTime)
+unfolding listen plain conf_of after
+no_window = refl
+
 repeated_first : conf_of (codes "PassCode 1" ++ (10 ∷ [] ++ (codes "PassCode" ++ (10 ∷ [])))) ≡ Err (cause.Line 2 fault.Repeated)
 unfolding listen plain conf_of after
 repeated_first = refl
@@ -179,7 +188,7 @@ unfolding listen plain conf_of after group_says listen_says uplink_says
 peer_construct = refl
 
 -- every kind of line once
-whole : conf_of (codes "ServerId T2TEST" ++ (10 ∷ codes "PASSCODE 08385" ++ (10 ∷ codes "MyAdmin \"A B\"" ++ (10 ∷ codes "MyEmail a@b" ++ (10 ∷ codes "Listen a clientonly udp :: 1" ++ (10 ∷ codes "Uplink u full tcp h.example 10152" ++ (10 ∷ codes "PeerGroup g udp 10.0.0.1 16404 T2A 10.0.0.2 16404 T2B 10.0.0.3 16405" ++ (10 ∷ codes "UpstreamTimeout 060s" ++ (10 ∷ codes "ClientTimeout 2d" ++ (10 ∷ codes "MaxClients 10000" ++ (10 ∷ codes "RunDir data x"))))))))))) ≡ Ok (record {
+whole : conf_of (codes "ServerId T2TEST" ++ (10 ∷ codes "PASSCODE 08385" ++ (10 ∷ codes "MyAdmin \"A B\"" ++ (10 ∷ codes "MyEmail a@b" ++ (10 ∷ codes "Listen a clientonly udp :: 1" ++ (10 ∷ codes "Uplink u full tcp h.example 10152" ++ (10 ∷ codes "PeerGroup g udp 10.0.0.1 16404 T2A 10.0.0.2 16404 T2B 10.0.0.3 16405" ++ (10 ∷ codes "UpstreamTimeout 060s" ++ (10 ∷ codes "ClientTimeout 2d" ++ (10 ∷ codes "MaxClients 10000" ++ (10 ∷ codes "DupeWindow 1m" ++ (10 ∷ codes "RunDir data x")))))))))))) ≡ Ok (record {
   server = codes "T2TEST";
   code = 8385;
   admin = codes "A B";
@@ -191,6 +200,7 @@ whole : conf_of (codes "ServerId T2TEST" ++ (10 ∷ codes "PASSCODE 08385" ++ (1
   up_timeout = 60;
   client_timeout = 172800;
   max_clients = 10000;
+  dupe_window = 60;
 })
 unfolding listen conf_of after group_says listen_says uplink_says
 whole = refl
@@ -217,6 +227,22 @@ unit_alone = refl
 
 large_unit : time_of (codes "1S") ≡ None
 large_unit = refl
+
+-- windows
+shortest_window : window_of (codes "10") ≡ Some 10
+shortest_window = refl
+
+longest_window : window_of (codes "5m") ≡ Some 300
+longest_window = refl
+
+window_too_short : window_of (codes "9s") ≡ None
+window_too_short = refl
+
+window_too_long : window_of (codes "301") ≡ None
+window_too_long = refl
+
+window_off_the_form : window_of (codes "60x") ≡ None
+window_off_the_form = refl
 
 -- addresses
 whole_address : ip_of (codes "255.0.10.1") ≡ Some (255 ∷ 0 ∷ 10 ∷ 1 ∷ [])

@@ -34,6 +34,7 @@ sound conf is = record {
   up_timeout = is.up_timeout;
   client_timeout = is.client_timeout;
   max_clients = is.max_clients;
+  dupe_window = is.dupe_window;
 }
 
 pub sound_result : (text : List ℕ) (d : DraftSeen) (r : Result ConfSeen ConfError) → drafted 1 empty (lines_of text) ≡ Ok d → r ≡ conf_with d → IfOk r IsSound

@@ -17,7 +17,7 @@ use Rattle.aprs_conf.specs.declared.reading.LineWord.{LineWord}
 use Rattle.aprs_conf.specs.declared.reading.LineWord.TheVariants as word
 use Rattle.aprs_conf.specs.declared.types.Listen.{Listen}
 use Rattle.aprs_conf.specs.declared.types.PeerSpec.{PeerSpec}
-use Rattle.aprs_conf.specs.Arguments.{PortRow, clients_of, code_of, host_of, ip_of, kind_of, port_of, ports, same, station_of, time_of, udp}
+use Rattle.aprs_conf.specs.Arguments.{PortRow, clients_of, code_of, host_of, ip_of, kind_of, port_of, ports, same, station_of, time_of, udp, window_of}
 use Rattle.aprs_conf.specs.Grammar.{after, at_line, at_of, conf_of, conf_with, drafted, empty, filled, five_of, group_in, group_says, is_full, is_group, is_hidden_at_most, line_says, listen_in, listen_of, listen_says, need, next, one_of, peer_of, peers_from, says, time_in_line, unless, uplink_in, uplink_says, was_said, with_listen, with_uplink, word_of}
 use Rattle.aprs_base.specs.ResultSteps.{◌>>=◌}
 use Rattle.aprs_conf.specs.Seen.{ConfSeen, DraftSeen}
@@ -25,7 +25,7 @@ use Rattle.aprs_conf.specs.Sound.{IsWithin}
 use Rattle.aprs_conf.specs.Words.{closed, has_open, is_remark, lines_of, words_of}
 use Rattle.aprs_conf.specs.Writing.{kind_name, proto_name}
 use Rattle.aprs_conf.proofs.WrittenLines.{is_feedless, lines_feedless, words_are}
-use Rattle.aprs_conf.proofs.WrittenNumbers.{IsIp, code_small, ip_within, some_where, time_within, within}
+use Rattle.aprs_conf.proofs.WrittenNumbers.{IsIp, code_small, ip_within, some_where, time_within, window_within, within}
 use Rattle.aprs_conf.proofs.WrittenWords.{is_word}
 
 -- ---- what holds of what is read
@@ -111,6 +111,7 @@ pub record WritableDraft (draft : DraftSeen) : Type 0 where
   pub up_timeout : IfSome draft.up_timeout (IsWithin 1 10000000)
   pub client_timeout : IfSome draft.client_timeout (IsWithin 1 10000000)
   pub max_clients : IfSome draft.max_clients (IsWithin 1 10000)
+  pub dupe_window : IfSome draft.dupe_window (IsWithin 10 300)
 
 pub record WritableConf (conf : ConfSeen) : Type 0 where
   pub server : WritableCall conf.server
@@ -126,6 +127,7 @@ pub record WritableConf (conf : ConfSeen) : Type 0 where
   pub up_timeout : IsWithin 1 10000000 conf.up_timeout
   pub client_timeout : IsWithin 1 10000000 conf.client_timeout
   pub max_clients : IsWithin 1 10000 conf.max_clients
+  pub dupe_window : IsWithin 10 300 conf.dupe_window
 
 -- ---- what is read is such
 
@@ -272,6 +274,8 @@ says_writable word.UpstreamTimeout draft args s words = then_ok (IsWithin 1 1000
 says_writable word.ClientTimeout draft args s words = then_ok (IsWithin 1 10000000) _ (time_in_line args) _ (time_writable args words) (λ time is. assumption)
 says_writable word.MaxClients draft args s words =
     wanted IsWord _ fault.BadCount (one_of args) _ (one_word args words) (λ text _. wanted (IsWithin 1 10000) _ fault.BadNumber (clients_of text) _ (within 1 10000 text) (λ most is. assumption))
+says_writable word.DupeWindow draft args s words =
+    wanted IsWord _ fault.BadCount (one_of args) _ (one_word args words) (λ text _. wanted (IsWithin 10 300) _ fault.BadTime (window_of text) _ (window_within text) (λ window is. assumption))
 says_writable word.Unused draft args s words = unless_ok WritableDraft (length args == 0) fault.BadCount _ (λ _. s)
 
 line_writable : (draft : DraftSeen) (words : List (List ℕ)) → WritableDraft draft → Each IsWord words → IfOk (line_says draft words) WritableDraft
@@ -316,6 +320,7 @@ empty_writable = record {
   up_timeout = tt;
   client_timeout = tt;
   max_clients = tt;
+  dupe_window = tt;
 }
 
 conf_with_writable : (draft : DraftSeen) → WritableDraft draft → IfOk (conf_with draft) WritableConf
@@ -338,6 +343,7 @@ conf_with_writable draft s =
       up_timeout = or_default (IsWithin 1 10000000) draft.up_timeout 15 s.up_timeout (omega arith, omega arith);
       client_timeout = or_default (IsWithin 1 10000000) draft.client_timeout 172800 s.client_timeout (omega arith, omega arith);
       max_clients = or_default (IsWithin 1 10000) draft.max_clients 500 s.max_clients (omega arith, omega arith);
+      dupe_window = or_default (IsWithin 10 300) draft.dupe_window 30 s.dupe_window (omega arith, omega arith);
     })))
 
 pub conf_writable : (text : List ℕ) → IfOk (conf_of text) WritableConf

@@ -22,7 +22,7 @@ use Rattle.aprs_conf.specs.Writing.{at_words, conf_lines, group_line, group_line
 use Rattle.aprs_conf.specs.Sound.{IsWithin}
 use Rattle.aprs_conf.proofs.WritableDrafts.{WritableAt, WritableConf, WritableGroup, WritableListen, WritablePeer, WritablePeers, WritableUplink, conf_writable}
 use Rattle.aprs_conf.proofs.WrittenLines.{line_read}
-use Rattle.aprs_conf.proofs.WrittenNumbers.{code_again, decimal_word, ip_again, ip_word, number_again, time_again}
+use Rattle.aprs_conf.proofs.WrittenNumbers.{code_again, decimal_word, ip_again, ip_word, number_again, time_again, window_again}
 use Rattle.aprs_conf.proofs.WrittenWords.{all_closed, is_word, none_open, words_read}
 
 -- ---- lines, as lists of words
@@ -211,7 +211,8 @@ conf_are_lines conf is =
     let code : is_word (decimal conf.code) ≡ true = decimal_word conf.code (let small = is.code in omega arith) in
     let up : is_word (decimal conf.up_timeout) ≡ true = decimal_word conf.up_timeout (let small = is.up_timeout.1 in omega arith) in
     let client : is_word (decimal conf.client_timeout) ≡ true = decimal_word conf.client_timeout (let small = is.client_timeout.1 in omega arith) in
-    let most : is_word (decimal conf.max_clients) ≡ true = decimal_word conf.max_clients (let small = is.max_clients.1 in omega arith) in (
+    let most : is_word (decimal conf.max_clients) ≡ true = decimal_word conf.max_clients (let small = is.max_clients.1 in omega arith) in
+    let window : is_word (decimal conf.dupe_window) ≡ true = decimal_word conf.dupe_window (let small = is.dupe_window.1 in omega arith) in (
       (refl, rw is.server.word refl),
       (
         (refl, rw code refl),
@@ -219,7 +220,7 @@ conf_are_lines conf is =
           (refl, rw is.admin refl),
           (
             (refl, rw is.email refl),
-            ((refl, rw up refl), ((refl, rw client refl), ((refl, rw most refl), lists_are_lines conf is))),
+            ((refl, rw up refl), ((refl, rw client refl), ((refl, rw most refl), ((refl, rw window refl), lists_are_lines conf is)))),
           ),
         ),
       ),
@@ -235,6 +236,7 @@ first_draft conf = record empty {
   up_timeout = Some conf.up_timeout;
   client_timeout = Some conf.client_timeout;
   max_clients = Some conf.max_clients;
+  dupe_window = Some conf.dupe_window;
 }
 
 abbrev whole_draft : ConfSeen → DraftSeen
@@ -248,6 +250,7 @@ first_say conf lines is =
       time_again conf.up_timeout is.up_timeout,
       time_again conf.client_timeout is.client_timeout,
       number_again 1 10000 conf.max_clients is.max_clients (omega arith),
+      window_again conf.dupe_window is.dupe_window,
     ) refl
 
 conf_says : (conf : ConfSeen) → WritableConf conf → all_say empty (conf_lines conf) ≡ Ok (whole_draft conf)

@@ -13,7 +13,7 @@ use Rattle.std.proofs.lemmas.List.Sums.{AllPass-from_list_all}
 use Rattle.std.proofs.lemmas.Str.Parse.{IsNumeralModel, digits_value_short, numerals_by_fold, tells_all_ascii_digits}
 use Rattle.std.specs.Char.{is_ascii_digit}
 use Rattle.login_pass.specs.Login.{is_code_number, number_from}
-use Rattle.aprs_conf.specs.Arguments.{are_digits, code_of, four, ip_of, is_dot, is_plain, last_in, number_within, octet_of, octets_in, same, seconds_of, time_in, time_of, unit_of}
+use Rattle.aprs_conf.specs.Arguments.{are_digits, code_of, four, ip_of, is_dot, is_plain, last_in, number_within, octet_of, if_within, octets_in, same, seconds_of, time_in, time_of, unit_of, window_of}
 use Rattle.aprs_conf.specs.Sound.{IsWithin}
 use Rattle.aprs_conf.specs.Writing.{dotted, ip_text, is_bare}
 use Rattle.aprs_conf.proofs.WrittenLines.{cond_same, without}
@@ -112,6 +112,16 @@ time_again n is =
     let last = digit_at (decimal n) (length (decimal n) - 1) (decimal_digits n small) (omega arith) in
     let value : number_from 0 (decimal n) * 1 ≡ n = omega (arith, decimal_value n small) in
     rw (no_unit _ last, value, le-leb 1 (length (decimal n)) some, decimal_digits n small, le-leb 1 n is.0, le-leb n 10000000 is.1) refl
+
+within_range : (least most : ℕ) (time : Option ℕ) → IfSome (if_within least most time) (IsWithin least most)
+within_range least most None = tt
+within_range least most (Some time) = some_where (IsWithin least most) _ time (between true least most time)
+
+pub window_within : (text : List ℕ) → IfSome (window_of text) (IsWithin 10 300)
+window_within text = within_range 10 300 (time_of text)
+
+pub window_again : (n : ℕ) → IsWithin 10 300 n → window_of (decimal n) ≡ Some n
+window_again n is = rw (time_again n (omega arith, omega arith), le-leb 10 n is.0, le-leb n 300 is.1) refl
 
 -- ---- addresses
 

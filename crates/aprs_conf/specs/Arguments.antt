@@ -61,6 +61,15 @@ time_in text (Some unit) = seconds_of unit (take (length text - 1) text)
 abbrev pub time_of : List ℕ → Option ℕ
 time_of text = time_in text (unit_of (slice_index text (length text - 1)))
 
+-- a time that is that long
+abbrev pub if_within : ℕ → ℕ → Option ℕ → Option ℕ
+if_within least most None = None
+if_within least most (Some time) = if nat_le least time && nat_le time most then Some time else None
+
+-- the seconds of a duplicate window
+abbrev pub window_of : List ℕ → Option ℕ
+window_of text = if_within 10 300 (time_of text)
+
 -- ---- addresses
 
 abbrev pub octet_of : List ℕ → Option ℕ

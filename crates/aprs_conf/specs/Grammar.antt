@@ -15,7 +15,7 @@ use Rattle.aprs_conf.specs.declared.errors.ConfFault.TheVariants as fault
 use Rattle.aprs_conf.specs.declared.errors.ConfWord.TheVariants as needed
 use Rattle.aprs_conf.specs.declared.types.Listen.{Listen}
 use Rattle.aprs_conf.specs.declared.types.PeerSpec.{PeerSpec}
-use Rattle.aprs_conf.specs.Arguments.{same, udp, tcp, station_of, code_of, clients_of, port_of, time_of, ip_of, host_of, kind_of}
+use Rattle.aprs_conf.specs.Arguments.{same, udp, tcp, station_of, code_of, clients_of, port_of, time_of, window_of, ip_of, host_of, kind_of}
 use Rattle.aprs_conf.specs.Seen.{ConfSeen, DraftSeen}
 use Rattle.aprs_conf.specs.Words.{Word, words_of, lines_of, is_remark, has_open, closed}
 
@@ -154,6 +154,12 @@ clients_say draft args = do
   most ← need fault.BadNumber (clients_of text)
   Ok (record draft { max_clients = Some most })
 
+abbrev pub window_says : DraftSeen → List (List ℕ) → Result DraftSeen ConfFault
+window_says draft args = do
+  text ← need fault.BadCount (one_of args)
+  window ← need fault.BadTime (window_of text)
+  Ok (record draft { dupe_window = Some window })
+
 -- what has no effect here has one argument or more
 abbrev pub nothing_says : DraftSeen → List (List ℕ) → Result DraftSeen ConfFault
 nothing_says draft args = unless (length args == 0) fault.BadCount (Ok draft)
@@ -169,6 +175,7 @@ says word.PeerGroup draft args = group_says draft args
 says word.UpstreamTimeout draft args = timeout_says (λ time. record draft { up_timeout = Some time }) args
 says word.ClientTimeout draft args = timeout_says (λ time. record draft { client_timeout = Some time }) args
 says word.MaxClients draft args = clients_say draft args
+says word.DupeWindow draft args = window_says draft args
 says word.Unused draft args = nothing_says draft args
 
 -- ---- a line
@@ -193,6 +200,7 @@ line_words =
     ∷ word_row (codes "UpstreamTimeout") word.UpstreamTimeout
     ∷ word_row (codes "ClientTimeout") word.ClientTimeout
     ∷ word_row (codes "MaxClients") word.MaxClients
+    ∷ word_row (codes "DupeWindow") word.DupeWindow
     ∷ []
 
 -- those without effect here
@@ -219,6 +227,7 @@ was_said word.PeerGroup draft = is_some draft.group
 was_said word.UpstreamTimeout draft = is_some draft.up_timeout
 was_said word.ClientTimeout draft = is_some draft.client_timeout
 was_said word.MaxClients draft = is_some draft.max_clients
+was_said word.DupeWindow draft = is_some draft.dupe_window
 was_said word.Listen draft = false
 was_said word.Uplink draft = false
 was_said word.Unused draft = false
@@ -253,9 +262,9 @@ drafted n draft [] = Ok draft
 drafted n draft (line ∷ lines) = at_line n (after draft line) >>= λ more. drafted (next n) more lines
 
 abbrev pub empty : DraftSeen
-empty = record { server = None; code = None; admin = None; email = None; listens = []; uplinks = []; group = None; peers = []; up_timeout = None; client_timeout = None; max_clients = None }
+empty = record { server = None; code = None; admin = None; email = None; listens = []; uplinks = []; group = None; peers = []; up_timeout = None; client_timeout = None; max_clients = None; dupe_window = None }
 
--- the configuration of a draft: 15 seconds, 48 hours and 500 clients, where the lines say nothing else
+-- the configuration of a draft: 15 seconds, 48 hours, 500 clients and a window of 30 seconds, where the lines say nothing else
 abbrev pub filled : DraftSeen → List ℕ → ℕ → ConfSeen
 filled draft server code = record {
   server = server;
@@ -269,6 +278,7 @@ filled draft server code = record {
   up_timeout = unwrap_or draft.up_timeout 15;
   client_timeout = unwrap_or draft.client_timeout 172800;
   max_clients = unwrap_or draft.max_clients 500;
+  dupe_window = unwrap_or draft.dupe_window 30;
 }
 
 -- where no required word is missing

@@ -17,6 +17,7 @@ pub record ConfSeen : Type 0 where
   pub up_timeout : ℕ
   pub client_timeout : ℕ
   pub max_clients : ℕ
+  pub dupe_window : ℕ
 
 -- what the lines so far have said
 pub record DraftSeen : Type 0 where
@@ -31,3 +32,4 @@ pub record DraftSeen : Type 0 where
   pub up_timeout : Option ℕ
   pub client_timeout : Option ℕ
   pub max_clients : Option ℕ
+  pub dupe_window : Option ℕ

@@ -23,3 +23,4 @@ pub record IsSound (conf : ConfSeen) : Type 0 where
   pub up_timeout : IsWithin 1 10000000 conf.up_timeout
   pub client_timeout : IsWithin 1 10000000 conf.client_timeout
   pub max_clients : IsWithin 1 10000 conf.max_clients
+  pub dupe_window : IsWithin 10 300 conf.dupe_window

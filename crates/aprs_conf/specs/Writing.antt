@@ -95,6 +95,7 @@ limit_lines conf =
     (codes "UpstreamTimeout" ∷ decimal conf.up_timeout ∷ [])
     ∷ (codes "ClientTimeout" ∷ decimal conf.client_timeout ∷ [])
     ∷ (codes "MaxClients" ∷ decimal conf.max_clients ∷ [])
+    ∷ (codes "DupeWindow" ∷ decimal conf.dupe_window ∷ [])
     ∷ []
 
 abbrev pub list_lines : ConfSeen → List (List (List ℕ))

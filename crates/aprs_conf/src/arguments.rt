@@ -4,7 +4,7 @@ ghost use Rattle.std.specs.Char.{is_ascii_digit};
 ghost use Rattle.std.specs.List.{list_all, slice_split};
 ghost use Rattle.std.specs.Option.{option_map};
 ghost use Rattle.login_pass.specs.Login.{number_from};
-ghost use Rattle.aprs_conf.specs.Arguments.{clients_of, four, host_of, ip_of, is_dot, is_plain, kind_of, last_in, octet_of, octets_in, port_of, same, seconds_of, station_of, time_of};
+ghost use Rattle.aprs_conf.specs.Arguments.{clients_of, four, host_of, ip_of, is_dot, is_plain, kind_of, last_in, octet_of, octets_in, port_of, same, seconds_of, station_of, time_of, window_of};
 
 use aprs_base::{Call, PortKind, all_digits, first_place};
 use arrayvec::ArrayVec;
@@ -107,6 +107,18 @@ pub fn time(text: &[u8]) -> Option<u32>
         [digits @ .., b'h'] => seconds(digits, 3_600),
         [digits @ .., b'd'] => seconds(digits, 86_400),
         _ => seconds(text, 1),
+    }
+}
+
+/// The seconds of a duplicate window, 10 to 300.
+pub fn window(text: &[u8]) -> Option<u32>
+    ensures { result ≡ window_of text.now }
+{
+    let seconds = time(text)?;
+    if seconds < 10 || seconds > 300 {
+        None
+    } else {
+        Some(seconds)
     }
 }
 

@@ -1,12 +1,12 @@
 //! What the lines so far have said, and what each kind of line adds.
 ghost use Rattle.std.specs.Prelude.{◌≡◌, Some, ◌<◌, ◌∷◌, ◌++◌, List, Ok, Err, IfOk, MatchResult, [], length};
-ghost use Rattle.aprs_conf.specs.Grammar.{admin_says, at_of, clients_say, code_says, email_says, empty, group_in, group_says, is_group, listen_in, listen_says, nothing_says, peer_of, peers_from, server_says, time_in_line, timeout_says, uplink_in, uplink_says};
+ghost use Rattle.aprs_conf.specs.Grammar.{admin_says, at_of, clients_say, code_says, email_says, empty, group_in, group_says, is_group, listen_in, listen_says, nothing_says, peer_of, peers_from, server_says, time_in_line, timeout_says, uplink_in, uplink_says, window_says};
 ghost use Rattle.aprs_conf.specs.declared.types.PeerSpec.{PeerSpec};
 ghost use Rattle.aprs_conf.specs.Seen.{DraftSeen};
 ghost use Rattle.aprs_conf.specs.Reading.{Becomes, BecomesUnless, Fails};
 ghost use Rattle.aprs_conf.specs.Words.{arguments_of};
 
-use crate::arguments::{clients, host, ip, is_pair, kind, port, station, time};
+use crate::arguments::{clients, host, ip, is_pair, kind, port, station, time, window};
 use crate::errors::{ConfFault, LineError};
 use crate::types::{Listen, PeerSpec};
 use crate::words::{count_arguments, five, four, next_argument, one};
@@ -33,6 +33,7 @@ pub struct Draft {
     pub up_timeout: Option<u32>,
     pub client_timeout: Option<u32>,
     pub max_clients: Option<u32>,
+    pub dupe_window: Option<u32>,
 }
 
 impl Model for Draft {
@@ -40,7 +41,7 @@ impl Model for Draft {
 
     ghost Value = { DraftSeen };
 
-    ghost view = { λ d. record { server = d.server; code = d.code; admin = d.admin; email = d.email; listens = d.listens.items; uplinks = d.uplinks.items; group = d.group; peers = d.peers.items; up_timeout = d.up_timeout; client_timeout = d.client_timeout; max_clients = d.max_clients } };
+    ghost view = { λ d. record { server = d.server; code = d.code; admin = d.admin; email = d.email; listens = d.listens.items; uplinks = d.uplinks.items; group = d.group; peers = d.peers.items; up_timeout = d.up_timeout; client_timeout = d.client_timeout; max_clients = d.max_clients; dupe_window = d.dupe_window } };
 }
 
 impl Draft {
@@ -60,6 +61,7 @@ impl Draft {
             up_timeout: None,
             client_timeout: None,
             max_clients: None,
+            dupe_window: None,
         }
     }
 }
@@ -124,6 +126,14 @@ pub fn add_max_clients(draft: &mut Draft, args: &[u8]) -> Result<(), LineError>
     ensures { BecomesUnless result draft.new (clients_say draft.old (arguments_of args.now)) }
 {
     draft.max_clients = Some(clients(one(args)?).ok_or(ConfFault::BadNumber)?);
+    Ok(())
+}
+
+/// `DupeWindow TIME`
+pub fn add_dupe_window(draft: &mut Draft, args: &[u8]) -> Result<(), LineError>
+    ensures { BecomesUnless result draft.new (window_says draft.old (arguments_of args.now)) }
+{
+    draft.dupe_window = Some(window(one(args)?).ok_or(ConfFault::BadTime)?);
     Ok(())
 }
 

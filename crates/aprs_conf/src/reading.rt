@@ -9,8 +9,8 @@ ghost use Rattle.aprs_conf.specs.Words.{arguments_of, lines_of};
 ghost use Rattle.login_pass.specs.Login.{is_keyword};
 
 use crate::draft::{
-    Draft, add_admin, add_client_timeout, add_code, add_email, add_group, add_listen,
-    add_max_clients, add_server, add_up_timeout, add_uplink, expect_argument,
+    Draft, add_admin, add_client_timeout, add_code, add_dupe_window, add_email, add_group,
+    add_listen, add_max_clients, add_server, add_up_timeout, add_uplink, expect_argument,
 };
 use crate::errors::{ConfError, ConfFault, ConfWord, LineError};
 use crate::types::Conf;
@@ -31,6 +31,7 @@ pub enum LineWord {
     UpstreamTimeout,
     ClientTimeout,
     MaxClients,
+    DupeWindow,
     Unused,
 }
 
@@ -76,6 +77,8 @@ fn line_word(text: &[u8]) -> Option<LineWord>
         Some(LineWord::ClientTimeout)
     } else if is_name(b"MaxClients", text) {
         Some(LineWord::MaxClients)
+    } else if is_name(b"DupeWindow", text) {
+        Some(LineWord::DupeWindow)
     } else if is_unused(text) {
         Some(LineWord::Unused)
     } else {
@@ -96,6 +99,7 @@ fn was_said(word: LineWord, draft: &Draft) -> bool
         LineWord::UpstreamTimeout => draft.up_timeout.is_some(),
         LineWord::ClientTimeout => draft.client_timeout.is_some(),
         LineWord::MaxClients => draft.max_clients.is_some(),
+        LineWord::DupeWindow => draft.dupe_window.is_some(),
         LineWord::Listen | LineWord::Uplink | LineWord::Unused => false,
     }
 }
@@ -115,6 +119,7 @@ fn add(alloc: Global, word: LineWord, draft: &mut Draft, args: &[u8]) -> Result<
         LineWord::UpstreamTimeout => add_up_timeout(draft, args),
         LineWord::ClientTimeout => add_client_timeout(draft, args),
         LineWord::MaxClients => add_max_clients(draft, args),
+        LineWord::DupeWindow => add_dupe_window(draft, args),
         LineWord::Unused => Ok(expect_argument(args)?),
     }
 }
@@ -206,6 +211,7 @@ fn finish(alloc: Global, draft: Draft) -> Result<Conf, ConfError>
         up_timeout: draft.up_timeout.unwrap_or(15),
         client_timeout: draft.client_timeout.unwrap_or(172_800),
         max_clients: draft.max_clients.unwrap_or(500),
+        dupe_window: draft.dupe_window.unwrap_or(30),
     })
 }
 

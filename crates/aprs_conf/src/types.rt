@@ -39,6 +39,8 @@ pub struct Conf {
     pub client_timeout: u32,
     /// How many clients there may be, 1 to 10,000.
     pub max_clients: u32,
+    /// For how long a packet is a duplicate of one that was accepted, 10 to 300 seconds.
+    pub dupe_window: u32,
 }
 
 impl Model for Conf {
@@ -46,5 +48,5 @@ impl Model for Conf {
 
     ghost Value = { ConfSeen };
 
-    ghost view = { λ c. record { server = c.server; code = c.code; admin = c.admin; email = c.email; listens = c.listens.items; uplinks = c.uplinks.items; group = c.group; peers = c.peers.items; up_timeout = c.up_timeout; client_timeout = c.client_timeout; max_clients = c.max_clients } };
+    ghost view = { λ c. record { server = c.server; code = c.code; admin = c.admin; email = c.email; listens = c.listens.items; uplinks = c.uplinks.items; group = c.group; peers = c.peers.items; up_timeout = c.up_timeout; client_timeout = c.client_timeout; max_clients = c.max_clients; dupe_window = c.dupe_window } };
 }

@@ -231,7 +231,8 @@ impl ConfText {
     {
         self.number_line(b"UpstreamTimeout", conf.up_timeout)?;
         self.number_line(b"ClientTimeout", conf.client_timeout)?;
-        self.number_line(b"MaxClients", conf.max_clients)
+        self.number_line(b"MaxClients", conf.max_clients)?;
+        self.number_line(b"DupeWindow", conf.dupe_window)
     }
 
     fn lists(&mut self, conf: &Conf) -> Result<(), AllocError>

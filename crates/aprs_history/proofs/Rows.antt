@@ -39,6 +39,7 @@ server_on listens = record {
   up_timeout = 15;
   client_timeout = 172800;
   max_clients = 500;
+  window = 30;
 }
 
 abbrev pub listen : PortKind → ℕ → ListenSpec
@@ -146,11 +147,11 @@ link_of login verified port others = record {
   server = codes "T2TEST";
   speaker = Visitor port (Some (record { call = login; verified = verified }));
   others = others;
-  copies = is_duplicate 1000 [];
+  copies = is_duplicate 30 1000 [];
 }
 
 abbrev pub stranger_on : PortKind → Scene
-stranger_on port = record { server = codes "T2TEST"; speaker = Visitor port None; others = []; copies = is_duplicate 1000 [] }
+stranger_on port = record { server = codes "T2TEST"; speaker = Visitor port None; others = []; copies = is_duplicate 30 1000 [] }
 
 abbrev pub stranger : Scene
 stranger = stranger_on kind.Full
@@ -226,10 +227,13 @@ shown_again (Refused (refusal.Duplicate parts line)) = Some line
 shown_again verdict = None
 
 -- the verdict on a line, some seconds after the packet of the same link was accepted
-abbrev later_on : ℕ → List ℕ → Verdict
-later_on seconds text =
+abbrev later_within : (window seconds : ℕ) → List ℕ → Verdict
+later_within window seconds text =
     let first = link_of (codes "N0CALL") true kind.Full [] in
-    verdict_on (record first { copies = is_duplicate (1000 + seconds) (accepted_by (source.Link 1) 1000 (verdict_on first (codes "N0CALL>APRS,WIDE1-1:>hi"))) }) text
+    verdict_on (record first { copies = is_duplicate window (1000 + seconds) (accepted_by (source.Link 1) 1000 (verdict_on first (codes "N0CALL>APRS,WIDE1-1:>hi"))) }) text
+
+abbrev later_on : ℕ → List ℕ → Verdict
+later_on seconds text = later_within 30 seconds text
 
 again_by_another_path : shown_again (later_on 5 (codes "N0CALL>APRS,WIDE2-2:>hi")) ≡ Some (codes "N0CALL>APRS,TCPIP*,qAC,T2TEST:>hi")
 unfolding parts_of text_of via_of head_of process_of given_drops built_drops built_row rows
@@ -242,6 +246,15 @@ again_after_29_seconds = refl
 again_after_30_seconds : sent_on (later_on 30 (codes "N0CALL>APRS,WIDE1-1:>hi")) ≡ Some (codes "N0CALL>APRS,TCPIP*,qAC,T2TEST:>hi")
 unfolding parts_of text_of via_of head_of process_of given_drops built_drops built_row rows
 again_after_30_seconds = refl
+
+-- a window of a minute
+again_after_59_seconds : shown_again (later_within 60 59 (codes "N0CALL>APRS,WIDE1-1:>hi")) ≡ Some (codes "N0CALL>APRS,TCPIP*,qAC,T2TEST:>hi")
+unfolding parts_of text_of via_of head_of process_of given_drops built_drops built_row rows
+again_after_59_seconds = refl
+
+again_after_a_minute : sent_on (later_within 60 60 (codes "N0CALL>APRS,WIDE1-1:>hi")) ≡ Some (codes "N0CALL>APRS,TCPIP*,qAC,T2TEST:>hi")
+unfolding parts_of text_of via_of head_of process_of given_drops built_drops built_row rows
+again_after_a_minute = refl
 
 again_with_an_ssid : shown_again (later_on 5 (codes "N0CALL>APRS-4,WIDE1-1:>hi")) ≡ Some (codes "N0CALL>APRS-4,TCPIP*,qAC,T2TEST:>hi")
 unfolding parts_of text_of via_of head_of process_of given_drops built_drops built_row rows

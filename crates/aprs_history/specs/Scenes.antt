@@ -63,7 +63,7 @@ scene_of setting trace link = record {
   server = setting.server;
   speaker = speaker_of (opening_of trace link) (session_of trace link);
   others = others_of trace link;
-  copies = is_duplicate (moment_of trace) (accepted_of trace);
+  copies = is_duplicate setting.window (moment_of trace) (accepted_of trace);
 }
 
 -- what a line of a datagram meets
@@ -72,5 +72,5 @@ datagram_scene setting origin trace = record {
   server = setting.server;
   speaker = Carrier origin;
   others = logins_of trace (live_links trace);
-  copies = is_duplicate (moment_of trace) (accepted_of trace);
+  copies = is_duplicate setting.window (moment_of trace) (accepted_of trace);
 }

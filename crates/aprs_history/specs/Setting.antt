@@ -23,6 +23,8 @@ pub record Setting : Type 0 where
   pub up_timeout : ℕ
   pub client_timeout : ℕ
   pub max_clients : ℕ
+  -- for how long a packet is a duplicate of one that was accepted
+  pub window : ℕ
 
 abbrev pub kind_of_spec : Option ListenSpec → Option PortKind
 kind_of_spec None = None

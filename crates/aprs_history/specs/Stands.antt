@@ -92,9 +92,9 @@ link_seen setting trace link = record {
 abbrev pub TookNoMore : Setting → Trace → Type 0
 TookNoMore setting trace = (link : ℕ) → taken_by trace link ≤ length (text_bytes (lines_of setting trace link))
 
--- the keys and moments of the packets that were accepted less than 30 seconds before, in the order in which they came
-abbrev pub window_of : Trace → WindowSeen
-window_of trace = record { pairs = recalled 30 (moment_of trace) (accepted_of trace); seconds = 30 }
+-- the keys and moments of the packets that were accepted less than the window's seconds before, in the order in which they came
+abbrev pub window_of : Setting → Trace → WindowSeen
+window_of setting trace = record { pairs = recalled setting.window (moment_of trace) (accepted_of trace); seconds = setting.window }
 
 -- when a link last heard a call, at most three hours before
 abbrev pub kept_hearing : Trace → ℕ → List ℕ → Option ℕ
@@ -113,8 +113,8 @@ pub record Remembers (table : HeardSeen) (trace : Trace) : Type 0 where
   pub promised : (link : ℕ) (sender : List ℕ) → promised_at table link sender ≡ (if is_live trace link then kept_promise trace link sender else None)
 
 -- the tables have what the accepted packets told, as far as that still counts, and nothing else
-pub record Keeps (lately : WindowSeen) (sights : StationsSeen) (routes : HeardSeen) (trace : Trace) : Type 0 where
-  pub window : lately ≡ window_of trace
+pub record Keeps (setting : Setting) (lately : WindowSeen) (sights : StationsSeen) (routes : HeardSeen) (trace : Trace) : Type 0 where
+  pub window : lately ≡ window_of setting trace
   pub stations : HasExactly (moment_of trace) sights (accepted_of trace)
   pub heard : Remembers routes trace
 
@@ -129,7 +129,7 @@ pub record Follows (setting : Setting) (core : CoreSeen) (trace : Trace) : Type 
   pub turned : core.turned ≡ turned_links trace
   pub closing : core.closing ≡ closed_links trace
   pub links : core.links ≡ map (link_seen setting trace) (served_links trace)
-  pub tables : Keeps core.window core.stations core.heard trace
+  pub tables : Keeps setting core.window core.stations core.heard trace
   pub took : TookNoMore setting trace
   pub totals : core.totals ≡ totals_of setting trace
 

@@ -124,12 +124,12 @@ abbrev pub read_and_routed : List ℕ → Origin → List (List ℕ) → Result 
 read_and_routed server from others (Err fault) = Err (refusal.Packet fault)
 read_and_routed server from others (Ok parts) = routed (process_of parts from server others)
 
--- a packet with this key was accepted less than 30 seconds before
-abbrev pub is_repeat : ℕ → Key → PacketSeen → Bool
-is_repeat now key packet = nat_lt (now - packet.moment) 30 && is_same_key key (key_of packet.parts)
+-- a packet with this key was accepted less than so many seconds before
+abbrev pub is_repeat : ℕ → ℕ → Key → PacketSeen → Bool
+is_repeat seconds now key packet = nat_lt (now - packet.moment) seconds && is_same_key key (key_of packet.parts)
 
-abbrev pub is_duplicate : ℕ → List PacketSeen → Parts → Bool
-is_duplicate now accepted parts = list_any (is_repeat now (key_of parts)) accepted
+abbrev pub is_duplicate : ℕ → ℕ → List PacketSeen → Parts → Bool
+is_duplicate seconds now accepted parts = list_any (is_repeat seconds now (key_of parts)) accepted
 
 abbrev pub packet_verdict : (copies : Parts → Bool) → Result Parts Refusal → Verdict
 packet_verdict copies (Err why) = Refused why

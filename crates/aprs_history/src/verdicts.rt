@@ -72,8 +72,8 @@ pub enum Refusal {
     Stranger,
     /// The q construct rule drops the packet, or a login that isn't verified its datagram.
     Path(QDrop),
-    /// The same packet was accepted less than 30 seconds before. With it the packet's parts and its line as they would be
-    /// sent on.
+    /// The same packet was accepted less than the window's seconds before. With it the packet's parts and its line as they
+    /// would be sent on.
     Duplicate(Parts, Line),
 }
 

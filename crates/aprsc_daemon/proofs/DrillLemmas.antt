@@ -165,6 +165,7 @@ drill_conf = record {
   up_timeout = 15;
   client_timeout = 172800;
   max_clients = 1000;
+  dupe_window = 30;
 }
 
 pub drill_conf_reads : conf_of (codes "ServerId DRILL\nPassCode 13052\nMaxClients 1000\nListen \"full\" fullfeed tcp 0.0.0.0 1\nListen \"igate\" igate tcp 0.0.0.0 2\n") ≡ Ok drill_conf

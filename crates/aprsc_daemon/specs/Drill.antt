@@ -32,6 +32,7 @@ drill_setting = record {
   up_timeout = 15;
   client_timeout = 172800;
   max_clients = 1000;
+  window = 30;
 }
 
 -- every offer was taken whole

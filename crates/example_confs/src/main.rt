@@ -26,8 +26,8 @@ fn told(alloc: Global, conf: &Conf) -> Result<String, AllocError> {
     let uplinks = conf.uplinks.len();
     let peers = conf.peers.len();
     format!(in alloc;
-        "listens {listens}, uplinks {uplinks}, peers {peers}, uplink timeout {} s, clients {}",
-        conf.up_timeout, conf.max_clients
+        "listens {listens}, uplinks {uplinks}, peers {peers}, uplink timeout {} s, clients {}, window {} s",
+        conf.up_timeout, conf.max_clients, conf.dupe_window
     )
 }
 

@@ -74,6 +74,7 @@ walks_begun core t links heard reach turned closing walks is forgotten reached n
     record {
       follows = subst (λ seen. Follows s seen (begin_round t)) (sym same) (follows_gone s fresh (RoundBegan ∷ t) began walks.going);
       going = going_after (λ k. FoundGone) (λ k. refl) (gone_links (RoundBegan ∷ t)) (RoundBegan ∷ t) ∙ walks.going;
+      lasts = walks.lasts;
     }
 
 -- the logins of others, as they are kept and as the trace has them
@@ -121,13 +122,13 @@ module _ (core : CoreMeaning) (t : Trace) (walks : Walks core t) where
   others_now number = ap (others_at number) live_now ∙ others_seen (setting_of core.conf) t number (live_links t)
 
   -- the window has the copies that the search of all accepted packets finds
-  copies_same : (parts : Parts) → has_copy core.seen.moment core.seen.window parts ≡ is_duplicate (moment_of t) (accepted_of t) parts
+  copies_same : (parts : Parts) → has_copy core.seen.moment core.seen.window parts ≡ is_duplicate core.conf.dupe_window (moment_of t) (accepted_of t) parts
   copies_same parts =
       ap (λ now. has_copy now core.seen.window parts) walks.follows.moment
       ∙ ap (λ window. has_copy (moment_of t) window parts) walks.follows.tables.window
-      ∙ seen_at-recalled (moment_of t) parts (accepted_of t) (window_of t) refl
+      ∙ seen_at-recalled (moment_of t) parts (accepted_of t) (window_of (setting_of core.conf) t) refl
 
-  copies_now : has_copy core.seen.moment core.seen.window ≡ is_duplicate (moment_of t) (accepted_of t)
+  copies_now : has_copy core.seen.moment core.seen.window ≡ is_duplicate core.conf.dupe_window (moment_of t) (accepted_of t)
   copies_now = λ j parts. copies_same parts j
 
   -- a line of a link that lives meets what the trace says
@@ -157,6 +158,7 @@ module _ (core : CoreMeaning) (t : Trace) (walks : Walks core t) where
     follows = subst (λ ls. Follows (setting_of core.conf) (with_links ls core.seen) (Roomed number ∷ t)) (sym new)
         (follows_roomed (setting_of core.conf) core.seen t walks.follows number);
     going = walks.going;
+    lasts = walks.lasts;
   }
 
   pub walks_brought : (number : ℕ) (bytes : List ℕ) (links : List LinkSeen) (reach : ReachSeen) → is_live t number ≡ true
@@ -172,6 +174,7 @@ module _ (core : CoreMeaning) (t : Trace) (walks : Walks core t) where
             (subst (λ r. Follows (setting_of core.conf) (record core.seen { links = map (at_link number (with_bytes core.seen.moment (held_after (brought_by t number ++ bytes)))) core.seen.links; reach = r }) (Brought number bytes ∷ t)) (sym heard)
             (follows_brought (setting_of core.conf) core.seen t walks.follows number bytes));
         going = walks.going;
+        lasts = walks.lasts;
       }
 
   pub walks_ended : (number : ℕ) (links : List LinkSeen) (heard : HeardSeen) (reach : ReachSeen) → is_live t number ≡ true
@@ -187,6 +190,7 @@ module _ (core : CoreMeaning) (t : Trace) (walks : Walks core t) where
       record {
         follows = subst (λ seen. Follows (setting_of core.conf) seen (Ended number ByPeer ∷ t)) (sym same) (follows_ended (setting_of core.conf) core.seen t walks.follows walks.going number);
         going = append-nil (stopped_links t) ∙ walks.going;
+        lasts = walks.lasts;
       }
 
   pub walks_looked : (reach : ReachSeen)
@@ -195,6 +199,7 @@ module _ (core : CoreMeaning) (t : Trace) (walks : Walks core t) where
   walks_looked reach is = record {
     follows = subst (λ r. Follows (setting_of core.conf) (with_reach r core.seen) (Looked ∷ t)) (sym is) (follows_looked (setting_of core.conf) core.seen t walks.follows);
     going = walks.going;
+    lasts = walks.lasts;
   }
 
   pub walks_unjoined : (uplink : ℕ) (reach : ReachSeen) → reach ≡ record core.seen.reach { uplinks = uplinks_after (up.Unjoined uplink) core.seen.moment core.seen.reach.uplinks }
@@ -202,6 +207,7 @@ module _ (core : CoreMeaning) (t : Trace) (walks : Walks core t) where
   walks_unjoined uplink reach is = record {
     follows = subst (λ r. Follows (setting_of core.conf) (with_reach r core.seen) (Unjoined uplink ∷ t)) (sym is) (follows_unjoined (setting_of core.conf) core.seen t walks.follows uplink);
     going = walks.going;
+    lasts = walks.lasts;
   }
 
 -- a line that a link said
@@ -211,7 +217,7 @@ walks_heard core t walks number cut live =
     let verdict = verdict_of (scene_at core number) cut in
     let same : verdict ≡ verdict_of (scene_of (setting_of core.conf) t number) cut = ap (λ scene. verdict_of scene cut) (scene_now core t walks number live) in
     subst (λ judged. Walks (with_verdict (source.Link number) verdict core) (Said (source.Link number) cut judged ∷ t)) same
-    (record { follows = follows_said (setting_of core.conf) core.seen t walks.follows walks.going (source.Link number) cut verdict live; going = walks.going })
+    (record { follows = follows_said (setting_of core.conf) core.seen t walks.follows walks.going walks.lasts (source.Link number) cut verdict live; going = walks.going; lasts = walks.lasts })
 
 said_by : (t : Trace) (from : Source) → IsDatagram from → IsSaidBy t from
 said_by t (source.Link number) datagram = absurd datagram
@@ -224,7 +230,7 @@ walks_carried core t walks from origin cut datagram =
     let verdict = verdict_of (carried_at origin core) cut in
     let same : verdict ≡ verdict_of (datagram_scene (setting_of core.conf) origin t) cut = ap (λ scene. verdict_of scene cut) (carried_now core t walks origin) in
     subst (λ judged. Walks (with_verdict from verdict core) (Said from cut judged ∷ t)) same
-    (record { follows = follows_said (setting_of core.conf) core.seen t walks.follows walks.going from cut verdict (said_by t from datagram); going = walks.going })
+    (record { follows = follows_said (setting_of core.conf) core.seen t walks.follows walks.going walks.lasts from cut verdict (said_by t from datagram); going = walks.going; lasts = walks.lasts })
 
 -- the lines of a peer's datagram
 pub relayed_as : (s : Setting) (listener : ℕ) (first : Cut) (more cuts : List Cut) (peer : ℕ) (call : List ℕ) (origin : Origin) (found : Option (ℕ × List ℕ)) (t : Trace)
@@ -238,7 +244,7 @@ relayed_as s listener first more cuts peer call origin found t are from is =
 pub walks_unread : (core : CoreMeaning) (t : Trace) → Walks core t → (listener : ℕ) (cut : Cut) (why : Refusal)
     → Walks (with_verdict (source.Submit listener) (Refused why) core) (refuse_datagram listener cut why t)
 walks_unread core t walks listener cut why =
-    record { follows = follows_said (setting_of core.conf) core.seen t walks.follows walks.going (source.Submit listener) cut (Refused why) tt; going = walks.going }
+    record { follows = follows_said (setting_of core.conf) core.seen t walks.follows walks.going walks.lasts (source.Submit listener) cut (Refused why) tt; going = walks.going; lasts = walks.lasts }
 
 -- what a verdict leaves as it is
 pub rest_kept : (core : CoreMeaning) (from : Source) (verdict : Verdict) → SameRest core (with_verdict from verdict core)
@@ -253,16 +259,16 @@ module _ (core : CoreMeaning) (t : Trace) (walks : Walks core t) (k : ℕ) (from
       → Walks (record core { seen = admitted_in (setting_of core.conf) outcome k from core.seen }) (Opened (AtListener listener) outcome k from ∷ t)
   walks_admitted listener NoPort =
       let follows = follows_unserved (setting_of core.conf) core.seen t walks.follows (AtListener listener) k core.seen.greatest from rising above in
-      record { follows = record { moment = follows.moment; reach = follows.reach; turned = follows.turned; closing = follows.closing; links = follows.links; tables = follows.tables; took = follows.took; totals = follows.totals }; going = walks.going }
+      record { follows = record { moment = follows.moment; reach = follows.reach; turned = follows.turned; closing = follows.closing; links = follows.links; tables = follows.tables; took = follows.took; totals = follows.totals }; going = walks.going; lasts = walks.lasts }
   walks_admitted listener TurnedAway =
       let follows = follows_turned_away (setting_of core.conf) core.seen t walks.follows (AtListener listener) k core.seen.greatest from rising above in
-      record { follows = record { moment = follows.moment; reach = follows.reach; turned = follows.turned; closing = follows.closing; links = follows.links; tables = follows.tables; took = follows.took; totals = follows.totals }; going = walks.going }
+      record { follows = record { moment = follows.moment; reach = follows.reach; turned = follows.turned; closing = follows.closing; links = follows.links; tables = follows.tables; took = follows.took; totals = follows.totals }; going = walks.going; lasts = walks.lasts }
   walks_admitted listener NotAsked =
       let follows = follows_unasked (setting_of core.conf) core.seen t walks.follows (AtListener listener) k core.seen.greatest from rising above in
-      record { follows = record { moment = follows.moment; reach = follows.reach; turned = follows.turned; closing = follows.closing; links = follows.links; tables = follows.tables; took = follows.took; totals = follows.totals }; going = walks.going }
+      record { follows = record { moment = follows.moment; reach = follows.reach; turned = follows.turned; closing = follows.closing; links = follows.links; tables = follows.tables; took = follows.took; totals = follows.totals }; going = walks.going; lasts = walks.lasts }
   walks_admitted listener (Served kind) =
       let follows = follows_opened (setting_of core.conf) core.seen t walks.follows (AtListener listener) kind k core.seen.greatest from rising above in
-      record { follows = record { moment = follows.moment; reach = follows.reach; turned = follows.turned; closing = follows.closing; links = follows.links; tables = follows.tables; took = follows.took; totals = follows.totals }; going = walks.going }
+      record { follows = record { moment = follows.moment; reach = follows.reach; turned = follows.turned; closing = follows.closing; links = follows.links; tables = follows.tables; took = follows.took; totals = follows.totals }; going = walks.going; lasts = walks.lasts }
 
   pub walks_opened : (listener : ℕ) (outcome : Admission) → outcome ≡ admitted core.conf.max_clients (clients_in core.seen.links) (kind_at (setting_of core.conf) listener)
       → Walks (record core { seen = admitted_in (setting_of core.conf) outcome k from core.seen }) (Opened (AtListener listener) (admission (setting_of core.conf) t listener) k from ∷ t)
@@ -278,10 +284,10 @@ module _ (core : CoreMeaning) (t : Trace) (walks : Walks core t) (k : ℕ) (from
       → Walks (record core { seen = admitted_in (setting_of core.conf) (joined_outcome uplink asked) k from (joined_core uplink) }) (Opened (ByUplink uplink) (joined_outcome uplink asked) k from ∷ t)
   walks_by uplink true =
       let follows = follows_opened (setting_of core.conf) core.seen t walks.follows (ByUplink uplink) (Uplink uplink) k core.seen.greatest from rising above in
-      record { follows = record { moment = follows.moment; reach = follows.reach; turned = follows.turned; closing = follows.closing; links = follows.links; tables = follows.tables; took = follows.took; totals = follows.totals }; going = walks.going }
+      record { follows = record { moment = follows.moment; reach = follows.reach; turned = follows.turned; closing = follows.closing; links = follows.links; tables = follows.tables; took = follows.took; totals = follows.totals }; going = walks.going; lasts = walks.lasts }
   walks_by uplink false =
       let follows = follows_unasked (setting_of core.conf) core.seen t walks.follows (ByUplink uplink) k core.seen.greatest from rising above in
-      record { follows = record { moment = follows.moment; reach = follows.reach; turned = follows.turned; closing = follows.closing; links = follows.links; tables = follows.tables; took = follows.took; totals = follows.totals }; going = walks.going }
+      record { follows = record { moment = follows.moment; reach = follows.reach; turned = follows.turned; closing = follows.closing; links = follows.links; tables = follows.tables; took = follows.took; totals = follows.totals }; going = walks.going; lasts = walks.lasts }
 
   pub walks_joined : (uplink : ℕ) (asked : Bool) → asked ≡ (acts_at (up.Joined uplink k) core.seen.moment core.seen.reach.uplinks).login
       → Walks (record core { seen = admitted_in (setting_of core.conf) (joined_outcome uplink asked) k from (joined_core uplink) }) (Opened (ByUplink uplink) (joined_admission (setting_of core.conf) t uplink k) k from ∷ t)
@@ -333,6 +339,7 @@ walks_no_end core t walks number links heard reach dead new forgotten reached =
         totals = follows.totals;
       };
       going = walks.going;
+      lasts = walks.lasts;
     })
 
 -- bytes of a link that isn't there are nobody's
@@ -367,10 +374,11 @@ walks_passed core t walks m now is sights =
     subst (λ n. Walks (record core { seen = passed n core.seen }) (Ticked m ∷ t)) (sym is) (record {
       follows = follows_risen (setting_of core.conf) core.seen t walks.follows m (subst (λ n. HasExactly n (young n core.seen.stations) (accepted_of t)) is sights);
       going = walks.going;
+      lasts = walks.lasts;
     })
 
 pub walks_stayed : (core : CoreMeaning) (t : Trace) → Walks core t → (m : ℕ) → moment_of (Ticked m ∷ t) ≡ moment_of t → Walks core (Ticked m ∷ t)
-walks_stayed core t walks m same = record { follows = follows_stayed (setting_of core.conf) core.seen t walks.follows m same; going = walks.going }
+walks_stayed core t walks m same = record { follows = follows_stayed (setting_of core.conf) core.seen t walks.follows m same; going = walks.going; lasts = walks.lasts }
 
 -- a core stays sound as a link comes
 pub kept_above : (core : CoreMeaning) (k : ℕ) → IsKept core → core.seen.greatest < k → k < 2 ^ 32 → IsKept (record core { seen = record core.seen { greatest = k } })
@@ -417,7 +425,7 @@ left_by (Err e) keep old new high gone is rises = gone high rises
 
 -- that the links rest is no part of it
 pub walks_resting : (core : CoreMeaning) (t : Trace) (rests : Bool) → Walks core t → Walks (record core { rests = rests }) t
-walks_resting core t rests walks = record { follows = walks.follows; going = walks.going }
+walks_resting core t rests walks = record { follows = walks.follows; going = walks.going; lasts = walks.lasts }
 
 -- one link changes
 pub kept_at : (core : CoreMeaning) (number : ℕ) (step : LinkSeen → LinkSeen) (links : List LinkSeen) → ((link : LinkSeen) → (step link).link ≡ link.link) → links ≡ map (at_link number step) core.seen.links → IsKept core
@@ -458,6 +466,7 @@ walks_late core conf t ends closing links heard reach walks same are left forgot
     (record {
       follows = subst (λ seen. Follows s seen now) (sym (ends_as core ends closing links in_time heard reach left_now forgotten reached closed)) follows;
       going = going_after (late_reason t) (late_goes t) (late_links s t) t ∙ walks.going;
+      lasts = walks.lasts;
     })
 
 -- the links that are overfull, and those that were turned away
@@ -473,6 +482,7 @@ walks_refused core conf t ends closing links heard reach walks same are left for
     (record {
       follows = subst (λ seen. Follows s seen now) (sym (ends_as core ends closing links (filter (is_none_of ends) core.seen.links) heard reach left forgotten reached closed)) follows;
       going = going_after (refused_reason t) (refused_goes t) (refused_links s t) t ∙ walks.going;
+      lasts = walks.lasts;
     })
 
 -- after a stop all links, and there is still to keep of them what there was, but what they heard
@@ -496,4 +506,5 @@ walks_dated core t before links line walks passed is new =
     subst (λ b. Walks (relinked links core) (if b then Dated m ∷ t else t)) (sym border) (record {
       follows = subst (λ ls. Follows s (with_links ls core.seen) (Dated m ∷ t)) (sym told) (follows_dated s core.seen t walks.follows walks.going m);
       going = walks.going;
+      lasts = walks.lasts;
     })

@@ -97,7 +97,7 @@ stands_listening s core (spec ∷ specs) n h stands = stands_listening s core sp
 })
 
 -- nothing has happened
-pub stands_new : (s : Setting) (core : CoreSeen) (hasher : RandomState) → core.moment ≡ 0 → core.links ≡ [] → core.turned ≡ [] → core.closing ≡ [] → core.window ≡ empty_window 30 → core.stations ≡ no_stations hasher → core.heard ≡ nothing hasher
+pub stands_new : (s : Setting) (core : CoreSeen) (hasher : RandomState) → core.moment ≡ 0 → core.links ≡ [] → core.turned ≡ [] → core.closing ≡ [] → core.window ≡ empty_window s.window → core.stations ≡ no_stations hasher → core.heard ≡ nothing hasher
     → core.reach ≡ reach_of s [] → core.greatest ≡ 0 → core.stopped ≡ false → core.totals ≡ totals_of s [] → StandsFor s core []
 unfolding trace_of
 stands_new s core hasher moment links turned closing window stations heard reach greatest stopped totals = record {

@@ -146,11 +146,11 @@ with_reach reach core = record core { reach = reach }
 
 module _ (s : Setting) (core : CoreSeen) (t : Trace) (follows : Follows s core t) where
   -- what the tables have at the same moment, where nothing more was accepted
-  same_window : (u : Trace) → moment_of u ≡ moment_of t → accepted_of u ≡ accepted_of t → core.window ≡ window_of u
+  same_window : (u : Trace) → moment_of u ≡ moment_of t → accepted_of u ≡ accepted_of t → core.window ≡ window_of s u
   same_window u moment accepted =
       follows.tables.window
-      ∙ ap (λ now. record { pairs = recalled 30 now (accepted_of t); seconds = 30 }) (sym moment)
-      ∙ ap (λ packets. record { pairs = recalled 30 (moment_of u) packets; seconds = 30 }) (sym accepted)
+      ∙ ap (λ now. record { pairs = recalled s.window now (accepted_of t); seconds = s.window }) (sym moment)
+      ∙ ap (λ packets. record { pairs = recalled s.window (moment_of u) packets; seconds = s.window }) (sym accepted)
 
   same_stations : (u : Trace) → moment_of u ≡ moment_of t → accepted_of u ≡ accepted_of t → HasExactly (moment_of u) core.stations (accepted_of u)
   same_stations u moment accepted =
@@ -159,7 +159,7 @@ module _ (s : Setting) (core : CoreSeen) (t : Trace) (follows : Follows s core t
   -- entries that accept nothing, and leave the moment and live links with what they heard and were promised, leave what the
   -- tables have
   same_tables : (u : Trace) → moment_of u ≡ moment_of t → accepted_of u ≡ accepted_of t → ((l : ℕ) → is_live u l ≡ is_live t l) → ((l : ℕ) → is_client u l ≡ is_client t l)
-      → ((l : ℕ) (call : List ℕ) → heard_of u l call ≡ heard_of t l call) → ((l : ℕ) (sender : List ℕ) → promise_of u l sender ≡ promise_of t l sender) → Keeps core.window core.stations core.heard u
+      → ((l : ℕ) (call : List ℕ) → heard_of u l call ≡ heard_of t l call) → ((l : ℕ) (sender : List ℕ) → promise_of u l sender ≡ promise_of t l sender) → Keeps s core.window core.stations core.heard u
   same_tables u moment accepted live client heard promised = record {
     window = same_window u moment accepted;
     stations = same_stations u moment accepted;
@@ -214,7 +214,7 @@ module _ (s : Setting) (core : CoreSeen) (t : Trace) (follows : Follows s core t
         closing = follows.closing;
         links = ap (map (at_moment now)) follows.links ∙ sym (map_through (link_seen s (Ticked m ∷ t)) (at_moment now) (link_seen s t) (ticked_seen s t m) (served_links t));
         tables = record {
-          window = ap (expired now) follows.tables.window ∙ ap (λ pairs. record { pairs = pairs; seconds = 30 }) (recalled-later 30 (moment_of t) now (accepted_of t) later);
+          window = ap (expired now) follows.tables.window ∙ ap (λ pairs. record { pairs = pairs; seconds = s.window }) (recalled-later s.window (moment_of t) now (accepted_of t) later);
           stations = sights;
           heard = remembers_passed core.heard t m follows.tables.heard;
         };
@@ -458,9 +458,9 @@ module _ (s : Setting) (core : CoreSeen) (t : Trace) (follows : Follows s core t
   submitted_as going (source.Link k) live = client_live going k live
   submitted_as going from says = refl
 
-  follows_accepted : stopped_links t ≡ [] → (from : Source) (cut : Cut) (parts : Parts) (line : List ℕ) → IsSaidBy t from
+  follows_accepted : stopped_links t ≡ [] → 0 < s.window → (from : Source) (cut : Cut) (parts : Parts) (line : List ℕ) → IsSaidBy t from
       → Follows s (after_packet s.peers (packet_of from (moment_of t) parts line) (record core { moment = moment_of t })) (Said from cut (Accepted parts line) ∷ t)
-  follows_accepted going from cut parts line says =
+  follows_accepted going lasts from cut parts line says =
       let packet = packet_of from (moment_of t) parts line in
       let place_of : Bool → SourcePlace = λ submitted. record { place = sighting (accepted_of t) (moment_of t) parts.source; gate = is_gate_at (accepted_of t) (moment_of t) parts.source; submitted = submitted } in
       let source = place_of (is_submitted t from) in
@@ -483,7 +483,7 @@ module _ (s : Setting) (core : CoreSeen) (t : Trace) (follows : Follows s core t
             (owed_are core.heard t follows.tables.heard packet j here)));
         tables = record {
           window = ap (with_key (key_of parts) (moment_of t)) follows.tables.window
-              ∙ ap (λ pairs. record { pairs = pairs; seconds = 30 }) (sym (recalled-push_now 30 (accepted_of t) packet (omega arith)));
+              ∙ ap (λ pairs. record { pairs = pairs; seconds = s.window }) (sym (recalled-push_now s.window (accepted_of t) packet lasts));
           stations = note_exactly (moment_of t) core.stations (accepted_of t) packet refl follows.tables.stations;
           heard = remembers_accepted core.heard t follows.tables.heard core.links from cut parts line (speaks going from says) (filters_live going) (filters_nowhere going);
         };
@@ -500,14 +500,14 @@ module _ (s : Setting) (core : CoreSeen) (t : Trace) (follows : Follows s core t
       }
 
   -- whatever becomes of a line
-  pub follows_said : stopped_links t ≡ [] → (from : Source) (cut : Cut) (verdict : Verdict) → IsSaidBy t from → Follows s (after_verdict s.server s.peers from verdict core) (Said from cut verdict ∷ t)
-  follows_said going from cut PassedOver says = follows_passed from cut
-  follows_said going from cut (Refused why) says = follows_refused going from cut why
-  follows_said going from cut (LoggedIn session answer) says = follows_login from cut session answer
-  follows_said going from cut (Filtered answer) says = follows_answer from cut answer
-  follows_said going from cut (Accepted parts line) says =
+  pub follows_said : stopped_links t ≡ [] → 0 < s.window → (from : Source) (cut : Cut) (verdict : Verdict) → IsSaidBy t from → Follows s (after_verdict s.server s.peers from verdict core) (Said from cut verdict ∷ t)
+  follows_said going lasts from cut PassedOver says = follows_passed from cut
+  follows_said going lasts from cut (Refused why) says = follows_refused going from cut why
+  follows_said going lasts from cut (LoggedIn session answer) says = follows_login from cut session answer
+  follows_said going lasts from cut (Filtered answer) says = follows_answer from cut answer
+  follows_said going lasts from cut (Accepted parts line) says =
       subst (λ now. Follows s (after_packet s.peers (packet_of from now parts line) (record core { moment = now })) (Said from cut (Accepted parts line) ∷ t)) (sym follows.moment)
-      (follows_accepted going from cut parts line says)
+      (follows_accepted going lasts from cut parts line says)
 
   numbers_are : numbers core.links ≡ served_links t
   numbers_are = ap numbers follows.links ∙ numbers_seen s t (served_links t)

@@ -8,6 +8,7 @@ use Rattle.aprs_history.specs.Acts.{Closes, cast_act, dials, offer_to, offered_l
 use Rattle.aprs_history.specs.Dials.{casts_of, dial_of}
 use Rattle.aprs_history.specs.Stands.{Follows, ReachSeen, StandsFor}
 use Rattle.aprs_base.specs.Journals.{JournalLineSeen}
+use Rattle.dupe_window.specs.Windows.{WindowSeen}
 use Rattle.aprs_history.specs.Journal.{round_lines}
 use Rattle.server_core.specs.ActsSeen.{ActsSeen}
 use Rattle.served_links.specs.Links.{is_lost, is_ready, number_of}
@@ -68,6 +69,7 @@ round_next start events core new left e rest is first_lines lines new_lines so_f
 pub record WholeRound (old mid walked new : CoreMeaning) (events : List Event) : Type 0 where
   pub whole : is_whole 0 events ≡ true
   pub going : old.seen.stopped ≡ false
+  pub lasts : 0 < old.seen.window.seconds
   pub begun : (t : Trace) → Walks old t → Walks mid (begin_round t)
   pub rest : SameRest old mid
   pub walking : Walking mid events walked []
@@ -75,11 +77,11 @@ pub record WholeRound (old mid walked new : CoreMeaning) (events : List Event) :
   pub finished : (t : Trace) → Walks walked t → Follows (setting_of walked.conf) new.seen (end_round (setting_of walked.conf) walked.seen.stopped t)
   pub kept : SameRest walked new
 
-pub whole_round : (old mid walked new : CoreMeaning) (events : List Event) → is_whole 0 events ≡ true → old.seen.stopped ≡ false → ((t : Trace) → Walks old t → Walks mid (begin_round t)) → SameRest old mid
+pub whole_round : (old mid walked new : CoreMeaning) (events : List Event) → is_whole 0 events ≡ true → old.seen.stopped ≡ false → 0 < old.seen.window.seconds → ((t : Trace) → Walks old t → Walks mid (begin_round t)) → SameRest old mid
     → Walking mid events walked [] → ((t : Trace) → Walks mid t → Traced mid t events walked [] (events_trace (setting_of mid.conf) events t))
     → ((t : Trace) → Walks walked t → Follows (setting_of walked.conf) new.seen (end_round (setting_of walked.conf) walked.seen.stopped t)) → SameRest walked new → WholeRound old mid walked new events
-whole_round old mid walked new events whole going begun rest walking traced finished kept =
-    record { whole = whole; going = going; begun = begun; rest = rest; walking = walking; traced = traced; finished = finished; kept = kept }
+whole_round old mid walked new events whole going lasts begun rest walking traced finished kept =
+    record { whole = whole; going = going; lasts = lasts; begun = begun; rest = rest; walking = walking; traced = traced; finished = finished; kept = kept }
 
 module _ (old mid walked new : CoreMeaning) (events : List Event) (round : WholeRound old mid walked new events) (h : History) (stands : Stands old h) where
   walked_conf : walked.conf ≡ old.conf
@@ -89,7 +91,11 @@ module _ (old mid walked new : CoreMeaning) (events : List Event) (round : Whole
   same_conf = round.kept.conf ∙ walked_conf
 
   walks_old : Walks old (trace_of (setting_of old.conf) h)
-  walks_old = record { follows = stands.follows; going = history_going (setting_of old.conf) h (sym stands.stopped ∙ round.going) }
+  walks_old = record {
+    follows = stands.follows;
+    going = history_going (setting_of old.conf) h (sym stands.stopped ∙ round.going);
+    lasts = subst (λ (window : WindowSeen). 0 < window.seconds) stands.follows.tables.window round.lasts;
+  }
 
   -- the trace before the round's end
   abbrev before_end : Trace

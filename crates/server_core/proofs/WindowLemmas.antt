@@ -1,5 +1,5 @@
 -- A window that is current stays so.
-use Rattle.std.proofs.Common.{◌≡◌, ℕ, ◌≤◌, false, Option, Some, None, is_some, refl, sym, ◌∙◌, subst, arith}
+use Rattle.std.proofs.Common.{◌≡◌, ℕ, ◌<◌, ◌≤◌, false, Option, Some, None, is_some, refl, sym, ◌∙◌, subst}
 use Rattle.dupe_window.specs.Keys.{Key, key_of}
 use Rattle.dupe_window.specs.Windows.{WindowSeen, empty_window, expired, has_copy, kept_at, seen_at, with_key}
 use Rattle.dupe_window.proofs.WindowLemmas.{IsUpTo-expired, IsUpTo-later, IsUpTo-with_key, inside_expired, inside_with_key, seen_at-kept}
@@ -10,14 +10,14 @@ pub current_passed : (moment now : ℕ) (window : WindowSeen) → moment ≤ now
 current_passed moment now window later current = record {
   up_to = IsUpTo-expired now now window (IsUpTo-later moment now window later current.up_to);
   inside = inside_expired now window;
-  seconds = current.seconds;
+  lasts = current.lasts;
 }
 
 pub current_with : (now : ℕ) (key : Key) (window : WindowSeen) → IsCurrent now window → IsCurrent now (with_key key now window)
 current_with now key window current = record {
   up_to = IsUpTo-with_key now key window current.up_to;
-  inside = inside_with_key now key window (let lasts : window.seconds ≡ 30 = current.seconds in omega (arith, lasts)) current.inside;
-  seconds = current.seconds;
+  inside = inside_with_key now key window current.lasts current.inside;
+  lasts = current.lasts;
 }
 
 none_there : (told : Option ℕ) → is_some told ≡ false → told ≡ None
@@ -28,5 +28,5 @@ none_there (Some moment) is = absurd (cc)
 pub not_kept : (now : ℕ) (window : WindowSeen) (parts : Parts) → IsCurrent now window → has_copy now window parts ≡ false → kept_at window (key_of parts) ≡ None
 not_kept now window parts current new = sym (seen_at-kept now (key_of parts) window current.inside) ∙ none_there (seen_at now (key_of parts) window) new
 
-pub current_empty : (window : WindowSeen) → window ≡ empty_window 30 → IsCurrent 0 window
-current_empty window is = subst (IsCurrent 0) (sym is) (record { up_to = refl; inside = refl; seconds = refl })
+pub current_empty : (seconds : ℕ) (window : WindowSeen) → window ≡ empty_window seconds → 0 < seconds → IsCurrent 0 window
+current_empty seconds window is lasts = subst (IsCurrent 0) (sym is) (record { up_to = refl; inside = refl; lasts = lasts })

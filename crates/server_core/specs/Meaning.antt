@@ -40,6 +40,7 @@ setting_of conf = record {
   up_timeout = conf.up_timeout;
   client_timeout = conf.client_timeout;
   max_clients = conf.max_clients;
+  window = conf.dupe_window;
 }
 
 abbrev pub timeouts_of : ConfSeen → Timeouts

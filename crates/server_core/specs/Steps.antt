@@ -1,5 +1,5 @@
 -- What a core keeps while it walks over the events of a round.
-use Rattle.std.specs.Prelude.{◌≡◌, ℕ, ◌||◌, [], map}
+use Rattle.std.specs.Prelude.{◌≡◌, ◌<◌, ℕ, ◌||◌, [], map}
 use Rattle.aprs_base.specs.Outside.{new_link}
 use Rattle.aprs_base.specs.declared.events.Event.{Event}
 use Rattle.aprs_history.specs.Trace.{Trace, stopped_links}
@@ -14,10 +14,11 @@ use Rattle.server_core.specs.LinkSteps.{after_verdict}
 use Rattle.served_links.specs.Links.{logins_at, others_at, speaker_at}
 use Rattle.server_core.specs.Meaning.{CoreMeaning, peer_of, setting_of}
 
--- the core follows the trace so far, and no stop has ended links
+-- the core follows the trace so far, no stop has ended links, and a packet counts for some seconds
 pub record Walks (core : CoreMeaning) (trace : Trace) : Type 0 where
   pub follows : Follows (setting_of core.conf) core.seen trace
   pub going : stopped_links trace ≡ []
+  pub lasts : 0 < core.conf.dupe_window
 
 -- configuration, greatest number and stop are as they were
 pub record SameRest (old new : CoreMeaning) : Type 0 where

@@ -38,6 +38,13 @@ pub(crate) fn uplink_timeout(conf: &Conf) -> u32
     conf.up_timeout
 }
 
+/// For how many seconds a packet is a duplicate of one that was accepted.
+pub(crate) fn dupe_window(conf: &Conf) -> u32
+    ensures { result ≡ conf.now.dupe_window }
+{
+    conf.dupe_window
+}
+
 /// After how many seconds without bytes links end.
 pub(crate) fn timeouts(conf: &Conf) -> Timeouts
     ensures { result ≡ timeouts_of conf.now }

@@ -1,7 +1,7 @@
 //! The core: it takes a round of events, and says what is to be done.
 ghost use Rattle.std.specs.Prelude.{◌≡◌, ◌∷◌, ◌++◌, ◌≤◌, ℕ, IsTrue, IfOk, IfSome, OnOk, List, length, false, min, take, true};
 ghost use Rattle.aprs_base.specs.Bytes.{is_station};
-ghost use Rattle.aprs_conf.specs.Sound.{IsGroup};
+ghost use Rattle.aprs_conf.specs.Sound.{IsGroup, IsWithin};
 ghost use Rattle.aprs_history.specs.History.{History, trace_of};
 ghost use Rattle.aprs_history.specs.Counts.{totals_of};
 ghost use Rattle.aprs_history.specs.Journal.{round_lines};
@@ -57,6 +57,7 @@ impl Core {
         requires station { IsTrue (is_station conf.server) }
         requires uplinks { length conf.uplinks ≤ 8 }
         requires peers { IsGroup conf.group conf.peers }
+        requires window { IsWithin 10 300 conf.dupe_window }
         ensures conf { IfOk result (λ core. core.conf ≡ conf) }
         ensures stands { IfOk result (λ core. Stands core (only_listens (setting_of conf))) }
         ensures fresh { IfOk result (λ core. (core.seen.greatest ≡ 0) × (core.seen.stopped ≡ false)) }

@@ -1,7 +1,7 @@
 //! What a core keeps, and the walk over a round's events.
 ghost use Rattle.std.specs.Prelude.{◌≡◌, ◌∷◌, ◌++◌, [], ◌≤◌, ℕ, IsTrue, IfOk, IfSome, OnOk, List, length, false, true, min, take};
 ghost use Rattle.aprs_base.specs.Bytes.{is_station};
-ghost use Rattle.aprs_conf.specs.Sound.{IsGroup};
+ghost use Rattle.aprs_conf.specs.Sound.{IsGroup, IsWithin};
 ghost use Rattle.aprs_history.specs.Stands.{reach_of};
 ghost use Rattle.aprs_history.specs.History.{History, trace_of};
 ghost use Rattle.aprs_history.specs.Journal.{round_lines};
@@ -27,7 +27,7 @@ mod ticks;
 mod verdicts;
 
 use crate::acts::Acts;
-use crate::conf::uplink_timeout;
+use crate::conf::{dupe_window, uplink_timeout};
 use crate::reach::Reach;
 use aprs_base::{Event, Gate, JournalLine, Memory, Totals};
 use aprs_conf::Conf;
@@ -44,9 +44,6 @@ use std::thread::Threads;
 
 /// The most bytes of one offer.
 const MOST_OFFERED: usize = 65_536;
-
-/// For how many seconds a packet is taken as a copy of one that was accepted.
-const DUPLICATE_SECONDS: u32 = 30;
 
 /// What there is for other servers at first.
 fn reach_for(alloc: Global, conf: &Conf) -> Reach
@@ -115,18 +112,20 @@ impl Walker {
         requires station { IsTrue (is_station conf.server) }
         requires uplinks { length conf.uplinks ≤ 8 }
         requires peers { IsGroup conf.group conf.peers }
+        requires window { IsWithin 10 300 conf.dupe_window }
         ensures conf { IfOk result (λ core. core.conf ≡ conf) }
         ensures stands { IfOk result (λ core. Stands core (only_listens (setting_of conf))) }
         ensures fresh { IfOk result (λ core. (core.seen.greatest ≡ 0) × (core.seen.stopped ≡ false) × (core.rests ≡ true)) }
     {
         let reach = reach_for(alloc, &conf);
+        let seconds = dupe_window(&conf);
         Ok(Walker {
             conf,
             moment: 0,
             links: Served::new(alloc),
             turned: Vec::new(alloc),
             closing: Vec::new(alloc),
-            window: Window::new(alloc, *hasher, DUPLICATE_SECONDS),
+            window: Window::new(alloc, *hasher, seconds),
             stations: Stations::new(alloc, hasher)?,
             heard: Heard::new(alloc, hasher)?,
             reach,

@@ -102,6 +102,7 @@ fn conf_of<R: Abort>(rt: &R, alloc: Global, server: Call, limits: Limits) -> Con
         up_timeout: 15,
         client_timeout: limits.silence,
         max_clients: limits.clients,
+        dupe_window: 30,
     }
 }
 

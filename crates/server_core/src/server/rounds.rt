@@ -42,6 +42,7 @@ fn changes_links(event: &Event) -> bool {
 impl Walker {
     /// A round begins: the links that a send found gone end.
     pub(super) fn begin(&mut self, alloc: Global) -> Result<(), Memory>
+        ensures lasts { OnOk result (0 < self.old.seen.window.seconds) }
         ensures walks { (t : Trace) → Walks self.old t → OnOk result (Walks self.new (begin_round t)) }
         ensures rest { OnOk result (SameRest self.old self.new) }
     {

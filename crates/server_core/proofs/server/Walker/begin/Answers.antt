@@ -1,8 +1,9 @@
-use Rattle.std.proofs.Common.{◌≡◌, [], None, ap, false, filter, subst, sym, ◌∙◌}
+use Rattle.std.proofs.Common.{◌≡◌, ◌<◌, [], None, ap, false, filter, subst, sym, ◌∙◌}
 use Rattle.aprs_history.specs.History.{begin_round}
 use Rattle.aprs_history.specs.Stands.{ReachSeen}
 use Rattle.server_core.specs.LinkSteps.{ended_all, forgotten_all, is_there}
 use Rattle.served_links.specs.Links.{is_lost, is_none_of, numbers}
+use Rattle.server_core.specs.Meaning.{CoreMeaning}
 use Rattle.server_core.specs.Steps.{Walks}
 use Rattle.server_core.proofs.CoreLemmas.{kept_left, walks_begun, walks_resting}
 use Rattle.server_core.proofs.LeftLemmas.{passing_left}
@@ -19,6 +20,9 @@ invariant_of-self-2 c =
     let links = filter (is_none_of c.as_slice-3.result.now) c.self.inside.links.links in
     rw c.wake.ensures (rw c.in_ok-drop_these.ensures.ok (kept_left _ (record c.self.inside.links { links = links; rests = false }) c.forget_all.new.heard c.end_all.new.self c.clear.new.self.items c.clear-2.new.self.items
     (rises_filter (is_none_of c.as_slice-3.result.now) 0 c.self.inside.greatest c.self.inside.links.links c.self.invariant.rising) c.self.invariant))
+
+pub returns-clause-lasts : goal.returns-clause-lasts
+returns-clause-lasts c = subst (λ (core : CoreMeaning). 0 < core.seen.window.seconds) c.self.view_is c.self.invariant.window.lasts
 
 pub returns-clause-walks : goal.returns-clause-walks
 returns-clause-walks c = λ t walks.
