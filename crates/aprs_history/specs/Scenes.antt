@@ -15,7 +15,7 @@ use Rattle.aprs_history.specs.declared.verdicts.LinkKind.TheVariants.{Client, Up
 use Rattle.aprs_history.specs.declared.verdicts.Session.{Session}
 use Rattle.aprs_history.specs.declared.verdicts.Verdict.{Verdict}
 use Rattle.aprs_history.specs.declared.verdicts.Verdict.TheVariants.{Accepted}
-use Rattle.aprs_history.specs.Trace.{Trace, Said, live_links, is_other, moment_of}
+use Rattle.aprs_history.specs.Trace.{Trace, RoundBegan, Said, live_links, is_other, moment_of}
 use Rattle.aprs_history.specs.Links.{Opening, opening_of, session_of}
 use Rattle.aprs_history.specs.Verdicts.{Carrier, Scene, Speaker, Visitor, is_duplicate}
 
@@ -34,6 +34,13 @@ abbrev pub accepted_of : Trace → List PacketSeen
 accepted_of [] = []
 accepted_of (Said from cut verdict ∷ earlier) = accepted_of earlier ++ accepted_by from (moment_of earlier) verdict
 accepted_of (entry ∷ earlier) = accepted_of earlier
+
+-- those that the last round accepted, in order
+abbrev pub accepted_lately : Trace → List PacketSeen
+accepted_lately [] = []
+accepted_lately (RoundBegan ∷ earlier) = []
+accepted_lately (Said from cut verdict ∷ earlier) = accepted_lately earlier ++ accepted_by from (moment_of earlier) verdict
+accepted_lately (entry ∷ earlier) = accepted_lately earlier
 
 -- a login that is verified
 abbrev pub verified_login : Option Session → List (List ℕ)

@@ -1,6 +1,7 @@
 -- What it is that a core stands for a history.
 use Rattle.std.specs.Prelude.{◌≡◌, ℕ, ◌≤◌, Bool, List, [], length, map, Option, None, if◌then◌else◌}
 use Rattle.aprs_base.specs.Held.{Held, held_after}
+use Rattle.aprs_base.specs.PacketSeen.{PacketSeen}
 use Rattle.aprs_base.specs.declared.totals.Totals.{Totals}
 use Rattle.filter_lang.specs.Terms.{TermSeen}
 use Rattle.filter_eval.specs.declared.seen.Seen.{Seen}
@@ -16,7 +17,7 @@ use Rattle.aprs_history.specs.Setting.{Setting}
 use Rattle.aprs_history.specs.declared.verdicts.Session.{Session}
 use Rattle.aprs_history.specs.Trace.{Trace, closed_links, is_live, moment_of, served_links, turned_links}
 use Rattle.aprs_history.specs.Links.{Opening, is_client, opening_of, last_heard, brought_by, session_of, filter_of, taken_by, is_blocked, is_gone}
-use Rattle.aprs_history.specs.Scenes.{accepted_of}
+use Rattle.aprs_history.specs.Scenes.{accepted_lately, accepted_of}
 use Rattle.uplinks_peers.specs.Uplinks.{UplinksSeen}
 use Rattle.aprs_history.specs.Dials.{CastSeen, casts_of, dial_of, uplinks_of}
 use Rattle.aprs_history.specs.Sights.{friends_of, own_place}
@@ -40,11 +41,12 @@ pub record LinkSeen : Type 0 where
   pub blocked : Bool
   pub gone : Bool
 
--- what a core keeps for other servers: its uplinks, and what the last round has for them
+-- what a core keeps for other servers: its uplinks, and what the last round has for them; and what that round accepted
 pub record ReachSeen : Type 0 where
   pub uplinks : UplinksSeen
   pub dial : Option ℕ
   pub casts : List CastSeen
+  pub accepted : List PacketSeen
 
 -- what a core keeps
 pub record CoreSeen : Type 0 where
@@ -118,9 +120,14 @@ pub record Keeps (setting : Setting) (lately : WindowSeen) (sights : StationsSee
   pub stations : HasExactly (moment_of trace) sights (accepted_of trace)
   pub heard : Remembers routes trace
 
--- what there is for other servers
+-- what there is for other servers, and what was accepted
 abbrev pub reach_of : Setting → Trace → ReachSeen
-reach_of setting trace = record { uplinks = uplinks_of setting trace; dial = dial_of setting trace; casts = casts_of setting trace }
+reach_of setting trace = record {
+  uplinks = uplinks_of setting trace;
+  dial = dial_of setting trace;
+  casts = casts_of setting trace;
+  accepted = accepted_lately trace;
+}
 
 -- the points of a core that hold after each entry of a trace
 pub record Follows (setting : Setting) (core : CoreSeen) (trace : Trace) : Type 0 where

@@ -62,12 +62,12 @@ with_served served core = record { conf = core.conf; seen = record core.seen { l
 -- a round begins
 pub walks_begun : (core : CoreMeaning) (t : Trace) (links : List LinkSeen) (heard : HeardSeen) (reach : ReachSeen) (turned closing : List ℕ) → Walks core t → links ≡ filter is_there core.seen.links
     → heard ≡ forgotten_all (numbers (filter is_lost core.seen.links)) core.seen.heard
-    → reach ≡ record core.seen.reach { uplinks = ended_all (numbers (filter is_lost core.seen.links)) core.seen.moment core.seen.reach.uplinks; dial = None; casts = [] } → turned ≡ [] → closing ≡ []
+    → reach ≡ record core.seen.reach { uplinks = ended_all (numbers (filter is_lost core.seen.links)) core.seen.moment core.seen.reach.uplinks; dial = None; casts = []; accepted = [] } → turned ≡ [] → closing ≡ []
     → Walks (record core { seen = record core.seen { links = links; heard = heard; reach = reach; turned = turned; closing = closing } }) (begin_round t)
 walks_begun core t links heard reach turned closing walks is forgotten reached no_turned no_closing =
     let s = setting_of core.conf in
     let began = follows_began s core.seen t walks.follows in
-    let fresh = record core.seen { turned = []; closing = []; reach = record core.seen.reach { dial = None; casts = [] } } in
+    let fresh = record core.seen { turned = []; closing = []; reach = record core.seen.reach { dial = None; casts = []; accepted = [] } } in
     let ends = numbers (filter is_lost core.seen.links) in
     let same : record core.seen { links = links; heard = heard; reach = reach; turned = turned; closing = closing } ≡ with_ends ends (filter is_there core.seen.links) [] fresh =
     rw (is, forgotten, reached, no_turned, no_closing) refl in

@@ -108,7 +108,7 @@ module _ (core : CoreMeaning) (t : Trace) (walks : Walks core t) where
   -- the links that were found gone end as a round begins, with the moment before it
   pub tells_lost : (old new : List JournalLineSeen) → new ≡ old ++ map (lost_line core.seen.moment) (filter is_lost core.seen.links) → new ≡ old ++ round_lines setting (begin_round t)
   tells_lost old new is =
-      let fresh = record core.seen { turned = []; closing = []; reach = record core.seen.reach { dial = None; casts = [] } } in
+      let fresh = record core.seen { turned = []; closing = []; reach = record core.seen.reach { dial = None; casts = []; accepted = [] } } in
       let began = follows_began setting core.seen t walks.follows in
       let now = RoundBegan ∷ t in
       is

@@ -37,13 +37,13 @@ use Rattle.server_core.proofs.MemberLemmas.{eqb_turned}
 use Rattle.server_core.proofs.WalkLemmas.{same_after, turned_after}
 
 -- entries that begin no round and open no link
-abbrev opens_none : Entry → Bool
+abbrev pub opens_none : Entry → Bool
 opens_none RoundBegan = false
 opens_none (Opened door admission link from) = false
 opens_none entry = true
 
 -- what such entries leave as it is
-abbrev IsOfOpenings : {X : Type 0} → (Trace → X) → Type 0
+abbrev pub IsOfOpenings : {X : Type 0} → (Trace → X) → Type 0
 IsOfOpenings f = (entry : Entry) (t : Trace) → opens_none entry ≡ true → f (entry ∷ t) ≡ f t
 
 of_turned : (entry : Entry) (t : Trace) → opens_none entry ≡ true → turned_links (entry ∷ t) ≡ turned_links t
@@ -79,7 +79,7 @@ module _ {X : Type 0} (f : Trace → X) (of : IsOfOpenings f) (s : Setting) wher
   carried (Some kind.Core) listener from (cut ∷ cuts) t = relayed listener cut cuts (peer_from 0 s.peers from) t
   carried (Some other) listener from (cut ∷ cuts) t = refl
 
-  unopened : (e : Event) (t : Trace) → None ≡ new_link e → f (with_event s e t) ≡ f t
+  pub unopened : (e : Event) (t : Trace) → None ≡ new_link e → f (with_event s e t) ≡ f t
   unopened (event.Tick moment) t none =
       let now = Ticked moment ∷ t in
       let ends = end_each (late_reason now) (late_links s now) now in

@@ -32,7 +32,7 @@ use Rattle.aprs_history.specs.Trace.{Trace, Entry, Door, RoundBegan, Dated, Look
 use Rattle.aprs_history.specs.declared.verdicts.EndReason.{EndReason}
 use Rattle.aprs_history.specs.declared.verdicts.EndReason.TheVariants.{FoundGone, ByPeer, ByStop, Full, NoLogin, Overfull, Silent, Unasked}
 use Rattle.aprs_history.specs.Links.{brought_by, has_filters, is_client, is_client_link, is_submitted, opening_of, taken_by, is_gone, gone_links, is_late, is_nameless, late_links, late_reason}
-use Rattle.aprs_history.specs.Scenes.{accepted_of, packet_of}
+use Rattle.aprs_history.specs.Scenes.{accepted_lately, accepted_of, packet_of}
 use Rattle.aprs_history.specs.Messages.{heard_of, promise_of}
 use Rattle.aprs_history.specs.Sights.{friend_in, is_gate_at, sighting}
 use Rattle.link_queue.specs.Lines.{text_bytes}
@@ -188,11 +188,11 @@ module _ (s : Setting) (core : CoreSeen) (t : Trace) (follows : Follows s core t
   }
 
   -- a round begins
-  pub follows_began : Follows s (record core { turned = []; closing = []; reach = record core.reach { dial = None; casts = [] } }) (RoundBegan ∷ t)
+  pub follows_began : Follows s (record core { turned = []; closing = []; reach = record core.reach { dial = None; casts = []; accepted = [] } }) (RoundBegan ∷ t)
   unfolding totals_of
   follows_began = record {
     moment = follows.moment;
-    reach = ap (λ (reach : ReachSeen). record reach { dial = None; casts = [] }) follows.reach;
+    reach = ap (λ (reach : ReachSeen). record reach { dial = None; casts = []; accepted = [] }) follows.reach;
     turned = refl;
     closing = refl;
     links = follows.links ∙ sym (map_on (link_seen s (RoundBegan ∷ t)) (link_seen s t) (served_links t) (λ j member. round_seen s t j));
@@ -287,8 +287,11 @@ module _ (s : Setting) (core : CoreSeen) (t : Trace) (follows : Follows s core t
       (follows.links ∙ sym (map_on (link_seen s (Unjoined uplink ∷ t)) (link_seen s t) (served_links t) (λ j member. unjoined_seen s t uplink j))) follows.took
 
   -- a line that isn't accepted is for no peer
-  no_casts : core.reach ≡ record (reach_of s t) { casts = casts_of s t ++ [] }
-  no_casts = follows.reach ∙ ap (λ casts. record (reach_of s t) { casts = casts }) (sym (append-nil (casts_of s t)))
+  no_casts : core.reach ≡ record (reach_of s t) { casts = casts_of s t ++ []; accepted = accepted_lately t ++ [] }
+  no_casts =
+      follows.reach
+      ∙ ap (λ casts. record (reach_of s t) { casts = casts }) (sym (append-nil (casts_of s t)))
+      ∙ ap (λ packets. record (reach_of s t) { casts = casts_of s t ++ []; accepted = packets }) (sym (append-nil (accepted_lately t)))
 
   -- a step at the link whose line it is
   stepped_at : (from : Source) (step : LinkSeen → LinkSeen) (u : Trace) → ((j : ℕ) → link_seen s u j ≡ (if is_from j from then step (link_seen s t j) else link_seen s t j))
@@ -468,8 +471,8 @@ module _ (s : Setting) (core : CoreSeen) (t : Trace) (follows : Follows s core t
       let owed = owed_in (record core { moment = moment_of t }) packet in
       record {
         moment = refl;
-        reach = ap (λ (reach : ReachSeen). record reach { casts = reach.casts ++ (if submitted_from from core.links then casts_to 0 s.peers line else []) }) follows.reach
-            ∙ ap (λ b. record (reach_of s t) { casts = casts_of s t ++ (if b then casts_to 0 s.peers line else []) }) (submitted_as going from says);
+        reach = ap (λ (reach : ReachSeen). record reach { casts = reach.casts ++ (if submitted_from from core.links then casts_to 0 s.peers line else []); accepted = reach.accepted ++ packet ∷ [] }) follows.reach
+            ∙ ap (λ b. record (reach_of s t) { casts = casts_of s t ++ (if b then casts_to 0 s.peers line else []); accepted = accepted_lately t ++ packet ∷ [] }) (submitted_as going from says);
         turned = follows.turned;
         closing = follows.closing;
         links = ap (λ place. map (with_packet packet place hearers owed) core.links) (source_known (record core { moment = moment_of t }) (accepted_of t) (moment_of t) refl follows.tables.stations from parts.source)
@@ -680,7 +683,8 @@ pub reach_after : (s : Setting) (reason : ℕ → EndReason) (ks : List ℕ) (t 
 reach_after s reason ks t =
     ap (λ uplinks. record (reach_of s (end_each reason ks t)) { uplinks = uplinks }) (uplinks_ended s reason ks t)
     ∙ ap (λ dial. record (reach_of s (end_each reason ks t)) { uplinks = ended_all ks (moment_of t) (uplinks_of s t); dial = dial }) (same_after (dial_of s) (λ k why t. refl) reason ks t)
-    ∙ ap (λ casts. record (reach_of s t) { uplinks = ended_all ks (moment_of t) (uplinks_of s t); casts = casts }) (same_after (casts_of s) (λ k why t. refl) reason ks t)
+    ∙ ap (λ casts. record (reach_of s (end_each reason ks t)) { uplinks = ended_all ks (moment_of t) (uplinks_of s t); dial = dial_of s t; casts = casts }) (same_after (casts_of s) (λ k why t. refl) reason ks t)
+    ∙ ap (λ packets. record (reach_of s t) { uplinks = ended_all ks (moment_of t) (uplinks_of s t); accepted = packets }) (same_after accepted_lately (λ k why t. refl) reason ks t)
 
 pub turned_after : (reason : ℕ → EndReason) (ks : List ℕ) (t : Trace) → turned_links (end_each reason ks t) ≡ turned_links t
 turned_after = same_after turned_links (λ k why t. refl)

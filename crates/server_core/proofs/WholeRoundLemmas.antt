@@ -6,6 +6,7 @@ use Rattle.aprs_history.specs.History.{History, is_stop, trace_of, with_event, b
 use Rattle.aprs_history.specs.Rounds.{AreFresh, is_whole, with_events, events_trace, greatest_after, stopped_after}
 use Rattle.aprs_history.specs.Acts.{Closes, cast_act, dials, offer_to, offered_links}
 use Rattle.aprs_history.specs.Dials.{casts_of, dial_of}
+use Rattle.aprs_history.specs.Scenes.{accepted_of}
 use Rattle.aprs_history.specs.Stands.{Follows, ReachSeen, StandsFor}
 use Rattle.aprs_base.specs.Journals.{JournalLineSeen}
 use Rattle.dupe_window.specs.Windows.{WindowSeen}
@@ -17,6 +18,7 @@ use Rattle.server_core.specs.Steps.{Walks, SameRest, AfterEvent}
 use Rattle.server_core.specs.RoundWalk.{GoesOn, Walking, Traced}
 use Rattle.server_core.specs.Telling.{AreTold, KnowUnasked, Tells}
 use Rattle.served_links.specs.EndLines.{lost_line}
+use Rattle.server_core.proofs.AcceptedLemmas.{round_accepts}
 use Rattle.server_core.proofs.TellingLemmas.{tells_lost, tells_then}
 use Rattle.server_core.proofs.TurnedLemmas.{round_known}
 use Rattle.server_core.proofs.RoundLemmas.{ends_not, no_stop, open_whole, trace_whole, greatest_whole, stopped_whole, due_whole, history_going, offers_are}
@@ -171,6 +173,14 @@ module _ (old mid walked new : CoreMeaning) (events : List Event) (round : Whole
       → IfOk result (λ acts. AreActs (setting_of new.conf) (with_events events h) acts)
   acts_ok (Ok acts) offers closes dial casts = round_acts acts (offers, closes, dial, casts)
   acts_ok (Err e) offers closes dial casts = offers
+
+  pub accepted_ok : {E : Type 0} (result : Result ActsSeen E) → IfOk result (λ acts. acts.accepted ≡ new.seen.reach.accepted)
+      → IfOk result (λ acts. accepted_of (trace_of (setting_of old.conf) (with_events events h)) ≡ accepted_of (trace_of (setting_of old.conf) h) ++ acts.accepted)
+  accepted_ok (Ok acts) kept =
+      let s = setting_of old.conf in
+      round_accepts s events h round.whole stands.finished
+      ∙ ap (λ packets. accepted_of (trace_of s h) ++ packets) (sym (kept ∙ ap (λ (reach : ReachSeen). reach.accepted) follows_old.reach))
+  accepted_ok (Err e) kept = kept
 
 pub stands_ok : {T E P : Type 0} (result : Result T E) → P → OnOk result P
 stands_ok (Ok x) p = p

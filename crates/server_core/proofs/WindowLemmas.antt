@@ -1,5 +1,5 @@
 -- A window that is current stays so.
-use Rattle.std.proofs.Common.{◌≡◌, ℕ, ◌≤◌, false, Option, Some, None, is_some, refl, sym, ◌∙◌, subst, arith}
+use Rattle.std.proofs.Common.{◌≡◌, ℕ, ◌<◌, ◌≤◌, false, Option, Some, None, is_some, refl, sym, ◌∙◌, subst}
 use Rattle.dupe_window.specs.Keys.{Key, key_of}
 use Rattle.dupe_window.specs.Windows.{WindowSeen, empty_window, expired, has_copy, kept_at, seen_at, with_key}
 use Rattle.dupe_window.proofs.WindowLemmas.{IsUpTo-expired, IsUpTo-later, IsUpTo-with_key, inside_expired, inside_with_key, seen_at-kept}

@@ -1,5 +1,5 @@
 -- What is true of every core.
-use Rattle.std.specs.Prelude.{◌≡◌, ◌<◌, ◌≤◌, ◌^◌, ℕ, IsTrue, length}
+use Rattle.std.specs.Prelude.{◌<◌, ◌≤◌, ◌^◌, ℕ, IsTrue, length}
 use Rattle.aprs_base.specs.Bytes.{is_station}
 use Rattle.aprs_conf.specs.Sound.{IsGroup}
 use Rattle.dupe_window.specs.Windows.{AreInside, IsUpTo, WindowSeen}

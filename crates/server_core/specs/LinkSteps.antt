@@ -207,7 +207,7 @@ after_packet peers packet core = record core {
   window = with_key (key_of packet.parts) packet.moment core.window;
   stations = station.noted packet core.stations;
   heard = heard_with packet core;
-  reach = record core.reach { casts = cast_with peers packet core };
+  reach = record core.reach { casts = cast_with peers packet core; accepted = core.reach.accepted ++ packet ∷ [] };
   totals = with_accepted (length (takers_in core packet)) core.totals;
 }
 

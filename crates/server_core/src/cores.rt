@@ -5,6 +5,7 @@ ghost use Rattle.aprs_conf.specs.Sound.{IsGroup, IsWithin};
 ghost use Rattle.aprs_history.specs.History.{History, trace_of};
 ghost use Rattle.aprs_history.specs.Counts.{totals_of};
 ghost use Rattle.aprs_history.specs.Journal.{round_lines};
+ghost use Rattle.aprs_history.specs.Scenes.{accepted_of};
 ghost use Rattle.aprs_history.specs.Rounds.{AreFresh, greatest_after, is_whole, only_listens, stopped_after, with_events};
 ghost use Rattle.aprs_history.specs.Texts.{untaken};
 ghost use Rattle.server_core.specs.LinkSteps.{AreServed, Rises, has_number, numbers, pending_at};
@@ -135,6 +136,9 @@ impl Core {
         ensures stands { (h : History) → Stands self.old h → OnOk result (Stands self.new (with_events events.now h)) }
         ensures due { (h : History) → Stands self.old h
             → IfOk result (λ acts. AreActs (setting_of self.new.conf) (with_events events.now h) acts) }
+        // Beside them are the packets that the round accepted, in order.
+        ensures accepted { (h : History) → Stands self.old h
+            → IfOk result (λ acts. accepted_of (trace_of (setting_of self.old.conf) (with_events events.now h)) ≡ accepted_of (trace_of (setting_of self.old.conf) h) ++ acts.accepted) }
         ensures lines { (h : History) → Stands self.old h
             → OnOk result (lines.new.items ≡ lines.old.items ++ round_lines (setting_of self.old.conf) (trace_of (setting_of self.old.conf) (with_events events.now h))) }
     {

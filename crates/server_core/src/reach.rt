@@ -1,5 +1,5 @@
-//! What the core keeps for other servers: its uplinks, and what the last round has for them.
-ghost use Rattle.std.specs.Prelude.{◌≡◌, ◌++◌, ◌≤◌, [], IfOk, None, OnOk, length, map, if◌then◌else◌};
+//! What the core keeps for other servers: its uplinks, and what the last round has for them. Beside it what that round accepted.
+ghost use Rattle.std.specs.Prelude.{◌≡◌, ◌∷◌, ◌++◌, ◌≤◌, [], IfOk, None, OnOk, length, map, if◌then◌else◌};
 ghost use Rattle.std.specs.Arc.{arc_value};
 ghost use Rattle.aprs_history.specs.Dials.{casts_to};
 ghost use Rattle.server_core.specs.LinkSteps.{ended_all};
@@ -9,7 +9,7 @@ ghost use Rattle.uplinks_peers.specs.Uplinks.{acts_at, is_dialled, untried, upli
 ghost use Rattle.uplinks_peers.specs.declared.uplinks.UpEvent.TheVariants as up;
 
 use crate::acts::CastOut;
-use aprs_base::{Line, Memory};
+use aprs_base::{Line, Memory, Shared};
 use aprs_conf::PeerSpec;
 use served_links::Served;
 use std::alloc::Global;
@@ -17,40 +17,46 @@ use std::marker::Model;
 use std::sync::Arc;
 use uplinks_peers::{UpEvent, Uplinks};
 
-/// The uplinks, the one that is to be dialled after the round, and the lines that the round has for the peers, in order.
+/// The uplinks, the one that is to be dialled after the round, the lines that the round has for the peers, and the packets that it
+/// accepted, both in order.
 #[derive(Drop)]
 pub(crate) struct Reach {
     uplinks: Uplinks,
     dial: Option<u16>,
     casts: Vec<CastOut>,
+    accepted: Vec<Shared>,
 }
 
 impl Model for Reach {
+    ghost use Rattle.std.specs.Prelude.{map};
+    ghost use Rattle.std.specs.Arc.{arc_value};
     ghost use Rattle.aprs_history.specs.Stands.{ReachSeen};
 
     ghost Value = { ReachSeen };
 
-    ghost view = { λ r. record { uplinks = r.uplinks; dial = r.dial; casts = r.casts.items } };
+    ghost view = { λ r. record { uplinks = r.uplinks; dial = r.dial; casts = r.casts.items; accepted = map arc_value r.accepted.items } };
 }
 
 impl Reach {
     /// So many uplinks, each of which may be silent for so many seconds.
     pub fn new(alloc: Global, count: u16, timeout: u32) -> Reach
-        ensures { result ≡ record { uplinks = untried count timeout; dial = None; casts = [] } }
+        ensures { result ≡ record { uplinks = untried count timeout; dial = None; casts = []; accepted = [] } }
     {
         Reach {
             uplinks: Uplinks::new(count, timeout),
             dial: None,
             casts: Vec::new(alloc),
+            accepted: Vec::new(alloc),
         }
     }
 
     /// A round begins.
     pub fn begin(&mut self)
-        ensures { self.new ≡ record self.old { dial = None; casts = [] } }
+        ensures { self.new ≡ record self.old { dial = None; casts = []; accepted = [] } }
     {
         self.dial = None;
         self.casts.clear();
+        self.accepted.clear();
     }
 
     /// A second has passed: an uplink may be dialled.
@@ -129,6 +135,14 @@ impl Reach {
         cast_to(&mut self.casts, peers, line)
     }
 
+    /// A packet was accepted.
+    pub fn accept(&mut self, packet: &Shared) -> Result<(), Memory>
+        ensures { OnOk result (self.new ≡ record self.old { accepted = self.old.accepted ++ arc_value packet.now ∷ [] }) }
+    {
+        let packet = packet.clone()?;
+        Ok(self.accepted.push(packet)?)
+    }
+
     /// The uplink that is to be dialled.
     pub fn dial(&self) -> Option<u16>
         ensures { result ≡ self.now.dial }
@@ -141,6 +155,13 @@ impl Reach {
         ensures { IfOk result (λ casts. casts.items ≡ self.now.casts) }
     {
         copy_casts(alloc, self.casts.as_slice())
+    }
+
+    /// The packets that were accepted, which share their bytes with those that are kept.
+    pub fn accepted(&self, alloc: Global) -> Result<Vec<Shared>, Memory>
+        ensures { IfOk result (λ packets. map arc_value packets.items ≡ self.now.accepted) }
+    {
+        copy_packets(alloc, self.accepted.as_slice())
     }
 }
 
@@ -167,6 +188,17 @@ fn copy_casts(alloc: Global, casts: &[CastOut]) -> Result<Vec<CastOut>, Memory>
             peer: cast.peer,
             line,
         })?;
+    }
+    Ok(copies)
+}
+
+fn copy_packets(alloc: Global, packets: &[Shared]) -> Result<Vec<Shared>, Memory>
+    ensures { IfOk result (λ copies. map arc_value copies.items ≡ map arc_value packets.now) }
+{
+    let mut copies = Vec::new(alloc);
+    for packet in packets {
+        let packet = packet.clone()?;
+        copies.push(packet)?;
     }
     Ok(copies)
 }

@@ -208,6 +208,7 @@ fn no_acts(alloc: Global) -> Acts {
         casts: Vec::new(alloc),
         offers: Vec::new(alloc),
         closes: Vec::new(alloc),
+        accepted: Vec::new(alloc),
         done: false,
     }
 }

@@ -96,7 +96,7 @@ impl Walker {
     }
 
     /// An accepted packet, which is shared, goes to the links that want it and to the peers, tells where its source is, is
-    /// counted, and is kept.
+    /// counted, and is kept, also for those who ask what the round accepted.
     fn keep(
         &mut self,
         alloc: Global,
@@ -116,6 +116,7 @@ impl Walker {
         let owed = self.spend(alloc, packet)?;
         self.promise(alloc, packet, hearers.as_slice())?;
         self.cast(packet, source.submitted)?;
+        self.reach.accept(shared)?;
         self.links.share(
             alloc,
             packet,

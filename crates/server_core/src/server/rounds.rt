@@ -209,6 +209,7 @@ impl Walker {
         ensures served { IfOk result (λ acts. AreServed acts.offers self.now.seen.links) }
         ensures dial { IfOk result (λ acts. acts.dial ≡ self.now.seen.reach.dial) }
         ensures casts { IfOk result (λ acts. acts.casts ≡ self.now.seen.reach.casts) }
+        ensures accepted { IfOk result (λ acts. acts.accepted ≡ self.now.seen.reach.accepted) }
     {
         let offers = self.links.ready(alloc)?;
         let closes = self.closing.clone()?;
@@ -217,6 +218,7 @@ impl Walker {
             casts: self.reach.casts(alloc)?,
             offers,
             closes,
+            accepted: self.reach.accepted(alloc)?,
             done: self.stopped,
         })
     }

@@ -31,7 +31,7 @@ returns-clause-walks c = λ t walks.
     let left : links ≡ filter is_there inside.links.links =
     ap (λ ns. filter (is_none_of ns) inside.links.links) (c.as_slice-3.ensures.value ∙ c.in_ok-lost.ensures)
     ∙ passing_left is_lost inside.greatest inside.links.links c.self.invariant.rising in
-    let reached : c.end_all.new.self ≡ record inside.reach { uplinks = ended_all (numbers (filter is_lost inside.links.links)) inside.moment inside.reach.uplinks; dial = None; casts = [] } =
+    let reached : c.end_all.new.self ≡ record inside.reach { uplinks = ended_all (numbers (filter is_lost inside.links.links)) inside.moment inside.reach.uplinks; dial = None; casts = []; accepted = [] } =
     c.end_all.ensures
     ∙ ap (λ ns. record c.begin.new.self { uplinks = ended_all ns inside.moment c.begin.new.self.uplinks }) (c.as_slice.ensures.value ∙ c.in_ok-lost.ensures)
     ∙ ap (λ (reach : ReachSeen). record reach { uplinks = ended_all (numbers (filter is_lost inside.links.links)) inside.moment reach.uplinks }) c.begin.ensures in
