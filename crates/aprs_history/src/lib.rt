@@ -12,5 +12,4 @@ pub use laws::{
 };
 pub use verdicts::{
     Admission, EndReason, FilterAnswer, FilterFault, LinkKind, Refusal, Session, Verdict,
-
 };
