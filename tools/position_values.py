@@ -1,8 +1,8 @@
 #!/usr/bin/env python3
-"""Prints the tables of the position tests, by the rules of the APRS Protocol Reference 1.0.1 alone.
+"""Prints the rows of positions and their answers, by the rules of the APRS Protocol Reference 1.0.1 alone.
 
 The values are worked out in exact fractions of a degree and cut to whole millionths. Nothing here is taken from
-the server's own output. Usage: position_values.py plain | compressed | mic_e
+the server's own output. The rows are those of crates/reading_rows. Usage: position_values.py plain | compressed | mic_e
 """
 import math
 import random
@@ -16,16 +16,19 @@ def cut(degrees):
     return -millionths if degrees < 0 else millionths
 
 
-def rust(text):
+def field(text):
+    """The text as the last field of a row."""
     shown = ""
-    for char in text:
-        if char in '\\"':
-            shown += "\\" + char
+    for index, char in enumerate(text):
+        if char == "\\":
+            shown += "\\x5c" if text[index + 1:index + 2] == "(" else "\\\\"
+        elif char == " " and index in (0, len(text) - 1):
+            shown += "\\s"
         elif 32 <= ord(char) < 127:
             shown += char
         else:
             shown += "\\x%02x" % ord(char)
-    return '"' + shown + '"'
+    return shown
 
 
 def degrees(digits, sign):
@@ -55,7 +58,7 @@ def plain():
         texts.append(lat + rng.choice("NS") + rng.choice("/\\059AMZ") + lon + rng.choice("EW") + chr(rng.randrange(33, 127)) + rng.choice(["", "x", "/A=001234"]))
     for text in texts:
         lat, lon, table, code = plain_value(text)
-        print("    (%s, %d, %d, b'%s', b'%s')," % (rust(text), lat, lon, table.replace("\\", "\\\\"), code.replace("\\", "\\\\").replace("'", "\\'")))
+        print("plain %s = %d %d %s %s 19" % (field(text), lat, lon, table, code))
 
 
 def base91(text):
@@ -96,7 +99,7 @@ def compressed():
         texts.append(rng.choice("/\\AMZabcdefghij") + digits91(south) + digits91(east) + chr(rng.randrange(33, 127)) + "".join(chr(rng.randrange(32, 127)) for _ in range(3)))
     for text in texts:
         lat, lon, table, code = compressed_value(text)
-        print("    (%s, %d, %d, b'%s', b'%s')," % (rust(text), lat, lon, table.replace("\\", "\\\\"), code.replace("\\", "\\\\").replace("'", "\\'")))
+        print("compressed %s = %d %d %s %s 13" % (field(text), lat, lon, table, code))
 
 
 def mic_e_value(dest, body):
@@ -146,7 +149,7 @@ def mic_e():
         cases.append((dest, rng.choice("`'") + lon + "".join(chr(rng.randrange(32, 127)) for _ in range(3)) + chr(rng.randrange(33, 127)) + rng.choice("/\\059AMZ")))
     for dest, body in cases:
         lat, lon, table, code = mic_e_value(dest, body)
-        print("    (%s, %s, %d, %d, b'%s', b'%s')," % (rust(dest), rust(body), lat, lon, table.replace("\\", "\\\\"), code.replace("\\", "\\\\").replace("'", "\\'")))
+        print("mic-e %s %s = %d %d %s %s 9" % (dest, field(body), lat, lon, table, code))
 
 
 {"plain": plain, "compressed": compressed, "mic_e": mic_e}[sys.argv[1]]()

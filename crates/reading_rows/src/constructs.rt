@@ -94,17 +94,19 @@ pub fn goes_on(alloc: Global, row: &str) -> Result<String, RowError> {
     let others = others(alloc, logins)?;
     let server = read_station(alloc, "T2TEST")?;
     let parts = read_parts(alloc, line)?;
+    let others = others.as_slice();
     let mut whole = Parts::unfilled();
-    let listed = Listed {
-        calls: others.as_slice(),
+    let listed = Listed { calls: others };
+    let filled = match process_into(&mut whole, &parts, &origin, &server, &listed) {
+        Ok(()) => line_text(alloc, write(&whole).ok())?,
+        Err(drop) => drop_text(alloc, &drop)?,
     };
-    let filled = process_into(&mut whole, &parts, &origin, &server, &listed);
-    let result = process(&parts, &origin, &server, others.as_slice());
-    if filled.map(|()| whole) != result {
+    let answer = match process(&parts, &origin, &server, others) {
+        Ok(parts) => line_text(alloc, write(&parts).ok())?,
+        Err(drop) => drop_text(alloc, &drop)?,
+    };
+    if filled.as_str() != answer.as_str() {
         return said(alloc, "two answers");
     }
-    match result {
-        Ok(parts) => line_text(alloc, write(&parts).ok()),
-        Err(drop) => Ok(drop_text(alloc, &drop)?),
-    }
+    Ok(answer)
 }

@@ -22,6 +22,25 @@ fn put_parsed(alloc: Global, text: &mut String, parsed: &Parsed) -> Result<(), A
     }
 }
 
+/// What each line is.
+fn parsed_text(alloc: Global, lines: &[Parsed]) -> Result<String, AllocError> {
+    let mut text = String::new(alloc);
+    for parsed in lines {
+        put_parsed(alloc, &mut text, parsed)?;
+    }
+    Ok(text)
+}
+
+/// What lines are that are looked for one by one.
+fn sought_text(alloc: Global, ahead: &mut Ahead, lines: &[Line]) -> Result<String, AllocError> {
+    let mut text = String::new(alloc);
+    for line in lines {
+        ahead.seek(line);
+        put_parsed(alloc, &mut text, ahead.what_it_is())?;
+    }
+    Ok(text)
+}
+
 /// Lines that are parted by blanks.
 fn read_lines(alloc: Global, text: &str) -> Result<Vec<Line>, RowError> {
     let mut lines = Vec::new(alloc);
@@ -38,11 +57,7 @@ pub fn parse<R: Threads + Sync>(rt: &R, alloc: Global, row: &str) -> Result<Stri
         let lines = read_lines(alloc, call)?;
         parse_all(rt, alloc, lines.as_slice(), &mut out).map_err(no_memory)?;
     }
-    let mut text = String::new(alloc);
-    for parsed in &out {
-        put_parsed(alloc, &mut text, parsed)?;
-    }
-    Ok(text)
+    Ok(parsed_text(alloc, out.as_slice())?)
 }
 
 /// Many lines, each of which is to be what it is by itself.
@@ -52,12 +67,9 @@ pub fn together<R: Threads + Sync>(rt: &R, alloc: Global, row: &str) -> Result<S
     let lines = read_lines(alloc, text)?;
     let mut out = Vec::new(alloc);
     parse_all(rt, alloc, lines.as_slice(), &mut out).map_err(no_memory)?;
-    let mut alone = Ahead::none(alloc);
-    for (line, parsed) in lines.iter().zip(&out) {
-        alone.seek(line);
-        if alone.what_it_is() != parsed {
-            return said(alloc, "otherwise alone");
-        }
+    let alone = sought_text(alloc, &mut Ahead::none(alloc), lines.as_slice())?;
+    if parsed_text(alloc, out.as_slice())?.as_str() != alone.as_str() {
+        return said(alloc, "otherwise alone");
     }
     Ok(format!(in alloc; "{} lines, each as it is alone", out.len())?)
 }
@@ -69,10 +81,6 @@ pub fn ahead<R: Threads + Sync>(rt: &R, alloc: Global, row: &str) -> Result<Stri
     ahead
         .parse(rt, alloc, read_lines(alloc, before)?)
         .map_err(no_memory)?;
-    let mut text = String::new(alloc);
-    for line in &read_lines(alloc, after)? {
-        ahead.seek(line);
-        put_parsed(alloc, &mut text, ahead.what_it_is())?;
-    }
-    Ok(text)
+    let after = read_lines(alloc, after)?;
+    Ok(sought_text(alloc, &mut ahead, after.as_slice())?)
 }

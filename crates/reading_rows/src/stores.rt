@@ -1,6 +1,6 @@
 //! Files and sinks in memory, some of whose calls fail.
 
-use crate::fields::{no_memory, said};
+use crate::fields::no_memory;
 use aprs_base::{FileError, Files, MemFile, MemFiles, MemSink, Sink, SinkError, Text};
 use row_texts::{RowError, read_bytes, split_word, write_bytes};
 use std::alloc::{AllocError, Global};

@@ -1,7 +1,7 @@
 //! Calls, lines and their cutting.
 
-use crate::fields::{bytes_or_none, no_memory, read_call, yes_or_no};
-use aprs_base::{Call, Cut, Cutter, Line};
+use crate::fields::{bytes_or_none, no_memory, read_call, said, yes_or_no};
+use aprs_base::{Call, Cut, Cutter, Line, Memory};
 use row_texts::{RowError, read_bytes, write_bytes};
 use std::alloc::{AllocError, Global};
 
@@ -24,11 +24,16 @@ pub fn line(alloc: Global, field: &str) -> Result<String, RowError> {
     bytes_or_none(alloc, line.as_ref().map(|line| line.bytes()))
 }
 
-fn put_cut(alloc: Global, text: &mut String, cut: &Cut) -> Result<(), AllocError> {
-    match cut {
-        Cut::Line(line) => write!(text, "\n    line {}", write_bytes(alloc, line.bytes())?),
-        Cut::Long => text.push_str("\n    long"),
+/// Each cut, on a line of its own.
+fn cuts_text(alloc: Global, cuts: &[Cut]) -> Result<String, AllocError> {
+    let mut text = String::new(alloc);
+    for cut in cuts {
+        match cut {
+            Cut::Line(line) => write!(text, "\n    line {}", write_bytes(alloc, line.bytes())?)?,
+            Cut::Long => text.push_str("\n    long")?,
+        }
     }
+    Ok(text)
 }
 
 /// Feeds a piece byte by byte.
@@ -37,32 +42,28 @@ fn feed_bytes(
     cutter: &mut Cutter,
     piece: &[u8],
     cuts: &mut Vec<Cut>,
-) -> Result<(), RowError> {
+) -> Result<(), Memory> {
     for byte in piece {
-        cutter.feed(alloc, &[*byte], cuts).map_err(no_memory)?;
+        cutter.feed(alloc, &[*byte], cuts)?;
     }
     Ok(())
 }
 
 /// The cuts of pieces, which are to be the same where each byte comes alone.
 pub fn cuts(alloc: Global, pieces: &str) -> Result<String, RowError> {
-    let mut whole = Cutter::new();
+    let mut cutter = Cutter::new();
     let mut cuts = Vec::new(alloc);
-    let mut single = Cutter::new();
-    let mut single_cuts = Vec::new(alloc);
+    let mut alone = Cutter::new();
+    let mut alone_cuts = Vec::new(alloc);
     for piece in pieces.split(' ') {
         let piece = read_bytes(alloc, piece)?;
-        whole
-            .feed(alloc, piece.as_slice(), &mut cuts)
-            .map_err(no_memory)?;
-        feed_bytes(alloc, &mut single, piece.as_slice(), &mut single_cuts)?;
+        let bytes = piece.as_slice();
+        cutter.feed(alloc, bytes, &mut cuts).map_err(no_memory)?;
+        feed_bytes(alloc, &mut alone, bytes, &mut alone_cuts).map_err(no_memory)?;
     }
-    let mut text = String::new(alloc);
-    for cut in &cuts {
-        put_cut(alloc, &mut text, cut)?;
-    }
-    if whole != single || cuts != single_cuts {
-        text.push_str("\n    otherwise byte by byte")?;
+    let text = cuts_text(alloc, cuts.as_slice())?;
+    if cuts_text(alloc, alone_cuts.as_slice())?.as_str() != text.as_str() {
+        return said(alloc, "otherwise byte by byte");
     }
     Ok(text)
 }
