@@ -18,7 +18,13 @@ fn event_text(alloc: Global, event: Option<&Event>) -> Answer {
     match event {
         None => said(alloc, "none"),
         Some(Event::Tick(moment)) => Ok(format!(in alloc; "tick {moment}")?),
-        Some(Event::Opened { listener, link, from }) => {
+        Some(
+            Event::Opened {
+                listener,
+                link,
+                from,
+            },
+        ) => {
             let ip = from.ip;
             let port = from.port;
             Ok(format!(in alloc; "opened {listener} {link} from {ip:?} {port}")?)

@@ -1,7 +1,7 @@
 //! The lines of the journal, as operators read them.
 
 use crate::fields::{Answer, Fault, Fields, UNKNOWN};
-use crate::refusals::refusal;
+use crate::refusals::read_refusal;
 use aprs_base::{JournalLine, Kind, Source};
 use aprs_history::{EndReason, Session};
 use journal_lines::{
@@ -26,7 +26,7 @@ fn line_text(alloc: Global, line: &JournalLine) -> Answer {
     Ok(format!(in alloc; "{kind} {moment} {text}")?)
 }
 
-fn source(fields: &mut Fields) -> Result<Source, Fault> {
+fn read_source(fields: &mut Fields) -> Result<Source, Fault> {
     match fields.word() {
         "link" => Ok(Source::Link(fields.number()?)),
         "submit" => Ok(Source::Submit(fields.number()?)),
@@ -35,7 +35,7 @@ fn source(fields: &mut Fields) -> Result<Source, Fault> {
     }
 }
 
-fn session(fields: &mut Fields) -> Result<Session, Fault> {
+fn read_session(fields: &mut Fields) -> Result<Session, Fault> {
     let call = fields.call()?;
     match fields.word() {
         "verified" => Ok(Session {
@@ -50,7 +50,7 @@ fn session(fields: &mut Fields) -> Result<Session, Fault> {
     }
 }
 
-fn reason(word: &str) -> Result<EndReason, Fault> {
+fn read_reason(word: &str) -> Result<EndReason, Fault> {
     match word {
         "by-peer" => Ok(EndReason::ByPeer),
         "found-gone" => Ok(EndReason::FoundGone),
@@ -66,11 +66,11 @@ fn reason(word: &str) -> Result<EndReason, Fault> {
 
 /// The line of what a session or a datagram is refused or does, where 3 is the listener of the group.
 fn line_from(word: &str, moment: u64, fields: &mut Fields) -> Result<JournalLine, Fault> {
-    let from = source(fields)?;
+    let from = read_source(fields)?;
     match word {
-        "refused" => Ok(refusal_line(3, &from, moment, &refusal(fields)?)),
+        "refused" => Ok(refusal_line(3, &from, moment, &read_refusal(fields)?)),
         "duplicate" => Ok(duplicate_line(3, &from, moment)),
-        "login" => Ok(login_line(3, &from, moment, &session(fields)?)),
+        "login" => Ok(login_line(3, &from, moment, &read_session(fields)?)),
         "filter" => Ok(filter_line(3, &from, moment)),
         _ => Err(UNKNOWN),
     }
@@ -81,7 +81,7 @@ fn line(word: &str, moment: u64, fields: &mut Fields) -> Result<JournalLine, Fau
         "open" => Ok(open_line(moment, fields.number()?, fields.number()?)),
         "join" => Ok(join_line(moment, fields.number()?, fields.number()?)),
         "unjoined" => Ok(unjoined_line(moment, fields.number()?)),
-        "end" => Ok(end_line(moment, fields.number()?, reason(fields.word())?)),
+        "end" => Ok(end_line(moment, fields.number()?, read_reason(fields.word())?)),
         _ => line_from(word, moment, fields),
     }
 }

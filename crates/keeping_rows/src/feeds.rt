@@ -2,7 +2,7 @@
 ghost use Rattle.std.specs.Prelude.{◌≡◌, ◌≤◌, true};
 
 use crate::fields::{Answer, Fault, Fields, UNKNOWN, all_of, not_allowed, said};
-use crate::items::{feed, item};
+use crate::items::{read_feed, read_item};
 use aprs_base::{Line, OpenGate};
 use link_feeds::{Crew, Feeds};
 use row_texts::write_bytes;
@@ -24,7 +24,7 @@ fn open(feeds: &mut Feeds, fields: &mut Fields) -> Answer
     requires { feeds.old.settled ≡ true }
 {
     let link = fields.number()?;
-    let feed = feed(fields.word())?;
+    let feed = read_feed(fields.word())?;
     let inbound = match fields.word() {
         "in" => true,
         "out" => false,
@@ -40,7 +40,7 @@ fn bring(feeds: &mut Feeds, fields: &mut Fields) -> Answer {
     let count: u32 = fields.number()?;
     let rest = fields.rest();
     for _ in 0..count {
-        feeds.bring(item(&mut Fields::new(fields.alloc, rest))?)?;
+        feeds.bring(read_item(&mut Fields::new(fields.alloc, rest))?)?;
     }
     said(fields.alloc, "done")
 }
@@ -79,11 +79,7 @@ fn tell(alloc: Global, feeds: &mut Feeds, place: usize, line: Line) -> Answer {
 fn leave(feeds: &mut Feeds, fields: &mut Fields) -> Answer
     requires { feeds.old.settled ≡ true }
 {
-    let mut numbers = Vec::new(fields.alloc);
-    while !fields.is_over() {
-        numbers.push(fields.number()?)?;
-    }
-    feeds.drop_these(numbers.as_slice());
+    feeds.drop_these(fields.numbers()?.as_slice());
     said(fields.alloc, "done")
 }
 

@@ -66,19 +66,13 @@ impl<'a> Fields<'a> {
         rest
     }
 
-    /// The fields behind a word, where they begin with it.
-    pub fn after(&self, word: &str) -> Option<Fields<'a>> {
-        let (first, rest) = split_word(self.rest);
-        if first == word {
-            Some(Fields::new(self.alloc, rest))
-        } else {
-            None
+    /// All fields that are left, as numbers.
+    pub fn numbers(&mut self) -> Result<Vec<u32>, Fault> {
+        let mut numbers = Vec::new(self.alloc);
+        for word in self.rest().split_whitespace() {
+            numbers.push(word.parse::<u32>().ok().ok_or(UNKNOWN)?)?;
         }
-    }
-
-    /// Whether no field is left.
-    pub fn is_over(&self) -> bool {
-        self.rest.is_empty()
+        Ok(numbers)
     }
 
     /// The next field as a number.
@@ -86,7 +80,7 @@ impl<'a> Fields<'a> {
     where
         N::Err: Drop,
     {
-        self.word().parse::<N>().map_err(|_error| UNKNOWN)
+        self.word().parse::<N>().ok().ok_or(UNKNOWN)
     }
 
     /// The next field as a number, unless it is `none`.
@@ -96,7 +90,7 @@ impl<'a> Fields<'a> {
     {
         match self.word() {
             "none" => Ok(None),
-            word => Ok(Some(word.parse::<N>().map_err(|_error| UNKNOWN)?)),
+            word => Ok(Some(word.parse::<N>().ok().ok_or(UNKNOWN)?)),
         }
     }
 
@@ -145,7 +139,7 @@ pub fn yes_or_no(alloc: Global, holds: bool) -> Answer {
 }
 
 /// Numbers with blanks between them, or `none`.
-pub fn all_of<N: Display>(alloc: Global, numbers: &[N]) -> Answer {
+pub fn all_of(alloc: Global, numbers: &[u32]) -> Answer {
     let mut text = String::new(alloc);
     for number in numbers {
         if !text.is_empty() {

@@ -13,15 +13,6 @@ pub struct Hearers {
     heard: Heard,
 }
 
-/// The numbers that are left.
-fn numbers(fields: &mut Fields) -> Result<Vec<u32>, Fault> {
-    let mut numbers = Vec::new(fields.alloc);
-    for word in fields.rest().split_whitespace() {
-        numbers.push(word.parse::<u32>().map_err(|_error| UNKNOWN)?)?;
-    }
-    Ok(numbers)
-}
-
 impl Hearers {
     pub fn new(alloc: Global, hasher: &RandomState) -> Result<Hearers, Fault> {
         Ok(Hearers {
@@ -35,7 +26,7 @@ impl Hearers {
     fn receivers(&mut self, fields: &mut Fields) -> Answer {
         let to = fields.call()?;
         let now = fields.number()?;
-        let mut links = numbers(fields)?;
+        let mut links = fields.numbers()?;
         self.heard.receivers(self.alloc, &to, now, &mut links)?;
         all_of(self.alloc, links.as_slice())
     }
@@ -44,7 +35,7 @@ impl Hearers {
     fn courtesy(&mut self, fields: &mut Fields) -> Answer {
         let sender = fields.call()?;
         let now = fields.number()?;
-        let mut links = numbers(fields)?;
+        let mut links = fields.numbers()?;
         self.heard.courtesy(self.alloc, &sender, now, &mut links)?;
         all_of(self.alloc, links.as_slice())
     }
@@ -61,7 +52,8 @@ impl Hearers {
             "promise" => {
                 let link = fields.number()?;
                 let call = fields.call()?;
-                self.heard.promise(self.alloc, link, &call, fields.number()?)?;
+                self.heard
+                    .promise(self.alloc, link, &call, fields.number()?)?;
             }
             "forget" => self.heard.forget(fields.number()?),
             "expire" => self.heard.expire(fields.number()?),

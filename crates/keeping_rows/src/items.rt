@@ -23,7 +23,7 @@ pub fn nowhere(terms: usize) -> Friends {
     Friends { at }
 }
 
-pub fn feed(word: &str) -> Result<Feed, Fault> {
+pub fn read_feed(word: &str) -> Result<Feed, Fault> {
     match word {
         "nothing" => Ok(Feed::Nothing),
         "full" => Ok(Feed::Full),
@@ -90,7 +90,7 @@ fn line(fields: &mut Fields) -> Result<Arc<Line>, Fault> {
 
 /// A packet: its link and its source, whether it is a refused duplicate, whether it was submitted here, which link the message
 /// rule names, and its line.
-fn packet(fields: &mut Fields) -> Result<Item, Fault>
+fn read_packet(fields: &mut Fields) -> Result<Item, Fault>
     ensures { IfOk result (λ item. IsOrdered (item_seen item)) }
 {
     let alloc = fields.alloc;
@@ -125,7 +125,7 @@ fn quiet(alloc: Global, link: u32) -> Result<Item, Fault>
 }
 
 /// What comes, by its word.
-pub fn item(fields: &mut Fields) -> Result<Item, Fault>
+pub fn read_item(fields: &mut Fields) -> Result<Item, Fault>
     ensures { IfOk result (λ item. IsOrdered (item_seen item)) }
 {
     match fields.word() {
@@ -140,7 +140,7 @@ pub fn item(fields: &mut Fields) -> Result<Item, Fault>
             link: fields.number()?,
         }),
         "quiet" => quiet(fields.alloc, fields.number()?),
-        "packet" => packet(fields),
+        "packet" => read_packet(fields),
         _ => Err(UNKNOWN),
     }
 }

@@ -21,7 +21,7 @@ struct Entry {
     text: Vec<u8>,
 }
 
-fn kind(word: &str) -> Result<Kind, Fault> {
+fn read_kind(word: &str) -> Result<Kind, Fault> {
     match word {
         "refusal" => Ok(Kind::Refusal),
         "loop" => Ok(Kind::Loop),
@@ -32,7 +32,7 @@ fn kind(word: &str) -> Result<Kind, Fault> {
 
 fn read_entry(fields: &mut Fields) -> Result<Entry, Fault> {
     Ok(Entry {
-        kind: kind(fields.word())?,
+        kind: read_kind(fields.word())?,
         moment: fields.number()?,
         text: fields.rest_bytes()?,
     })
@@ -93,10 +93,7 @@ impl Told {
                 fields.perhaps()?,
                 fields.number()?,
             )?)),
-            "count" => Ok(Told::Count(CountJournal::new(
-                fields.number()?,
-                fields.number()?,
-            ))),
+            "count" => Ok(Told::Count(CountJournal::new(fields.number()?, fields.number()?))),
             _ => Err(UNKNOWN),
         }
     }

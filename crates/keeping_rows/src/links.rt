@@ -4,7 +4,7 @@ ghost use Rattle.worker_match.specs.Items.{item_seen};
 ghost use Rattle.worker_match.specs.Walk.{IsOrdered};
 
 use crate::fields::{Answer, Fault, Fields, UNKNOWN, not_allowed, said};
-use crate::items::{feed, item, nowhere};
+use crate::items::{nowhere, read_feed, read_item};
 use aprs_base::{Call, Gate, Memory, OpenGate};
 use filter_lang::FilterSet;
 use link_queue::Queue;
@@ -69,7 +69,7 @@ struct Taker {
     terms: usize,
 }
 
-fn login(word: &str) -> Result<Option<Call>, Fault> {
+fn read_login(word: &str) -> Result<Option<Call>, Fault> {
     match word {
         "none" => Ok(None),
         _ => Ok(Some(Call::read(word.as_bytes()).ok_or(UNKNOWN)?)),
@@ -77,9 +77,9 @@ fn login(word: &str) -> Result<Option<Call>, Fault> {
 }
 
 fn read_taker(fields: &mut Fields) -> Result<Taker, Fault> {
-    let feed = feed(fields.word())?;
+    let feed = read_feed(fields.word())?;
     let room = fields.number()?;
-    let me = login(fields.word())?;
+    let me = read_login(fields.word())?;
     let text = fields.rest_bytes()?;
     if text.as_slice() == b"none".as_slice() {
         return Ok(Taker {
@@ -176,7 +176,7 @@ impl<'a, R: Threads + Sync> Links<'a, R> {
     }
 
     fn bring(&mut self, fields: &mut Fields) -> Answer {
-        self.block.push(item(fields)?)?;
+        self.block.push(read_item(fields)?)?;
         said(self.alloc, "done")
     }
 
@@ -202,7 +202,10 @@ impl<'a, R: Threads + Sync> Links<'a, R> {
         let entered = meeting.entered.load(Ordering::SeqCst);
         let met = meeting.met.load(Ordering::SeqCst);
         let left = meeting.left.load(Ordering::SeqCst);
-        let alive = self.links.iter().filter(|link| link.alive).count();
+        let mut alive = 0usize;
+        for link in &self.links {
+            alive = alive.saturating_add(usize::from(link.alive));
+        }
         let alloc = self.alloc;
         Ok(format!(in alloc; "entered {entered}, met {met}, left {left}, alive {alive}")?)
     }

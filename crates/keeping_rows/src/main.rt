@@ -10,14 +10,12 @@ mod heard;
 mod items;
 mod journals;
 mod links;
-mod plain;
 mod queues;
 mod refusals;
 mod stations;
 mod tables;
 mod uplinks;
 mod verdicts;
-mod walks;
 mod windows;
 
 use crate::tables::Tables;
@@ -34,8 +32,10 @@ fn main(rt: HostRuntime) -> io::Result<()> {
     };
     for line in text.lines() {
         if is_row(line) {
-            let answer = tables.answer(line).map_err(|fault| fault.0);
-            print_row(&rt, line, answer)?;
+            match tables.answer(line) {
+                Ok(answer) => print_row(&rt, line, Ok(answer))?,
+                Err(fault) => print_row(&rt, line, Err(fault.0))?,
+            }
         } else {
             println!(rt; "{line}")?;
         }

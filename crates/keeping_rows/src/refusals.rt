@@ -46,7 +46,7 @@ fn path_drop(fields: &mut Fields) -> Result<QDrop, Fault> {
 }
 
 /// Why a line is refused.
-pub fn refusal(fields: &mut Fields) -> Result<Refusal, Fault> {
+pub fn read_refusal(fields: &mut Fields) -> Result<Refusal, Fault> {
     match fields.word() {
         "long" => Ok(Refusal::Long),
         "login" => Ok(Refusal::Login(login_fault(fields.word())?)),

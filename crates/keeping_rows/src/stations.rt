@@ -1,6 +1,6 @@
 //! Where stations were last seen, and which of them are gates.
 
-use crate::fields::{Answer, Fault, Fields, UNKNOWN, or_none, said, yes_or_no};
+use crate::fields::{Answer, Fault, Fields, UNKNOWN, said, yes_or_no};
 use aprs_base::{Line, Packet, Source};
 use aprs_body::classify;
 use station_table::Stations;
@@ -51,7 +51,10 @@ impl Seen {
     fn latitude(&self, fields: &mut Fields) -> Answer {
         let call = fields.call()?;
         let seen = self.stations.place_of(&call, fields.number()?);
-        or_none(self.alloc, seen.map(|seen| seen.place.lat))
+        match seen {
+            Some(seen) => Ok(seen.place.lat.to_string(self.alloc)?),
+            None => said(self.alloc, "none"),
+        }
     }
 
     fn is_gate(&self, fields: &mut Fields) -> Answer {

@@ -15,7 +15,7 @@ fn acts_text(alloc: Global, acts: UpActs) -> Answer {
     }
 }
 
-fn side(word: &str) -> Result<Side, Fault> {
+fn read_side(word: &str) -> Result<Side, Fault> {
     match word {
         "client" => Ok(Side::Client),
         "uplink" => Ok(Side::Uplink),
@@ -24,7 +24,7 @@ fn side(word: &str) -> Result<Side, Fault> {
     }
 }
 
-fn event(word: &str, fields: &mut Fields) -> Result<UpEvent, Fault> {
+fn read_event(word: &str, fields: &mut Fields) -> Result<UpEvent, Fault> {
     match word {
         "tick" => Ok(UpEvent::Tick),
         "joined" => Ok(UpEvent::Joined {
@@ -45,12 +45,12 @@ pub fn answer(uplinks: &mut Uplinks, fields: &mut Fields) -> Answer {
             said(fields.alloc, "done")
         }
         "passes" => {
-            let from = side(fields.word())?;
-            let to = side(fields.word())?;
+            let from = read_side(fields.word())?;
+            let to = read_side(fields.word())?;
             yes_or_no(fields.alloc, goes_to(from, to))
         }
         word => {
-            let event = event(word, fields)?;
+            let event = read_event(word, fields)?;
             let now = fields.number()?;
             acts_text(fields.alloc, uplinks.step(event, now))
         }

@@ -66,7 +66,7 @@ fn offer(window: &mut Window, key: Key, now: u64) -> Result<Option<u64>, Memory>
 }
 
 /// The key of a packet: its source, destination and path, and then its body.
-fn key(fields: &mut Fields) -> Result<Key, Fault> {
+fn read_key(fields: &mut Fields) -> Result<Key, Fault> {
     let alloc = fields.alloc;
     let head = format!(in alloc; "{}:x", fields.word())?;
     let line = Line::new(head.as_bytes()).ok_or(UNKNOWN)?;
@@ -74,7 +74,7 @@ fn key(fields: &mut Fields) -> Result<Key, Fault> {
         return Err(UNKNOWN);
     };
     let body = fields.bytes()?;
-    parts.body = ArrayVec::try_from(body.as_slice()).map_err(|_error| UNKNOWN)?;
+    parts.body = ArrayVec::try_from(body.as_slice()).ok().ok_or(UNKNOWN)?;
     Ok(Key::of(&parts))
 }
 
@@ -119,12 +119,12 @@ impl Windows {
     pub fn answer(&mut self, fields: &mut Fields) -> Answer {
         match fields.word() {
             "new" => self.begin(fields.number()?),
-            "put" => self.put(fields.number()?, key(fields)?),
+            "put" => self.put(fields.number()?, read_key(fields)?),
             "seen" => {
                 let now = fields.number()?;
-                or_none(self.alloc, self.lately.seen(&key(fields)?, now))
+                or_none(self.alloc, self.lately.seen(&read_key(fields)?, now))
             }
-            "same" => yes_or_no(self.alloc, key(fields)? == key(fields)?),
+            "same" => yes_or_no(self.alloc, read_key(fields)? == read_key(fields)?),
             "expire" => self.expire(fields.number()?),
             _ => Err(UNKNOWN),
         }
