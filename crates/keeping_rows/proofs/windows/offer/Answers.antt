@@ -2,7 +2,7 @@ use Rattle.std.proofs.Common.{◌≡◌, true, None, subst, sym, ◌∙◌, rule
 use Rattle.std.specs.List.{list_all}
 use Rattle.dupe_window.specs.Windows.{IsUpTo, is_inside_pair}
 use Rattle.dupe_window.proofs.WindowLemmas.{IsUpTo-expired, IsUpTo-with_key, inside_expired, seen_at-kept}
-use Rattle.keeping_tests.proofs.window_tests.offer.Goals as goal
+use Rattle.keeping_rows.proofs.windows.offer.Goals as goal
 
 pub insert-requires-clause-new : goal.insert-requires-clause-new
 insert-requires-clause-new c =

@@ -1,0 +1,132 @@
+//! A window in which packets are told from their copies.
+ghost use Rattle.dupe_window.specs.Windows.{IsUpTo};
+
+use crate::fields::{Answer, Fault, Fields, UNKNOWN, not_allowed, or_none, said, yes_or_no};
+use aprs_base::{Line, Memory};
+use arrayvec::ArrayVec;
+use dupe_window::{Key, Window};
+use std::alloc::Global;
+use std::hash::RandomState;
+use std::marker::Model;
+use tnc2_line::read;
+
+/// A window, and the latest moment at which a packet was put into it.
+#[derive(Drop)]
+pub struct Lately {
+    window: Window,
+    latest: u64,
+}
+
+impl Model for Lately {
+    ghost use Rattle.dupe_window.specs.Windows.{IsUpTo, WindowSeen};
+
+    ghost Value = { WindowSeen };
+
+    ghost view = { λ l. l.window };
+
+    ghost invariant = { λ l. IsUpTo l.latest l.window };
+}
+
+impl Lately {
+    pub fn new(alloc: Global, hasher: &RandomState, seconds: u32) -> Lately {
+        Lately {
+            window: Window::new(alloc, *hasher, seconds),
+            latest: 0,
+        }
+    }
+
+    /// When the packet came, where that is inside the window.
+    pub fn seen(&self, key: &Key, now: u64) -> Option<u64> {
+        self.window.seen(key, now)
+    }
+
+    pub fn expire(&mut self, now: u64) {
+        self.window.expire(now);
+    }
+
+    /// Keeps a packet, unless it is a copy of one in the window, which is what it answers. An earlier moment than that of another
+    /// counts as that one.
+    pub fn put(&mut self, key: Key, now: u64) -> Result<Option<u64>, Memory> {
+        self.latest = self.latest.max(now);
+        offer(&mut self.window, key, self.latest)
+    }
+}
+
+/// Keeps a packet, unless it is a copy of one in the window, which is what it answers.
+fn offer(window: &mut Window, key: Key, now: u64) -> Result<Option<u64>, Memory>
+    requires { IsUpTo now window.old }
+    ensures { IsUpTo now window.new }
+{
+    window.expire(now);
+    let seen = window.seen(&key, now);
+    if seen.is_none() {
+        window.insert(key, now)?;
+    }
+    Ok(seen)
+}
+
+/// The key of a packet: its source, destination and path, and then its body.
+fn read_key(fields: &mut Fields) -> Result<Key, Fault> {
+    let alloc = fields.alloc;
+    let head = format!(in alloc; "{}:x", fields.word())?;
+    let line = Line::new(head.as_bytes()).ok_or(UNKNOWN)?;
+    let Ok(mut parts) = read(&line) else {
+        return Err(UNKNOWN);
+    };
+    let body = fields.bytes()?;
+    parts.body = ArrayVec::try_from(body.as_slice()).ok().ok_or(UNKNOWN)?;
+    Ok(Key::of(&parts))
+}
+
+/// The window that rows speak of.
+#[derive(Drop)]
+pub struct Windows {
+    alloc: Global,
+    hasher: RandomState,
+    lately: Lately,
+}
+
+impl Windows {
+    pub fn new(alloc: Global, hasher: &RandomState) -> Windows {
+        Windows {
+            alloc,
+            hasher: *hasher,
+            lately: Lately::new(alloc, hasher, 30),
+        }
+    }
+
+    fn begin(&mut self, seconds: u32) -> Answer {
+        self.lately = Lately::new(self.alloc, &self.hasher, seconds);
+        said(self.alloc, "done")
+    }
+
+    /// A packet comes: whether it is new, or else when the same came.
+    fn put(&mut self, now: u64, key: Key) -> Answer {
+        if now < self.lately.latest {
+            return not_allowed(self.alloc);
+        }
+        match self.lately.put(key, now)? {
+            None => said(self.alloc, "new"),
+            seen => or_none(self.alloc, seen),
+        }
+    }
+
+    fn expire(&mut self, now: u64) -> Answer {
+        self.lately.expire(now);
+        said(self.alloc, "done")
+    }
+
+    pub fn answer(&mut self, fields: &mut Fields) -> Answer {
+        match fields.word() {
+            "new" => self.begin(fields.number()?),
+            "put" => self.put(fields.number()?, read_key(fields)?),
+            "seen" => {
+                let now = fields.number()?;
+                or_none(self.alloc, self.lately.seen(&read_key(fields)?, now))
+            }
+            "same" => yes_or_no(self.alloc, read_key(fields)? == read_key(fields)?),
+            "expire" => self.expire(fields.number()?),
+            _ => Err(UNKNOWN),
+        }
+    }
+}
