@@ -47,7 +47,7 @@ fn bring(feeds: &mut Feeds, fields: &mut Fields) -> Answer {
 
 /// What the link at that place has to take.
 fn front(alloc: Global, feeds: &Feeds, place: usize) -> Answer {
-    if !feeds.is_settled() || place >= feeds.len() {
+    if feeds.waiting() != 0 || place >= feeds.len() {
         return not_allowed(alloc);
     }
     let mut out = [0u8; 64];
@@ -59,7 +59,7 @@ fn front(alloc: Global, feeds: &Feeds, place: usize) -> Answer {
 
 /// The link at that place takes so many bytes.
 fn take(alloc: Global, feeds: &mut Feeds, place: usize, count: usize) -> Answer {
-    if feeds.is_settled() && place < feeds.len() && count <= feeds.pending(place) {
+    if feeds.waiting() == 0 && place < feeds.len() && count <= feeds.pending(place) {
         feeds.taken(place, count);
         return said(alloc, "done");
     }
@@ -68,7 +68,7 @@ fn take(alloc: Global, feeds: &mut Feeds, place: usize, count: usize) -> Answer 
 
 /// A line for the link at that place alone.
 fn tell(alloc: Global, feeds: &mut Feeds, place: usize, line: Line) -> Answer {
-    if feeds.is_settled() && place < feeds.len() {
+    if feeds.waiting() == 0 && place < feeds.len() {
         feeds.tell(place, Arc::new(alloc, line)?);
         return said(alloc, "done");
     }
@@ -86,7 +86,7 @@ fn leave(feeds: &mut Feeds, fields: &mut Fields) -> Answer
 /// What is done or asked once all that came is matched.
 fn settled(feeds: &mut Feeds, word: &str, fields: &mut Fields) -> Answer {
     let alloc = fields.alloc;
-    if !feeds.is_settled() {
+    if feeds.waiting() != 0 {
         return not_allowed(alloc);
     }
     match word {
