@@ -1,28 +1,25 @@
-//! Whole runs of the server, in memory and over the system's sockets. The crate holds nothing but tests.
+//! The server over the system's sockets, files and output, and what rows of text can't try: threads that meet, and what a core
+//! counts and keeps. The crate holds nothing but tests.
 #![tactic(auto)]
 
 #[cfg(test)]
 mod client;
 #[cfg(test)]
-mod crowd_tests;
+mod core_tests;
 #[cfg(test)]
-mod drill_runs;
+mod cores;
+#[cfg(test)]
+mod crowd_tests;
 #[cfg(test)]
 mod gate_runs;
 #[cfg(test)]
-mod journal_runs;
-#[cfg(test)]
 mod journal_tests;
 #[cfg(test)]
-mod memory_run;
-#[cfg(test)]
-mod network_runs;
+mod memory_wire_tests;
 #[cfg(test)]
 mod network_tests;
 #[cfg(test)]
 mod packets;
-#[cfg(test)]
-mod program_runs;
 #[cfg(test)]
 mod saying_tests;
 #[cfg(test)]
@@ -31,5 +28,3 @@ mod server;
 mod tests;
 #[cfg(test)]
 mod wire_tests;
-#[cfg(test)]
-mod words_tests;

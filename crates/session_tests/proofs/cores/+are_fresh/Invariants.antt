@@ -1,5 +1,0 @@
-use Rattle.std.proofs.Common.{length}
-use Rattle.session_tests.proofs.cores.+are_fresh.Given as goal
-
-abbrev pub decreases-are_fresh : goal.decreases-are_fresh
-decreases-are_fresh l = length l.events.now

@@ -1,5 +1,0 @@
-use Rattle.std.proofs.Common.{length}
-use Rattle.session_tests.proofs.cores.+is_whole.Given as goal
-
-abbrev pub decreases-is_whole : goal.decreases-is_whole
-decreases-is_whole l = length l.events.now
