@@ -51,7 +51,8 @@ fn put_lists(alloc: Global, text: &mut String, conf: &Conf) -> Result<(), AllocE
 fn put_limits(text: &mut String, conf: &Conf) -> Result<(), AllocError> {
     write!(text, "\n    uplink timeout {}", conf.up_timeout)?;
     write!(text, "\n    client timeout {}", conf.client_timeout)?;
-    write!(text, "\n    clients {}", conf.max_clients)
+    write!(text, "\n    clients {}", conf.max_clients)?;
+    write!(text, "\n    window {}", conf.dupe_window)
 }
 
 fn conf_text(alloc: Global, conf: &Conf) -> Result<String, AllocError> {

@@ -76,13 +76,29 @@ fn read_parts(alloc: Global, field: &str) -> Result<Parts, RowError>
     read(&read_line(alloc, field)?).map_err(|_| RowError::Word)
 }
 
+fn drop_name(drop: &QDrop) -> &'static str {
+    match drop {
+        QDrop::Unverified => "Unverified",
+        QDrop::NoGate => "NoGate",
+        QDrop::ThirdParty => "ThirdParty",
+        QDrop::Query => "Query",
+        QDrop::QAZ => "QAZ",
+        QDrop::NamesServer => "NamesServer",
+        QDrop::Twice(_) => "Twice",
+        QDrop::OtherLogin(_) => "OtherLogin",
+        QDrop::LoginNotLast => "LoginNotLast",
+        QDrop::Long => "Long",
+    }
+}
+
+/// The name of a drop, and the call that it names.
 fn drop_text(alloc: Global, drop: &QDrop) -> Result<String, AllocError> {
     match drop {
         QDrop::Twice(call) => format!(in alloc; "Twice {}", write_bytes(alloc, call.bytes())?),
         QDrop::OtherLogin(call) => {
             format!(in alloc; "OtherLogin {}", write_bytes(alloc, call.bytes())?)
         }
-        other => format!(in alloc; "{other:?}"),
+        other => String::from_str(alloc, drop_name(other)),
     }
 }
 
