@@ -25,7 +25,8 @@ pub struct Block {
 
 impl Model for Block {
     ghost use Rattle.std.specs.Prelude.{All, List};
-    ghost use Rattle.worker_match.specs.Items.{ItemSeen, items_seen};
+    ghost use Rattle.worker_match.specs.Items.{items_seen};
+    ghost use Rattle.worker_match.specs.Seen.{ItemSeen};
     ghost use Rattle.worker_match.specs.Walk.{IsOrdered};
 
     ghost Value = { List ItemSeen };
