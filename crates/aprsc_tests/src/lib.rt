@@ -14,6 +14,8 @@ mod journal_runs;
 #[cfg(test)]
 mod journal_tests;
 #[cfg(test)]
+mod mem_wire_tests;
+#[cfg(test)]
 mod memory_run;
 #[cfg(test)]
 mod network_runs;

@@ -25,5 +25,3 @@ mod uplink_tests;
 mod verdict_tests;
 #[cfg(test)]
 mod window_tests;
-#[cfg(test)]
-mod wire_tests;
