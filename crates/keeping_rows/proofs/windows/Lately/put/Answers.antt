@@ -1,4 +1,4 @@
-use Rattle.std.proofs.Common.{◌≤◌}
+use Rattle.std.proofs.Common.{◌≤◌, arith}
 use Rattle.dupe_window.proofs.WindowLemmas.{IsUpTo-later}
 use Rattle.keeping_rows.proofs.windows.Lately.put.Goals as goal
 
