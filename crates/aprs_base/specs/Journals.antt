@@ -1,10 +1,10 @@
 -- Journals as contracts see them, and the lines that they take.
-use Rattle.std.specs.Prelude.{◌≡◌, ◌↔◌, ℕ, ◌+◌, ◌≤◌, List, [], ◌∷◌, ◌++◌, length, filter, Bool, Option, Result, IsErr, IfSome, OnOk, OnErr}
+use Rattle.std.specs.Prelude.{◌≡◌, ◌↔◌, ℕ, ◌+◌, List, [], ◌∷◌, ◌++◌, length, filter, Bool, Option, Result, Ok, Err, IsErr, IfSome, OnOk, OnErr}
 use Rattle.std.specs.List.{flat_map}
 use Rattle.std.specs.Option.{option_map}
 use Rattle.std.specs.Str.{byte}
 use Rattle.std.specs.Fmt.{decimal}
-use Rattle.aprs_base.specs.Outside.{Rose}
+use Rattle.aprs_base.specs.Outside.{one_more}
 use Rattle.aprs_base.specs.declared.journals.Kind.{Kind}
 
 -- a line for the journals: the text is what follows the moment
@@ -25,15 +25,19 @@ pub record JournalShown : Type 0 where
   pub left : Option ℕ
   pub faults : ℕ
 
+-- the count of failed lines after one more: it is one more exactly where that failed
+abbrev pub failed_lines_after : {T E : Type 0} → Result T E → ℕ → ℕ
+failed_lines_after (Ok _) faults = faults
+failed_lines_after (Err _) faults = one_more faults
+
 pub record AfterLine {T E : Type 0} (old new : JournalShown) (line : JournalLineSeen) (result : Result T E) : Type 0 where
   pub told : OnOk result (new.told ≡ option_map (λ text. text ++ journal_text line) old.told)
   pub lowered : OnOk result (option_map (λ n. n + 1) new.left ≡ old.left)
   pub spent : IfSome old.left (λ n. IsErr result ↔ (n ≡ 0))
-  pub failed : OnErr result (Rose old.faults new.faults)
   pub untold : OnErr result (new.told ≡ old.told)
   pub unlowered : OnErr result (new.left ≡ old.left)
   pub wants : new.wants ≡ old.wants
-  pub faults : old.faults ≤ new.faults
+  pub faults : new.faults ≡ failed_lines_after result old.faults
 
 -- the lines of the kinds that a journal wants
 abbrev pub due_to : JournalShown → List JournalLineSeen → List JournalLineSeen

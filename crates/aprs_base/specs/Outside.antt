@@ -1,5 +1,5 @@
 -- What the outside shows of itself: counts of faults that never fall, and, where it tells them, what happened and what it holds.
-use Rattle.std.specs.Prelude.{◌≡◌, ℕ, ◌+◌, ◌-◌, ◌≤◌, ◌^◌, ◌==◌, ◌&&◌, List, [], ◌∷◌, ◌++◌, length, min, Bool, true, Option, Some, None, Result, OnOk, OnErr, IfOk, IsErrOf, ⊤}
+use Rattle.std.specs.Prelude.{◌≡◌, ℕ, ◌+◌, ◌-◌, ◌≤◌, ◌^◌, ◌==◌, ◌&&◌, List, [], ◌∷◌, ◌++◌, length, min, Bool, true, Option, Some, None, Result, Ok, Err, OnOk, OnErr, IfOk, ⊤}
 use Rattle.std.specs.Option.{option_map}
 use Rattle.aprs_base.specs.declared.packets.ListenSpec.{ListenSpec}
 use Rattle.aprs_base.specs.UplinkSeen.{UplinkSeen}
@@ -28,10 +28,12 @@ pub record Told : Type 0 where
   pub dialled : List UplinkSeen
   pub cast_to : List Addr
 
--- what a wire shows: what it tells, where it tells it; its counts of failed calls and of lost links; how many links it made
+-- what a wire shows: what it tells, where it tells it; its counts of failed calls of `listen`, of failed calls of `next` and of
+-- lost links; how many links it made
 pub record WireShown : Type 0 where
   pub told : Option Told
-  pub stops : ℕ
+  pub failed_listens : ℕ
+  pub failed_nexts : ℕ
   pub gones : ℕ
   pub links : ℕ
 
@@ -72,11 +74,26 @@ abbrev pub IsOutcome : List ℕ → Sent → Type 0
 IsOutcome bytes (sent.Took n) = n ≤ length bytes
 IsOutcome bytes sent.Gone = ⊤
 
+-- a count of failed calls after one more: it is one more exactly where that failed
+abbrev pub failed_after : {T : Type 0} → Result T WireError → ℕ → ℕ
+failed_after (Ok _) failed = failed
+failed_after (Err wire_error.Failed) failed = one_more failed
+failed_after (Err wire_error.Memory) failed = failed
+
+-- the count of lost links after an offer: it is one more exactly where the link is gone
+abbrev pub gones_with : Sent → ℕ → ℕ
+gones_with (sent.Took n) gones = gones
+gones_with sent.Gone gones = one_more gones
+
+abbrev pub gones_after : {E : Type 0} → Result Sent E → ℕ → ℕ
+gones_after (Ok s) gones = gones_with s gones
+gones_after (Err _) gones = gones
+
 pub record AfterListen {T : Type 0} (old new : WireShown) (n : ℕ) (spec : ListenSpec) (result : Result T WireError) : Type 0 where
   pub ok : OnOk result (new.told ≡ option_map (with_listen n spec) old.told)
   pub err : OnErr result (new.told ≡ old.told)
-  pub failed : IsErrOf result wire_error.Failed → Rose old.stops new.stops
-  pub stops : old.stops ≤ new.stops
+  pub listens : new.failed_listens ≡ failed_after result old.failed_listens
+  pub nexts : new.failed_nexts ≡ old.failed_nexts
   pub gones : new.gones ≡ old.gones
   pub links : new.links ≡ old.links
 
@@ -85,24 +102,25 @@ pub record AfterNext (old new : WireShown) (result : Result Event WireError) : T
   pub counts : IfOk result (λ e. CountsLink (new_link e) old.links new.links)
   pub err : OnErr result (new.told ≡ old.told)
   pub uncounted : OnErr result (new.links ≡ old.links)
-  pub failed : IsErrOf result wire_error.Failed → Rose old.stops new.stops
-  pub stops : old.stops ≤ new.stops
+  pub listens : new.failed_listens ≡ old.failed_listens
+  pub nexts : new.failed_nexts ≡ failed_after result old.failed_nexts
   pub gones : new.gones ≡ old.gones
 
 pub record AfterSend {E : Type 0} (old new : WireShown) (link : ℕ) (bytes : List ℕ) (result : Result Sent E) : Type 0 where
   pub ok : IfOk result (λ s. new.told ≡ option_map (with_done (did.Sent link bytes s)) old.told)
   pub part : IfOk result (IsOutcome bytes)
-  pub gone : IfOk result (λ s. s ≡ sent.Gone → Rose old.gones new.gones)
   pub err : OnErr result (new.told ≡ old.told)
-  pub gones : old.gones ≤ new.gones
-  pub stops : new.stops ≡ old.stops
+  pub gones : new.gones ≡ gones_after result old.gones
+  pub listens : new.failed_listens ≡ old.failed_listens
+  pub nexts : new.failed_nexts ≡ old.failed_nexts
   pub links : new.links ≡ old.links
 
 pub record AfterAct {T E : Type 0} (old new : WireShown) (change : Told → Told) (result : Result T E) : Type 0 where
   pub ok : OnOk result (new.told ≡ option_map change old.told)
   pub err : OnErr result (new.told ≡ old.told)
   pub gones : new.gones ≡ old.gones
-  pub stops : new.stops ≡ old.stops
+  pub listens : new.failed_listens ≡ old.failed_listens
+  pub nexts : new.failed_nexts ≡ old.failed_nexts
   pub links : new.links ≡ old.links
 
 -- the links that events bring are numbered in order, after the first n

@@ -1,6 +1,6 @@
 -- A wire in memory, as contracts see it: what it tells, and what it is still to give.
 use Rattle.std.specs.Prelude.{ℕ, List, [], ◌∷◌, Option, Some, None, min, length, drop, Result, Ok, Err}
-use Rattle.aprs_base.specs.Outside.{Told, WireShown, new_link, one_more, with_done, with_listen}
+use Rattle.aprs_base.specs.Outside.{Told, WireShown, gones_with, new_link, one_more, with_done, with_listen}
 use Rattle.aprs_base.specs.declared.packets.ListenSpec.{ListenSpec}
 use Rattle.aprs_base.specs.declared.events.Event.{Event}
 use Rattle.aprs_base.specs.declared.events.Event.TheVariants as event
@@ -21,7 +21,8 @@ pub record WireScript : Type 0 where
   pub listens : ℕ
   pub nexts : ℕ
   pub links : ℕ
-  pub stops : ℕ
+  pub failed_listens : ℕ
+  pub failed_nexts : ℕ
   pub gones : ℕ
 
 abbrev pub script_of : List Event → List Take → Option ℕ → Option ℕ → WireScript
@@ -34,12 +35,19 @@ script_of events takes fail_listen fail_next = record {
   listens = 0;
   nexts = 0;
   links = 0;
-  stops = 0;
+  failed_listens = 0;
+  failed_nexts = 0;
   gones = 0;
 }
 
 abbrev pub shown_by : WireScript → WireShown
-shown_by wire = record { told = Some wire.told; stops = wire.stops; gones = wire.gones; links = wire.links }
+shown_by wire = record {
+  told = Some wire.told;
+  failed_listens = wire.failed_listens;
+  failed_nexts = wire.failed_nexts;
+  gones = wire.gones;
+  links = wire.links;
+}
 
 -- what the wire gives next, and after the last event Stop
 abbrev pub next_event : List Event → Event
@@ -58,16 +66,11 @@ abbrev pub links_after : ℕ → Option ℕ → ℕ
 links_after links None = links
 links_after links (Some link) = link
 
--- how many links were found gone after an offer
-abbrev pub gones_after : ℕ → Sent → ℕ
-gones_after gones (sent.Took n) = gones
-gones_after gones sent.Gone = one_more gones
-
 -- The wire after each call, by its answer. A call for which memory was wanting counts as not made.
 
 abbrev pub after_listen : {T : Type 0} → ℕ → ListenSpec → WireScript → Result T WireError → WireScript
 after_listen n spec wire (Ok _) = record wire { told = with_listen n spec wire.told; listens = one_more wire.listens }
-after_listen n spec wire (Err wire_error.Failed) = record wire { listens = one_more wire.listens; stops = one_more wire.stops }
+after_listen n spec wire (Err wire_error.Failed) = record wire { listens = one_more wire.listens; failed_listens = one_more wire.failed_listens }
 after_listen n spec wire (Err wire_error.Memory) = wire
 
 abbrev pub after_next : WireScript → Result Event WireError → WireScript
@@ -77,14 +80,14 @@ after_next wire (Ok e) = record wire {
   nexts = one_more wire.nexts;
   links = links_after wire.links (new_link e);
 }
-after_next wire (Err wire_error.Failed) = record wire { nexts = one_more wire.nexts; stops = one_more wire.stops }
+after_next wire (Err wire_error.Failed) = record wire { nexts = one_more wire.nexts; failed_nexts = one_more wire.failed_nexts }
 after_next wire (Err wire_error.Memory) = wire
 
 abbrev pub after_send : {E : Type 0} → ℕ → List ℕ → WireScript → Result Sent E → WireScript
 after_send link bytes wire (Ok s) = record wire {
   told = with_done (did.Sent link bytes s) wire.told;
   takes = drop 1 wire.takes;
-  gones = gones_after wire.gones s;
+  gones = gones_with s wire.gones;
 }
 after_send link bytes wire (Err _) = wire
 

@@ -2,7 +2,8 @@
 ghost use Rattle.std.specs.Prelude.{◌≡◌, ◌↔◌, ◌⊎◌, ℕ, ◌<◌, Some, None, true, false, [], List, length, IsErrOf};
 ghost use Rattle.std.specs.Option.{option_map};
 ghost use Rattle.aprs_base.specs.MemStores.{FileTable, after_read, files_shown, is_to_fail};
-ghost use Rattle.aprs_base.specs.Stores.{AfterRead, FilesShown, bytes_named};
+ghost use Rattle.aprs_base.specs.Outside.{one_more};
+ghost use Rattle.aprs_base.specs.Stores.{AfterRead, FilesShown, bytes_named, place_named};
 
 use crate::texts::Text;
 use std::alloc::{AllocError, AllocFailed};
@@ -39,12 +40,13 @@ impl<T: Drop> From<AllocFailed<T>> for FileError {
     }
 }
 
-/// Files by their names. The count of failed reads never falls.
+/// Files by their names. Two counts tell of reads: of those that were made, and of those that failed. Each is one more after such a
+/// read and the same after any other, and stays at the greatest u64.
 pub trait Files {
     ghost shown: { Self → FilesShown };
 
-    /// Appends the file's whole bytes to `out`. `Big` exactly where it has more than `limit`, `Failed` only where the count
-    /// of failed reads rose; where the answer isn't Ok, `out` stays as it was.
+    /// Appends the file's whole bytes to `out`. `Big` exactly where it has more than `limit`; `Failed` counts. Where the answer
+    /// isn't Ok, `out` stays as it was.
     fn read(&mut self, name: &str, limit: usize, out: &mut Vec<u8>) -> Result<(), FileError>
         ensures { AfterRead (shown self.old) (shown self.new) name.now limit out.old.items out.new.items result };
 }
@@ -56,11 +58,13 @@ pub struct MemFile {
     pub bytes: Text,
 }
 
-/// Files in memory, some of whose reads fail.
+/// Files in memory, some of whose reads fail. They tell which one was read last.
 #[derive(Drop)]
 pub struct MemFiles {
     files: Vec<MemFile>,
     fail: Vec<u64>,
+    /// The place of the file that was read last.
+    last: Option<usize>,
     calls: u64,
     faults: u64,
 }
@@ -70,20 +74,35 @@ impl Model for MemFiles {
 
     ghost Value = { FileTable };
 
-    ghost view = { λ f. record { files = f.files.items; fail = f.fail.items; calls = f.calls; faults = f.faults } };
+    ghost view = { λ f. record {
+      files = f.files.items;
+      fail = f.fail.items;
+      last = f.last;
+      calls = f.calls;
+      faults = f.faults;
+    } };
 }
 
 impl MemFiles {
     /// These files. A read fails where its number of calls before is listed, or where no file has its name.
     pub fn new(files: Vec<MemFile>, fail: Vec<u64>) -> MemFiles
-        ensures { result ≡ record { files = files.items; fail = fail.items; calls = 0; faults = 0 } }
+        ensures { result ≡ record { files = files.items; fail = fail.items; last = None; calls = 0; faults = 0 } }
     {
         MemFiles {
             files,
             fail,
+            last: None,
             calls: 0,
             faults: 0,
         }
+    }
+
+    /// Notes a read of the file at this place.
+    fn note(&mut self, place: Option<usize>)
+        ensures { self.new ≡ record self.old { last = place; calls = one_more self.old.calls } }
+    {
+        self.last = place;
+        self.calls = self.calls.saturating_add(1);
     }
 }
 
@@ -104,26 +123,33 @@ fn bytes_of<'a>(files: &'a [MemFile], name: &[u8]) -> Option<&'a [u8]>
     None
 }
 
+fn place_of(files: &[MemFile], name: &[u8]) -> Option<usize>
+    ensures { result ≡ place_named name.now (Some files.now) }
+{
+    files.iter().position(|file| file.name.as_bytes() == name)
+}
+
 impl Files for MemFiles {
     ghost shown = { files_shown };
 
     fn read(&mut self, name: &str, limit: usize, out: &mut Vec<u8>) -> Result<(), FileError>
         ensures read { AfterRead (files_shown self.old) (files_shown self.new) name.now limit out.old.items out.new.items result }
         ensures failed { IsErrOf result FileError.Failed ↔ ((is_to_fail self.old.fail self.old.calls ≡ true) ⊎ (bytes_named name.now self.old.files ≡ None)) }
-        ensures exact { self.new ≡ after_read self.old result }
+        ensures exact { self.new ≡ after_read self.old name.now result }
     {
         let found = bytes_of(self.files.as_slice(), name.as_bytes());
+        let place = place_of(self.files.as_slice(), name.as_bytes());
         let (false, Some(bytes)) = (is_listed(self.fail.as_slice(), self.calls), found) else {
-            self.calls = self.calls.saturating_add(1);
+            self.note(place);
             self.faults = self.faults.saturating_add(1);
             return Err(FileError::Failed);
         };
         if bytes.len() > limit {
-            self.calls = self.calls.saturating_add(1);
+            self.note(place);
             return Err(FileError::Big);
         }
         out.extend_from_slice(bytes)?;
-        self.calls = self.calls.saturating_add(1);
+        self.note(place);
         Ok(())
     }
 }

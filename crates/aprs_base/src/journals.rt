@@ -42,7 +42,8 @@ impl Model for JournalLine {
     ghost inverse = { λ l. record { kind = l.kind; moment = l.moment; text = record { items = l.text } } };
 }
 
-/// A journal, which wants lines of some kinds; these never change. Its count of faults never falls.
+/// A journal, which wants lines of some kinds; these never change. Its count of faults is one more after a line that failed and
+/// the same after any other, and stays at the greatest u64.
 pub trait Journal: Drop {
     ghost journal_shown: { Self → JournalShown };
 
@@ -50,8 +51,8 @@ pub trait Journal: Drop {
     fn wants(&self, kind: Kind) -> bool
         ensures { result ≡ (journal_shown self.now).wants kind };
 
-    /// Appends the moment in digits, a blank, the text and LF. `Failed` only where the count of faults rose, and where the
-    /// journal tells how many lines are left, exactly where none is; then nothing was appended.
+    /// Appends the moment in digits, a blank, the text and LF. `Failed` counts. Where the journal tells how many lines are left,
+    /// it comes exactly where none is; then nothing was appended.
     fn line(&mut self, kind: Kind, moment: u64, text: &[u8]) -> Result<(), Failed>
         ensures { AfterLine (journal_shown self.old) (journal_shown self.new) (record { kind = kind; moment = moment; text = text.now }) result };
 

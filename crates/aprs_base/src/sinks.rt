@@ -36,7 +36,8 @@ impl<T: Drop> From<AllocFailed<T>> for SinkError {
     }
 }
 
-/// A sink for text. Its count of faults never falls, and rises also where it takes nothing of a piece that isn't empty.
+/// A sink for text. Its count of faults is one more after a write that failed, or that took nothing of a piece which isn't
+/// empty, and the same after any other. It stays at the greatest u64.
 pub trait Sink {
     ghost shown: { Self → SinkShown };
 

@@ -10,19 +10,20 @@ use std::alloc::Global;
 use std::marker::Model;
 
 /// A network, by all that happened on it. A call that succeeds appends its happening, any other none.
-/// Its counts of faults never fall: calls of `listen` and `next` that failed, and links that a send found gone.
+/// Three counts tell of its faults: of calls of `listen` that failed, of calls of `next` that failed, and of links that a send
+/// found gone. Each is one more after such a call and the same after any other, and stays at the greatest u64.
 pub trait Wire {
     ghost shown: { Self → WireShown };
 
-    /// Listens at an address. `Failed` only where the count of failed calls rose.
+    /// Listens at an address. `Failed` counts.
     fn listen(&mut self, n: u16, spec: &ListenSpec) -> Result<(), WireError>
         ensures { AfterListen (shown self.old) (shown self.new) n spec.now result };
 
-    /// The next event, which may be waited for. `Failed` only where the count of failed calls rose.
+    /// The next event, which may be waited for. `Failed` counts.
     fn next(&mut self) -> Result<Event, WireError>
         ensures { AfterNext (shown self.old) (shown self.new) result };
 
-    /// Offers bytes to a link, which takes a part of them or is gone.
+    /// Offers bytes to a link, which takes a part of them or is gone. `Gone` counts.
     fn send(&mut self, link: u32, bytes: &[u8]) -> Result<Sent, Memory>
         ensures { AfterSend (shown self.old) (shown self.new) link bytes.now result };
 
@@ -69,7 +70,8 @@ pub struct MemWire {
     at: usize,
     sends: usize,
     links: u32,
-    stops: u64,
+    failed_listens: u64,
+    failed_nexts: u64,
     gones: u64,
 }
 
@@ -89,7 +91,8 @@ impl Model for MemWire {
       listens = w.listens;
       nexts = w.nexts;
       links = w.links;
-      stops = w.stops;
+      failed_listens = w.failed_listens;
+      failed_nexts = w.failed_nexts;
       gones = w.gones;
     } };
 
@@ -174,7 +177,8 @@ impl MemWire {
             at: 0,
             sends: 0,
             links: 0,
-            stops: 0,
+            failed_listens: 0,
+            failed_nexts: 0,
             gones: 0,
         })
     }
@@ -206,7 +210,7 @@ impl Wire for MemWire {
         let calls = self.listens;
         if self.fail_listen == Some(calls) {
             self.listens = calls.saturating_add(1);
-            self.stops = self.stops.saturating_add(1);
+            self.failed_listens = self.failed_listens.saturating_add(1);
             return Err(WireError::Failed);
         }
         self.listened.push(*spec)?;
@@ -228,7 +232,7 @@ impl Wire for MemWire {
         let calls = self.nexts;
         if self.fail_next == Some(calls) {
             self.nexts = calls.saturating_add(1);
-            self.stops = self.stops.saturating_add(1);
+            self.failed_nexts = self.failed_nexts.saturating_add(1);
             return Err(WireError::Failed);
         }
         let event = event_at(self.events.as_slice(), self.at);
