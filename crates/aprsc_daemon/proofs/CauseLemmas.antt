@@ -1,10 +1,11 @@
 -- From what a part of the program did to the cause of its status.
-use Rattle.std.proofs.Common.{◌≡◌, ◌⊎◌, inl, inr, ℕ, ◌≤◌, ◌<◌, true, false, List, [], ◌∷◌, ◌++◌, length, refl, sym, ap, ◌∙◌, subst, append-nil, Option, Some, None, Result, Ok, ⊎_elim, arith}
+use Rattle.std.proofs.Common.{◌≡◌, ◌⊎◌, ◌||◌, ◌==◌, if◌then◌else◌, inl, inr, ℕ, ◌≤◌, ◌<◌, true, false, List, [], ◌∷◌, ◌++◌, length, refl, sym, ap, ◌∙◌, subst, append-nil, Option, Some, None, Result, Ok, Err, ⊎_elim, arith}
 use Rattle.std.proofs.lemmas.Bool.{false≢true}
 use Rattle.std.specs.Option.{option_map}
-use Rattle.aprs_base.specs.Outside.{Rose, Told}
+use Rattle.aprs_base.specs.Outside.{Rose, Told, one_more}
 use Rattle.aprs_base.specs.declared.events.Happening.TheVariants as did
-use Rattle.aprs_base.specs.Stores.{Holds, SinkShown, bytes_named}
+use Rattle.aprs_base.specs.declared.files.FileError.{FileError}
+use Rattle.aprs_base.specs.Stores.{AfterRead, FilesShown, Holds, SinkShown, bytes_named, place_named}
 use Rattle.aprs_base.specs.declared.files.MemFile.{MemFile}
 use Rattle.aprs_history.specs.Setting.{Setting}
 use Rattle.aprs_history.specs.History.{History, trace_of}
@@ -22,7 +23,8 @@ use Rattle.aprsc_daemon.specs.Saying.{listen_failed_text, unread_text, usage_tex
 use Rattle.aprsc_daemon.specs.Configuring.{IsTrouble}
 use Rattle.aprsc_daemon.specs.declared.configuring.Trouble.{Trouble}
 use Rattle.aprsc_daemon.specs.declared.configuring.Trouble.TheVariants as trouble
-use Rattle.aprsc_daemon.specs.Causes.{AskNothing, Asks, Cause, DrillEnds, Ended, HasNamed, HasNoListener, HasNoMemory, HasRefused, IsDue, IsOff, IsServed, IsUnused, KeepsPromise, Opening, OpensOnly, Outside, Reports, Said, code_of_status, is_before_serving, status_of}
+use Rattle.aprsc_daemon.specs.Causes.{AskNothing, Asks, BreaksOff, Cause, CountsOnce, DrillEnds, Ended, FailsFor, HasNamed, HasNoListener, HasNoMemory, HasRefused, IsDue, IsOff, IsServed, IsSilent, IsUnused, KeepsPromise, Opening, OpensOnly, Outside, ReadsWell, Reports, Said, code_of_status, failed_listens, failed_nexts, failed_reads, is_before_serving, status_of}
+use Rattle.aprsc_daemon.specs.Failing.{failed_by_serving}
 use Rattle.aprsc_daemon.specs.Words.{ServerWordsSeen, asked_of, drill_of}
 use Rattle.aprsc_daemon.specs.Drill.{IsSummary}
 use Rattle.aprsc_daemon.specs.declared.words.DrillWords.{DrillWords}
@@ -45,13 +47,13 @@ served_weaker o P Q weaker served = record {
 
 -- ---- a status that has a text
 
-said_cause : (o : Outside) (text : List ℕ) (wanted result : Status) → Said o.sink o.sink_after text wanted result → IsDue wanted o text → (Reports wanted o → Cause wanted o) → Cause result o
-said_cause o text wanted result said due cause =
+said_cause : (o : Outside) (text : List ℕ) (wanted result : Status) → Said o.sink o.sink_after text wanted result → IsDue wanted o text → FailsFor wanted o → (Reports wanted o → Cause wanted o) → Cause result o
+said_cause o text wanted result said due fails cause =
     ⊎_elim
-    (λ whole. subst (λ st. Cause st o) (sym whole.0) (cause (record { text = text; due = due; says = whole.1 })))
+    (λ whole. subst (λ st. Cause st o) (sym whole.0) (cause (record { text = text; due = due; fails = fails; says = whole.1; taken = whole.2 })))
     (λ partly. ⊎_elim
-    (λ memory. subst (λ st. Cause st o) (sym memory.0) (inr (record { wanted = wanted; text = text; due = due; says = memory.1 })))
-    (λ lost. subst (λ st. Cause st o) (sym lost.0) (record { part = record { wanted = wanted; text = text; due = due; says = lost.2 }; failed = lost.1 }))
+    (λ memory. subst (λ st. Cause st o) (sym memory.0) (inr (record { wanted = wanted; text = text; due = due; fails = fails; says = memory.1 }, memory.2)))
+    (λ lost. subst (λ st. Cause st o) (sym lost.0) (record { part = record { wanted = wanted; text = text; due = due; fails = fails; says = lost.1 }; failed = lost.2 }))
     partly)
     said
 
@@ -60,14 +62,14 @@ pub grew_nothing : (told : Option (List ℕ)) → told ≡ option_map (λ text. 
 grew_nothing None = refl
 grew_nothing (Some text) = ap Some (sym (append-nil text))
 
-pub words_cause : (o : Outside) (text : List ℕ) (result : Status) → asked_of o.words ≡ None → drill_of o.words ≡ None → IsUnused o → text ≡ usage_text → Said o.sink o.sink_after text status.BadWords result → Cause result o
-words_cause o text result bad no_drill unused line said =
-    said_cause o text status.BadWords result said (record { bad = bad; no_drill = no_drill; unused = unused; line = line }) (λ reports. reports)
+pub words_cause : (o : Outside) (text : List ℕ) (result : Status) → asked_of o.words ≡ None → drill_of o.words ≡ None → IsUnused o → FailsFor status.BadWords o → text ≡ usage_text → Said o.sink o.sink_after text status.BadWords result → Cause result o
+words_cause o text result bad no_drill unused fails line said =
+    said_cause o text status.BadWords result said (record { bad = bad; no_drill = no_drill; unused = unused; line = line }) fails (λ reports. reports)
 
-pub drill_cause : (o : Outside) (asked : DrillWords) (text : List ℕ) (result : Status) → drill_of o.words ≡ Some asked → IsUnused o → IsSummary asked.plan text
+pub drill_cause : (o : Outside) (asked : DrillWords) (text : List ℕ) (result : Status) → drill_of o.words ≡ Some asked → IsUnused o → FailsFor status.Drilled o → IsSummary asked.plan text
     → Said o.sink o.sink_after text status.Drilled result → Cause result o
-drill_cause o asked text result named unused summary said =
-    said_cause o text status.Drilled result said (record { asked = asked; named = named; unused = unused; summary = summary }) (λ reports. reports)
+drill_cause o asked text result named unused fails summary said =
+    said_cause o text status.Drilled result said (record { asked = asked; named = named; unused = unused; summary = summary }) fails (λ reports. reports)
 
 -- how a drill ends, by what was said
 pub drill_ends : (plan : Plan) (old new : SinkShown) (text : List ℕ) (result : Status) → IsSummary plan text → Said old new text status.Drilled result → DrillEnds (code_of_status result) plan old new
@@ -76,45 +78,62 @@ drill_ends plan old new text result summary said =
     (λ whole. inl (ap code_of_status whole.0, text, summary, whole.1))
     (λ partly. ⊎_elim
     (λ memory. inr (inl (ap code_of_status memory.0)))
-    (λ lost. inr (inr (ap code_of_status lost.0, lost.1)))
+    (λ lost. inr (inr (ap code_of_status lost.0, lost.2)))
     partly)
     said
 
 pub off_cause : (o : Outside) (asked : ServerWordsSeen) (bytes text : List ℕ) (result : Status) → asked_of o.words ≡ Some asked → Holds o.files.told asked.file bytes → IsOff asked.file bytes text
-    → IsUnused o → Said o.sink o.sink_after text status.BadFile result → Cause result o
-off_cause o asked bytes text result named holds off unused said =
+    → IsUnused o → FailsFor status.BadFile o → Said o.sink o.sink_after text status.BadFile result → Cause result o
+off_cause o asked bytes text result named holds off unused fails said =
     said_cause o text status.BadFile result said
     (record { read = record { asked = asked; bytes = bytes; named = named; holds = holds; off = off }; unused = unused })
+    fails
     (λ reports. reports)
 
-pub unread_cause : (o : Outside) (asked : ServerWordsSeen) (result : Status) → asked_of o.words ≡ Some asked → Rose o.files.faults o.files_after.faults
-    → IsUnused o → Said o.sink o.sink_after (unread_text asked.file) status.UnreadFile result → Cause result o
-unread_cause o asked result named failed unused said =
+pub unread_cause : (o : Outside) (asked : ServerWordsSeen) (result : Status) → asked_of o.words ≡ Some asked
+    → IsUnused o → FailsFor status.UnreadFile o → Said o.sink o.sink_after (unread_text asked.file) status.UnreadFile result → Cause result o
+unread_cause o asked result named unused fails said =
     said_cause o (unread_text asked.file) status.UnreadFile result said
-    (record { asked = asked; named = named; failed = failed; unused = unused; line = refl })
+    (record { asked = asked; named = named; unused = unused; line = refl })
+    fails
     (λ reports. reports)
 
-pub valid_cause : (o : Outside) (conf : ConfSeen) (result : Status) → (read : HasNamed task.Check o.words o.files.told conf) → IsUnused o
+pub valid_cause : (o : Outside) (conf : ConfSeen) (result : Status) → (read : HasNamed task.Check o.words o.files.told conf) → IsUnused o → FailsFor status.Checked o
     → Said o.sink o.sink_after (valid_text read.asked.file) status.Checked result → Cause result o
-valid_cause o conf result read unused said =
+valid_cause o conf result read unused fails said =
     said_cause o (valid_text read.asked.file) status.Checked result said
     (record { conf = conf; read = read; unused = unused; line = refl })
+    fails
     (λ reports. reports)
 
-pub listener_cause : (o : Outside) (conf : ConfSeen) (n : ℕ) (result : Status) → HasNamed task.Serve o.words o.files.told conf → n < length (setting_of conf).listens → Rose o.wire.stops o.wire_after.stops
+pub listener_cause : (o : Outside) (conf : ConfSeen) (n : ℕ) (result : Status) → HasNamed task.Serve o.words o.files.told conf → n < length (setting_of conf).listens → FailsFor status.NoListener o
     → AppendsRun (setting_of conf) o.wire.told o.wire_after.told (OpensOnly n) → Said o.sink o.sink_after (listen_failed_text n) status.NoListener result → Cause result o
-listener_cause o conf n result read within failed run said =
+listener_cause o conf n result read within fails run said =
     said_cause o (listen_failed_text n) status.NoListener result said
-    (record { number = n; run = record { conf = conf; read = read; run = run }; within = within; failed = failed; line = refl })
+    (record { number = n; run = record { conf = conf; read = read; run = run }; within = within; line = refl })
+    fails
     (λ reports. reports)
 
 -- ---- a status without a text
 
-pub memory_cause : (o : Outside) → o.sink_after.told ≡ o.sink.told → IsUnused o ⊎ IsServed o (λ s. HasFreshLinks) → HasNoMemory o
-memory_cause o silent left = inl (record { run = left; silent = silent })
+pub memory_cause : (o : Outside) → IsSilent o → IsUnused o ⊎ IsServed o (λ s. HasFreshLinks) → FailsFor status.NoMemory o → HasNoMemory o
+memory_cause o silent left fails = inl (record { run = left; fails = fails; silent = silent })
 
-pub rose_later : (before opened now : ℕ) → before ≤ opened → Rose opened now → Rose before now
-rose_later before opened now le rose = omega arith
+-- what a read did, by the error that it gave
+pub read_as : {T : Type 0} {old new : FilesShown} {name : List ℕ} {limit : ℕ} {before after : List ℕ} (e f : FileError) → e ≡ f
+    → AfterRead {T = T} old new name limit before after (Err e) → AfterRead {T = T} old new name limit before after (Err f)
+read_as {T = T} {old = old} {new = new} {name = name} {limit = limit} {before = before} {after = after} e f is read = subst (λ x. AfterRead {T = T} old new name limit before after (Err x)) is read
+
+-- one read of the named file, and no call of the wire
+pub fails_read : (o : Outside) (asked : ServerWordsSeen) (ending : Status) → asked_of o.words ≡ Some asked → o.files_after.told ≡ o.files.told
+    → o.files_after.last ≡ place_named asked.file o.files.told → o.files_after.reads ≡ one_more o.files.reads → o.files_after.faults ≡ failed_reads ending o.files.faults
+    → o.wire_after.failed_listens ≡ failed_listens ending o.wire.failed_listens → o.wire_after.failed_nexts ≡ failed_nexts ending o.wire.failed_nexts → FailsFor ending o
+fails_read o asked ending named told last reads faults listens nexts = record {
+  file = inr (asked, named, (told, last, reads));
+  reads = faults;
+  listens = listens;
+  nexts = nexts;
+}
 
 -- what ended by serving
 pub ended_serving : (end : End) → is_before_serving (code_of_status (status_of end)) ≡ false
@@ -122,15 +141,15 @@ ended_serving ended.Stopped = refl
 ended_serving ended.Failed = refl
 ended_serving ended.Memory = refl
 
-pub ended_cause : (o : Outside) (conf : ConfSeen) (end : End) (result : Status) → result ≡ status_of end → HasNamed task.Serve o.words o.files.told conf → o.sink_after.told ≡ o.sink.told
-    → (end ≡ ended.Failed → Rose o.wire.stops o.wire_after.stops)
+pub ended_cause : (o : Outside) (conf : ConfSeen) (end : End) (result : Status) → result ≡ status_of end → HasNamed task.Serve o.words o.files.told conf → ReadsWell o.words o.files o.files_after → IsSilent o
+    → o.wire_after.failed_listens ≡ o.wire.failed_listens → o.wire_after.failed_nexts ≡ failed_by_serving end o.wire.failed_nexts
     → AppendsRun (setting_of conf) o.wire.told o.wire_after.told (Ends (setting_of conf) end) → Cause result o
-ended_cause o conf end result is read silent failed run = subst (λ st. Cause st o) (sym is) (causes end failed run)
+ended_cause o conf end result is read well silent listens nexts run = subst (λ st. Cause st o) (sym is) (causes end nexts run)
   where
-    causes : (end : End) → (end ≡ ended.Failed → Rose o.wire.stops o.wire_after.stops) → AppendsRun (setting_of conf) o.wire.told o.wire_after.told (Ends (setting_of conf) end) → Cause (status_of end) o
-    causes ended.Stopped failed run = record { run = record { conf = conf; read = read; run = run }; silent = silent }
-    causes ended.Failed failed run = record { run = record { conf = conf; read = read; run = run }; failed = failed refl; silent = silent }
-    causes ended.Memory failed run = memory_cause o silent (inr (record { conf = conf; read = read; run = run }))
+    causes : (end : End) → o.wire_after.failed_nexts ≡ failed_by_serving end o.wire.failed_nexts → AppendsRun (setting_of conf) o.wire.told o.wire_after.told (Ends (setting_of conf) end) → Cause (status_of end) o
+    causes ended.Stopped nexts run = record { run = record { conf = conf; read = read; run = run }; fails = record { file = well.0; reads = well.1; listens = listens; nexts = nexts }; silent = silent }
+    causes ended.Failed nexts run = record { run = record { conf = conf; read = read; run = run }; fails = record { file = well.0; reads = well.1; listens = listens; nexts = nexts }; silent = silent }
+    causes ended.Memory nexts run = memory_cause o silent (inr (record { conf = conf; read = read; run = run })) (record { file = well.0; reads = well.1; listens = listens; nexts = nexts })
 
 -- ---- files that tell their bytes
 
@@ -185,22 +204,26 @@ one_task words told a b x y =
     let tasks : task.Serve ≡ task.Check = sym x.is_asked ∙ (ap (λ asked. asked.task) asked ∙ y.is_asked) in
     cc
 
+-- one failure more is a rise
+rose_once : (before now : ℕ) → now ≡ one_more before → Rose before now
+rose_once before now is = omega (arith, is)
+
 -- a text that is due where the files hold a configuration, and didn't fail, is the line on a listener
 due_listener : (wanted : Status) (o : Outside) (files : List MemFile) (conf : ConfSeen) (text : List ℕ) → o.files.told ≡ Some files → HasNamed task.Serve o.words o.files.told conf
-    → ¬ Rose o.files.faults o.files_after.faults → IsDue wanted o text → HasNoListener o text
-due_listener status.Checked o files conf text tells read sound due = absurd (one_task o.words o.files.told conf due.conf read due.read)
-due_listener status.Drilled o files conf text tells read sound due = absurd (not_both_modes o.words due.asked read.asked due.named read.named)
-due_listener status.BadWords o files conf text tells read sound due = absurd (not_named o.words read.asked due.bad read.named)
-due_listener status.BadFile o files conf text tells read sound due =
+    → ¬ Rose o.files.faults o.files_after.faults → FailsFor wanted o → IsDue wanted o text → HasNoListener o text
+due_listener status.Checked o files conf text tells read sound fails due = absurd (one_task o.words o.files.told conf due.conf read due.read)
+due_listener status.Drilled o files conf text tells read sound fails due = absurd (not_both_modes o.words due.asked read.asked due.named read.named)
+due_listener status.BadWords o files conf text tells read sound fails due = absurd (not_named o.words read.asked due.bad read.named)
+due_listener status.BadFile o files conf text tells read sound fails due =
     absurd (not_both task.Serve o.words files conf text (at_files task.Serve o files conf tells read) (subst (λ told. HasRefused o.words told text) tells due.read))
-due_listener status.UnreadFile o files conf text tells read sound due = absurd (sound due.failed)
-due_listener status.NoListener o files conf text tells read sound due = due
-due_listener _ o files conf text tells read sound due = absurd due
+due_listener status.UnreadFile o files conf text tells read sound fails due = absurd (sound (rose_once _ _ fails.reads))
+due_listener status.NoListener o files conf text tells read sound fails due = due
+due_listener _ o files conf text tells read sound fails due = absurd due
 
 -- ---- the headline
 
 unused_run : (o : Outside) (s : Setting) (P : History → Type 0) → P [] → IsUnused o → AppendsRun s o.wire.told o.wire_after.told P
-unused_run o s P begins unused = run_told s o.wire.told o.wire.told o.wire_after.told P unused (run_begins s o.wire.told P begins)
+unused_run o s P begins unused = run_told s o.wire.told o.wire.told o.wire_after.told P (ap (λ wire. wire.told) unused) (run_begins s o.wire.told P begins)
 
 served_run : (o : Outside) (files : List MemFile) (conf : ConfSeen) (P : Setting → History → Type 0) → o.files.told ≡ Some files → HasNamed task.Serve o.words o.files.told conf → IsServed o P
     → AppendsRun (setting_of conf) o.wire.told o.wire_after.told (P (setting_of conf))
@@ -260,7 +283,7 @@ headline o files conf status.LostWire tells read cause =
 headline o files conf status.NoMemory tells read cause =
     ⊎_elim
     (λ short. goes_on o files conf 6 (λ e. omega arith) (λ e. omega arith) tells read short.run)
-    (λ part. due_ended part.wanted o part.text files conf 6 (λ e. omega arith) (λ e. omega arith) tells read part.due)
+    (λ part. due_ended part.0.wanted o part.0.text files conf 6 (λ e. omega arith) (λ e. omega arith) tells read part.0.due)
     cause
 headline o files conf status.LostSink tells read cause =
     due_ended cause.part.wanted o cause.part.text files conf 7 (λ e. omega arith) (λ e. omega arith) tells read cause.part.due
@@ -288,7 +311,7 @@ pub early : (o : Outside) (files : List MemFile) (conf : ConfSeen) (ending : Sta
     → ¬ Rose o.files.faults o.files_after.faults → code_of_status ending ≡ 7 → Cause ending o
     → AppendsRun (setting_of conf) o.wire.told o.wire_after.told (Opening (setting_of conf))
 early o files conf status.LostSink tells read sound is cause =
-    served_run o files conf Opening tells read (opens_some o cause.part.text (due_listener cause.part.wanted o files conf cause.part.text tells read sound cause.part.due))
+    served_run o files conf Opening tells read (opens_some o cause.part.text (due_listener cause.part.wanted o files conf cause.part.text tells read sound cause.part.fails cause.part.due))
 early o files conf _ tells read sound is cause = absurd (omega arith)
 
 -- ---- completeness
@@ -304,7 +327,7 @@ words_asked o status.UnreadFile bad taken cause = absurd (not_named o.words caus
 words_asked o status.NoListener bad taken cause = absurd (not_named o.words cause.due.run.read.asked bad.0 cause.due.run.read.named)
 words_asked o status.LostWire bad taken cause = absurd (not_named o.words cause.run.read.asked bad.0 cause.run.read.named)
 words_asked o status.NoMemory bad taken cause = inr refl
-words_asked o status.LostSink bad taken cause = absurd (taken cause.failed)
+words_asked o status.LostSink bad taken cause = absurd (taken (rose_once _ _ cause.failed))
 
 drill_asked : (o : Outside) (asked : DrillWords) (ending : Status) → drill_of o.words ≡ Some asked → ¬ Rose o.sink.faults o.sink_after.faults → Cause ending o
     → (code_of_status ending ≡ 0) ⊎ (code_of_status ending ≡ 6)
@@ -314,7 +337,7 @@ drill_asked o asked status.UnreadFile drilled taken cause = absurd (not_both_mod
 drill_asked o asked status.NoListener drilled taken cause = absurd (not_both_modes o.words asked cause.due.run.read.asked drilled cause.due.run.read.named)
 drill_asked o asked status.LostWire drilled taken cause = absurd (not_both_modes o.words asked cause.run.read.asked drilled cause.run.read.named)
 drill_asked o asked status.NoMemory drilled taken cause = inr refl
-drill_asked o asked status.LostSink drilled taken cause = absurd (taken cause.failed)
+drill_asked o asked status.LostSink drilled taken cause = absurd (taken (rose_once _ _ cause.failed))
 drill_asked o asked _ drilled taken cause = inl refl
 
 served_not_off : (o : Outside) (files : List MemFile) (text : List ℕ) (P : Setting → History → Type 0) → o.files.told ≡ Some files → HasRefused o.words (Some files) text → IsServed o P → ⊥
@@ -329,29 +352,29 @@ file_asked o files text status.Checked tells refused sound taken cause =
 file_asked o files text status.Drilled tells refused sound taken cause = absurd (not_both_modes o.words cause.due.asked refused.asked cause.due.named refused.named)
 file_asked o files text status.BadWords tells refused sound taken cause = absurd (not_named o.words refused.asked cause.due.bad refused.named)
 file_asked o files text status.BadFile tells refused sound taken cause = inl refl
-file_asked o files text status.UnreadFile tells refused sound taken cause = absurd (sound cause.due.failed)
+file_asked o files text status.UnreadFile tells refused sound taken cause = absurd (sound (rose_once _ _ cause.fails.reads))
 file_asked o files text status.NoListener tells refused sound taken cause = absurd (served_not_off o files text (λ s. OpensOnly cause.due.number) tells refused cause.due.run)
 file_asked o files text status.LostWire tells refused sound taken cause = absurd (served_not_off o files text Idle tells refused cause.run)
 file_asked o files text status.NoMemory tells refused sound taken cause = inr refl
-file_asked o files text status.LostSink tells refused sound taken cause = absurd (taken cause.failed)
+file_asked o files text status.LostSink tells refused sound taken cause = absurd (taken (rose_once _ _ cause.failed))
 
 conf_asked : (t : Task) (o : Outside) (files : List MemFile) (conf : ConfSeen) (ending : Status) → o.files.told ≡ Some files → HasNamed t o.words o.files.told conf
-    → ¬ Rose o.files.faults o.files_after.faults → ¬ Rose o.wire.stops o.wire_after.stops → ¬ Rose o.sink.faults o.sink_after.faults → Cause ending o
+    → ¬ Rose o.files.faults o.files_after.faults → ¬ Rose o.wire.failed_listens o.wire_after.failed_listens → ¬ Rose o.wire.failed_nexts o.wire_after.failed_nexts → ¬ Rose o.sink.faults o.sink_after.faults → Cause ending o
     → (code_of_status ending ≡ 0) ⊎ (code_of_status ending ≡ 6)
-conf_asked t o files conf status.BadWords tells read sound going taken cause = absurd (not_named o.words read.asked cause.due.bad read.named)
-conf_asked t o files conf status.BadFile tells read sound going taken cause =
+conf_asked t o files conf status.BadWords tells read sound listening going taken cause = absurd (not_named o.words read.asked cause.due.bad read.named)
+conf_asked t o files conf status.BadFile tells read sound listening going taken cause =
     absurd (not_both t o.words files conf cause.text (at_files t o files conf tells read) (subst (λ told. HasRefused o.words told cause.text) tells cause.due.read))
-conf_asked t o files conf status.UnreadFile tells read sound going taken cause = absurd (sound cause.due.failed)
-conf_asked t o files conf status.NoListener tells read sound going taken cause = absurd (going cause.due.failed)
-conf_asked t o files conf status.LostWire tells read sound going taken cause = absurd (going cause.failed)
-conf_asked t o files conf status.NoMemory tells read sound going taken cause = inr refl
-conf_asked t o files conf status.LostSink tells read sound going taken cause = absurd (taken cause.failed)
-conf_asked t o files conf _ tells read sound going taken cause = inl refl
+conf_asked t o files conf status.UnreadFile tells read sound listening going taken cause = absurd (sound (rose_once _ _ cause.fails.reads))
+conf_asked t o files conf status.NoListener tells read sound listening going taken cause = absurd (listening (rose_once _ _ cause.fails.listens))
+conf_asked t o files conf status.LostWire tells read sound listening going taken cause = absurd (going (rose_once _ _ cause.fails.nexts))
+conf_asked t o files conf status.NoMemory tells read sound listening going taken cause = inr refl
+conf_asked t o files conf status.LostSink tells read sound listening going taken cause = absurd (taken (rose_once _ _ cause.failed))
+conf_asked t o files conf _ tells read sound listening going taken cause = inl refl
 
 pub complete : (o : Outside) (code : ℕ) (ending : Status) → Asks o.words o.files.told code
-    → ¬ Rose o.files.faults o.files_after.faults → ¬ Rose o.wire.stops o.wire_after.stops → ¬ Rose o.sink.faults o.sink_after.faults → Cause ending o
+    → ¬ Rose o.files.faults o.files_after.faults → ¬ Rose o.wire.failed_listens o.wire_after.failed_listens → ¬ Rose o.wire.failed_nexts o.wire_after.failed_nexts → ¬ Rose o.sink.faults o.sink_after.faults → Cause ending o
     → (code_of_status ending ≡ code) ⊎ (code_of_status ending ≡ 6)
-complete o code ending asks sound going taken cause = answers o.files.told refl asks
+complete o code ending asks sound listening going taken cause = answers o.files.told refl asks
   where
     is_code : (wanted : ℕ) → code ≡ wanted → (code_of_status ending ≡ wanted) ⊎ (code_of_status ending ≡ 6) → (code_of_status ending ≡ code) ⊎ (code_of_status ending ≡ 6)
     is_code wanted is asked = subst (λ n. (code_of_status ending ≡ n) ⊎ (code_of_status ending ≡ 6)) (sym is) asked
@@ -368,8 +391,36 @@ complete o code ending asks sound going taken cause = answers o.files.told refl 
         (λ good. ⊎_elim
         (λ file. is_code 2 file.0 (file_asked o files file.1 ending tells file.2 sound taken cause))
         (λ other. ⊎_elim
-        (λ named. is_code 0 named.0 (conf_asked named.1 o files named.2 ending tells (subst (λ told. HasNamed named.1 o.words told named.2) (sym tells) named.3) sound going taken cause))
+        (λ named. is_code 0 named.0 (conf_asked named.1 o files named.2 ending tells (subst (λ told. HasNamed named.1 o.words told named.2) (sym tells) named.3) sound listening going taken cause))
         (λ drill. is_code 0 drill.0 (let asks = drill.1 in drill_asked o asks.0 ending asks.1 taken cause))
         other)
         good)
         asks
+
+-- ---- the counts
+
+-- no text is due where the wire failed
+due_nexts : (wanted : Status) (o : Outside) (text : List ℕ) (n : ℕ) → IsDue wanted o text → failed_nexts wanted n ≡ n
+due_nexts status.LostWire o text n due = absurd due
+due_nexts _ o text n due = refl
+
+-- the counts where a part of a text was written
+broken_counts : (o : Outside) (code : ℕ) → (code == 5) ≡ false → (code == 6 || code == 7) ≡ true → BreaksOff o
+    → o.sink_after.faults ≡ (if code == 7 then one_more o.sink.faults else o.sink.faults) → CountsOnce code o
+broken_counts o code no_next breaks part sink = record {
+  nexts = part.fails.nexts ∙ due_nexts part.wanted o part.text o.wire.failed_nexts part.due ∙ ap (λ b. if b then one_more o.wire.failed_nexts else o.wire.failed_nexts) (sym no_next);
+  sink = sink;
+  reads = λ whole. absurd (false≢true (sym whole ∙ breaks));
+  listens = λ whole. absurd (false≢true (sym whole ∙ breaks));
+}
+
+pub counts : (o : Outside) (ending : Status) → Cause ending o → CountsOnce (code_of_status ending) o
+counts o status.Stopped cause = record { nexts = cause.fails.nexts; sink = ap (λ sink. sink.faults) cause.silent; reads = λ whole. cause.fails.reads; listens = λ whole. cause.fails.listens }
+counts o status.LostWire cause = record { nexts = cause.fails.nexts; sink = ap (λ sink. sink.faults) cause.silent; reads = λ whole. cause.fails.reads; listens = λ whole. cause.fails.listens }
+counts o status.NoMemory cause =
+    ⊎_elim
+    (λ short. record { nexts = short.fails.nexts; sink = ap (λ sink. sink.faults) short.silent; reads = λ whole. absurd (false≢true (sym whole)); listens = λ whole. absurd (false≢true (sym whole)) })
+    (λ part. broken_counts o 6 refl refl part.0 part.1)
+    cause
+counts o status.LostSink cause = broken_counts o 7 refl refl cause.part cause.failed
+counts o _ cause = record { nexts = cause.fails.nexts; sink = cause.taken; reads = λ whole. cause.fails.reads; listens = λ whole. cause.fails.listens }

@@ -1,9 +1,12 @@
 -- A text told in two steps.
 use Rattle.std.proofs.Common.{◌≡◌, ℕ, ◌+◌, ◌-◌, ◌≤◌, arith, List, ◌++◌, take, drop, length, refl, sym, ap, append_assoc, ◌∙◌}
-use Rattle.std.specs.Prelude.{Option, Some, None}
+use Rattle.std.specs.Prelude.{Option, Some, None, Ok, ◌<◌, ◌&&◌, nat_lt, if◌then◌else◌}
 use Rattle.std.specs.Option.{option_map}
 use Rattle.std.proofs.lemmas.List.{take_rest, length-drop, take-append-drop}
 use Rattle.std.proofs.Math.Seq.{take-add}
+use Rattle.std.proofs.lemmas.Bool.{lt-ltb, ne_eqb}
+use Rattle.aprs_base.specs.Outside.{one_more}
+use Rattle.aprs_base.specs.Stores.{failed_writes_after}
 
 -- what is written after what was written
 pub grown : (old : Option (List ℕ)) (xs ys : List ℕ) → option_map (λ t. t ++ ys) (option_map (λ t. t ++ xs) old) ≡ option_map (λ t. t ++ (xs ++ ys)) old
@@ -24,6 +27,13 @@ writes_on old new newest bytes done count first second =
     second ∙ ap (option_map (λ t. t ++ take count (take (length bytes - done) (drop done bytes)))) first
     ∙ grown old (take done bytes) (take count (take (length bytes - done) (drop done bytes)))
     ∙ ap (λ xs. option_map (λ t. t ++ xs) old) (takes_on bytes done count)
+
+-- a write that took nothing of something counts as a fault, and one that took something doesn't
+pub took_none : (bytes : List ℕ) (old new : ℕ) → 0 < length bytes → new ≡ failed_writes_after (Ok 0) bytes old → new ≡ one_more old
+took_none bytes old new some is = is ∙ ap (λ b. if b then one_more old else old) (lt-ltb 0 (length bytes) some)
+
+pub took_some : (n : ℕ) (bytes : List ℕ) (old new : ℕ) → (n ≡ 0 → ⊥) → new ≡ failed_writes_after (Ok n) bytes old → new ≡ old
+took_some n bytes old new not is = is ∙ ap (λ b. if b && nat_lt 0 (length bytes) then one_more old else old) (ne_eqb n 0 not)
 
 -- and they are within the whole
 pub still_within : (bytes : List ℕ) (done count : ℕ) → done ≤ length bytes → count ≤ length (take (length bytes - done) (drop done bytes)) → done + count ≤ length bytes

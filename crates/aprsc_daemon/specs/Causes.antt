@@ -1,8 +1,8 @@
 -- Why the program ends with each of its statuses, and what it leaves.
-use Rattle.std.specs.Prelude.{◌≡◌, ◌⊎◌, ◌==◌, ◌||◌, ℕ, ◌<◌, ◌≤◌, Bool, List, take, length, true, ◌∷◌, ◌++◌, Option, Some, None, Ok}
+use Rattle.std.specs.Prelude.{◌≡◌, ◌⊎◌, ◌==◌, ◌||◌, ℕ, ◌<◌, ◌≤◌, Bool, List, take, length, true, false, if◌then◌else◌, ◌∷◌, ◌++◌, Option, Some, None, Ok}
 use Rattle.std.specs.List.{All}
-use Rattle.aprs_base.specs.Outside.{Rose, WireShown}
-use Rattle.aprs_base.specs.Stores.{FilesShown, Holds, SinkShown}
+use Rattle.aprs_base.specs.Outside.{WireShown, one_more}
+use Rattle.aprs_base.specs.Stores.{FilesShown, Holds, SinkShown, place_named}
 use Rattle.aprs_base.specs.declared.events.Happening.TheVariants as did
 use Rattle.aprs_base.specs.declared.files.MemFile.{MemFile}
 use Rattle.aprs_history.specs.Setting.{Setting}
@@ -52,9 +52,25 @@ outside_of words files files_after wire wire_after sink sink_after = record {
   sink_after = sink_after;
 }
 
--- nothing happened on the wire
+-- the wire is as it was
 abbrev pub IsUnused : Outside → Type 0
-IsUnused o = o.wire_after.told ≡ o.wire.told
+IsUnused o = o.wire_after ≡ o.wire
+
+-- no file was read
+abbrev pub ReadsNone : FilesShown → FilesShown → Type 0
+ReadsNone old new = (new.told ≡ old.told) × (new.last ≡ old.last) × (new.reads ≡ old.reads)
+
+-- the file of this name was read, once
+abbrev pub ReadsOne : List ℕ → FilesShown → FilesShown → Type 0
+ReadsOne name old new = (new.told ≡ old.told) × (new.last ≡ place_named name old.told) × (new.reads ≡ one_more old.reads)
+
+-- no file was read, or that which the words name, once
+abbrev pub ReadsNamed : List (List ℕ) → FilesShown → FilesShown → Type 0
+ReadsNamed words old new = ReadsNone old new ⊎ ((asked : ServerWordsSeen) × (asked_of words ≡ Some asked) × ReadsOne asked.file old new)
+
+-- and the reading didn't fail
+abbrev pub ReadsWell : List (List ℕ) → FilesShown → FilesShown → Type 0
+ReadsWell words old new = ReadsNamed words old new × (new.faults ≡ old.faults)
 
 -- the words ask for this task with a file that holds this configuration, as far as the files tell
 pub record HasNamed (asked_task : Task) (words : List (List ℕ)) (told : Option (List MemFile)) (conf : ConfSeen) : Type 0 where
@@ -80,7 +96,7 @@ pub record IsServed (o : Outside) (P : Setting → History → Type 0) : Type 0 
 
 -- nothing
 abbrev pub IsSilent : Outside → Type 0
-IsSilent o = o.sink_after.told ≡ o.sink.told
+IsSilent o = o.sink_after ≡ o.sink
 
 -- the first bytes of a text: none, some, or all of them
 abbrev pub GrewPart : SinkShown → SinkShown → List ℕ → Type 0
@@ -132,7 +148,6 @@ pub record HasBadFile (o : Outside) (text : List ℕ) : Type 0 where
 pub record HasUnreadFile (o : Outside) (text : List ℕ) : Type 0 where
   pub asked : ServerWordsSeen
   pub named : asked_of o.words ≡ Some asked
-  pub failed : Rose o.files.faults o.files_after.faults
   pub unused : IsUnused o
   pub line : text ≡ unread_text asked.file
 
@@ -145,7 +160,6 @@ pub record HasNoListener (o : Outside) (text : List ℕ) : Type 0 where
   pub number : ℕ
   pub run : IsServed o (λ setting. OpensOnly number)
   pub within : number < length (setting_of run.conf).listens
-  pub failed : Rose o.wire.stops o.wire_after.stops
   pub line : text ≡ listen_failed_text number
 
 -- the status's cause is there but for the writing of this text
@@ -161,17 +175,43 @@ IsDue status.LostWire o text = ⊥
 IsDue status.NoMemory o text = ⊥
 IsDue status.LostSink o text = ⊥
 
+-- ---- the calls that failed
+
+-- a count of failed reads, of failed calls of `listen` or of `next` after a call with this status: the one failure that the
+-- status tells of counts once, and no other call failed
+abbrev pub failed_reads : Status → ℕ → ℕ
+failed_reads status.UnreadFile failed = one_more failed
+failed_reads _ failed = failed
+
+abbrev pub failed_listens : Status → ℕ → ℕ
+failed_listens status.NoListener failed = one_more failed
+failed_listens _ failed = failed
+
+abbrev pub failed_nexts : Status → ℕ → ℕ
+failed_nexts status.LostWire failed = one_more failed
+failed_nexts _ failed = failed
+
+-- no call failed but that which the status tells of, and no file was read but the one that the words name
+pub record FailsFor (ending : Status) (o : Outside) : Type 0 where
+  pub file : ReadsNamed o.words o.files o.files_after
+  pub reads : o.files_after.faults ≡ failed_reads ending o.files.faults
+  pub listens : o.wire_after.failed_listens ≡ failed_listens ending o.wire.failed_listens
+  pub nexts : o.wire_after.failed_nexts ≡ failed_nexts ending o.wire.failed_nexts
+
 -- the text of a status was due, and was written whole
 pub record Reports (wanted : Status) (o : Outside) : Type 0 where
   pub text : List ℕ
   pub due : IsDue wanted o text
+  pub fails : FailsFor wanted o
   pub says : Grew o.sink o.sink_after text
+  pub taken : o.sink_after.faults ≡ o.sink.faults
 
 -- the text of some status was due, and a part of it was written
 pub record BreaksOff (o : Outside) : Type 0 where
   pub wanted : Status
   pub text : List ℕ
   pub due : IsDue wanted o text
+  pub fails : FailsFor wanted o
   pub says : GrewPart o.sink o.sink_after text
 
 -- ---- the statuses without a text
@@ -179,27 +219,29 @@ pub record BreaksOff (o : Outside) : Type 0 where
 -- 0 without `-y`: a stop was read, and every act that it makes due is done
 pub record HasStopped (o : Outside) : Type 0 where
   pub run : IsServed o Finished
+  pub fails : FailsFor status.Stopped o
   pub silent : IsSilent o
 
 -- 5: the wire failed where every listener was opened, and no act is due
 pub record HasLostWire (o : Outside) : Type 0 where
   pub run : IsServed o Idle
-  pub failed : Rose o.wire.stops o.wire_after.stops
+  pub fails : FailsFor status.LostWire o
   pub silent : IsSilent o
 
 -- want of memory where no text is begun
 pub record RunsShort (o : Outside) : Type 0 where
   pub run : IsUnused o ⊎ IsServed o (λ setting. HasFreshLinks)
+  pub fails : FailsFor status.NoMemory o
   pub silent : IsSilent o
 
 -- 6: want of memory, also in the writing of a text
 abbrev pub HasNoMemory : Outside → Type 0
-HasNoMemory o = RunsShort o ⊎ BreaksOff o
+HasNoMemory o = RunsShort o ⊎ (BreaksOff o × (o.sink_after.faults ≡ o.sink.faults))
 
 -- 7: the sink failed, or took nothing of a piece that isn't empty, in the writing of a text
 pub record HasLostSink (o : Outside) : Type 0 where
   pub part : BreaksOff o
-  pub failed : Rose o.sink.faults o.sink_after.faults
+  pub failed : o.sink_after.faults ≡ one_more o.sink.faults
 
 -- ---- each status
 
@@ -239,6 +281,14 @@ status_of ended.Memory = status.NoMemory
 -- the code is that of a status whose cause is there
 abbrev pub HasCause : ℕ → Outside → Type 0
 HasCause code o = (ending : Status) × (code ≡ code_of_status ending) × Cause ending o
+
+-- what each status says of the counts: the call that it tells of failed once, and no other did. Where the writing of a text
+-- broke off, with 6 or 7, the failure that the text tells of counts too
+pub record CountsOnce (code : ℕ) (o : Outside) : Type 0 where
+  pub nexts : o.wire_after.failed_nexts ≡ (if code == 5 then one_more o.wire.failed_nexts else o.wire.failed_nexts)
+  pub sink : o.sink_after.faults ≡ (if code == 7 then one_more o.sink.faults else o.sink.faults)
+  pub reads : (code == 6 || code == 7) ≡ false → o.files_after.faults ≡ (if code == 3 then one_more o.files.faults else o.files.faults)
+  pub listens : (code == 6 || code == 7) ≡ false → o.wire_after.failed_listens ≡ (if code == 4 then one_more o.wire.failed_listens else o.wire.failed_listens)
 
 -- ---- the headline
 
@@ -288,13 +338,13 @@ abbrev pub DrillEnds : ℕ → Plan → SinkShown → SinkShown → Type 0
 DrillEnds code plan old new =
     ((code ≡ 0) × (text : List ℕ) × IsSummary plan text × Grew old new text)
     ⊎ (code ≡ 6)
-    ⊎ ((code ≡ 7) × Rose old.faults new.faults)
+    ⊎ ((code ≡ 7) × (new.faults ≡ one_more old.faults))
 
 -- ---- a text and its status
 
 -- the text was written whole, for the wanted status, or else a part of it, for want of memory or where the sink failed
 abbrev pub Said : SinkShown → SinkShown → List ℕ → Status → Status → Type 0
 Said old new text wanted result =
-    ((result ≡ wanted) × Grew old new text)
-    ⊎ ((result ≡ status.NoMemory) × GrewPart old new text)
-    ⊎ ((result ≡ status.LostSink) × Rose old.faults new.faults × GrewPart old new text)
+    ((result ≡ wanted) × Grew old new text × (new.faults ≡ old.faults))
+    ⊎ ((result ≡ status.NoMemory) × GrewPart old new text × (new.faults ≡ old.faults))
+    ⊎ ((result ≡ status.LostSink) × GrewPart old new text × (new.faults ≡ one_more old.faults))

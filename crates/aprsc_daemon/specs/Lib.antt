@@ -2,6 +2,7 @@ pub mod Asked
 pub mod Causes
 pub mod Configuring
 pub mod Drill
+pub mod Failing
 pub mod Phases
 pub mod Saying
 pub mod Telling

@@ -1,8 +1,8 @@
 -- What the program writes on its standard output.
-use Rattle.std.specs.Prelude.{◌≡◌, ℕ, ◌≤◌, List, ◌++◌, take, codes, Result, OnOk, OnErr, IsErrOf}
+use Rattle.std.specs.Prelude.{◌≡◌, ℕ, List, ◌++◌, take, codes, Result, Ok, Err, OnOk, OnErr}
 use Rattle.std.specs.Option.{option_map}
 use Rattle.std.specs.Fmt.{decimal}
-use Rattle.aprs_base.specs.Outside.{Rose}
+use Rattle.aprs_base.specs.Outside.{one_more}
 use Rattle.drill_plan.specs.declared.plan.Plan.{Plan}
 use Rattle.aprsc_daemon.specs.Configuring.{fault_name, word_name}
 use Rattle.aprsc_daemon.specs.declared.configuring.Trouble.{Trouble}
@@ -16,12 +16,17 @@ use Rattle.aprs_base.specs.declared.sinks.SinkError.TheVariants as sink_error
 abbrev pub Grew : SinkShown → SinkShown → List ℕ → Type 0
 Grew old new bytes = new.told ≡ option_map (λ text. text ++ bytes) old.told
 
--- all bytes were written, or else some first ones; a failure stands only where the count of faults rose
+-- the count of a sink's faults after a text: it is one more exactly where that failed
+abbrev pub failed_by_saying : {T : Type 0} → Result T SinkError → ℕ → ℕ
+failed_by_saying (Ok _) faults = faults
+failed_by_saying (Err sink_error.Failed) faults = one_more faults
+failed_by_saying (Err sink_error.Memory) faults = faults
+
+-- all bytes were written, or else some first ones
 pub record AfterSaying {T : Type 0} (old new : SinkShown) (bytes : List ℕ) (result : Result T SinkError) : Type 0 where
   pub ok : OnOk result (Grew old new bytes)
   pub err : OnErr result ((k : ℕ) × Grew old new (take k bytes))
-  pub failed : IsErrOf result sink_error.Failed → Rose old.faults new.faults
-  pub faults : old.faults ≤ new.faults
+  pub faults : new.faults ≡ failed_by_saying result old.faults
 
 -- ---- the texts
 

@@ -4,7 +4,6 @@ ghost use Rattle.std.specs.Fmt.{decimal};
 ghost use Rattle.std.specs.Io.KnownBytes.{Appends};
 ghost use Rattle.std.specs.List.{AllZip};
 ghost use Rattle.std.specs.Str.{byte};
-ghost use Rattle.aprs_base.specs.Outside.{Rose};
 ghost use Rattle.aprs_base.specs.Slots.{TakesLine, TakesLines};
 ghost use Rattle.aprsc_daemon.specs.Telling.{is_for_standard_error, is_for_the_file};
 

@@ -11,7 +11,7 @@ ghost use Rattle.aprs_conf.specs.Seen.{ConfSeen};
 ghost use Rattle.aprs_conf.specs.Sound.{IsSound};
 ghost use Rattle.aprs_conf.specs.Grammar.{conf_of};
 ghost use Rattle.server_core.specs.Meaning.{setting_of};
-ghost use Rattle.aprsc_daemon.specs.Causes.{Asks, Cause, DrillEnds, Ended, HasCause, HasNamed, KeepsPromise, NamesNone, Opening, Said, code_of_status, is_before_serving, outside_of, status_of};
+ghost use Rattle.aprsc_daemon.specs.Causes.{Asks, Cause, CountsOnce, DrillEnds, Ended, HasCause, HasNamed, KeepsPromise, NamesNone, Opening, ReadsWell, Said, code_of_status, is_before_serving, outside_of, status_of};
 ghost use Rattle.aprsc_daemon.specs.Phases.{JournalTold};
 ghost use Rattle.aprsc_daemon.specs.Asked.{IsBounded};
 ghost use Rattle.aprsc_daemon.specs.Words.{ServerWordsSeen, asked_of, drill_of};
@@ -115,7 +115,7 @@ fn run_conf<R: Threads + Sync + Wait, W: Wire, S: Sink, G: Gate + Sync>(
         × AppendsRun (setting_of conf) (W.shown wire.old).told (W.shown wire.new).told (JournalTold (code_of_status result) (setting_of conf) told) }
     ensures still { is_before_serving (code_of_status result) ≡ true → journals.new ≡ journals.old }
     ensures cause { (words : List (List ℕ)) (files files_after : FilesShown) → HasNamed Task.Serve words files.told conf
-        → Cause result (outside_of words files files_after
+        → ReadsWell words files files_after → Cause result (outside_of words files files_after
         (W.shown wire.old) (W.shown wire.new) (S.shown out.old) (S.shown out.new)) }
 {
     match open(alloc, conf, workers, wire, hasher) {
@@ -152,7 +152,7 @@ fn run_text<R: Threads + Sync + Wait, W: Wire, S: Sink, G: Gate + Sync>(
     ensures still { is_before_serving (code_of_status result) ≡ true → journals.new ≡ journals.old }
     ensures unnamed { ((conf : ConfSeen) → asked.now.task ≡ Task.Serve → conf_of text.now ≡ Ok conf → ⊥) → journals.new ≡ journals.old }
     ensures cause { (words : List (List ℕ)) (files files_after : FilesShown) → asked_of words ≡ Some asked.now → Holds files.told asked.now.file text.now
-        → Cause result (outside_of words files files_after
+        → ReadsWell words files files_after → Cause result (outside_of words files files_after
         (W.shown wire.old) (W.shown wire.new) (S.shown out.old) (S.shown out.new)) }
 {
     match read_conf(alloc, text) {
@@ -325,10 +325,14 @@ pub fn aprsc<R: Threads + Sync + Wait, F: Files, W: Wire, S: Sink, G: Gate + Syn
     // Each status has its cause, and its text stands on the sink.
     ensures cause { HasCause result (outside_of (map string_bytes words.now) (F.shown files.old) (F.shown files.new)
         (W.shown wire.old) (W.shown wire.new) (S.shown out.old) (S.shown out.new)) }
+    // The counts of failed calls are exact: the call that the status tells of failed once, and no other did.
+    ensures counts { CountsOnce result (outside_of (map string_bytes words.now) (F.shown files.old) (F.shown files.new)
+        (W.shown wire.old) (W.shown wire.new) (S.shown out.old) (S.shown out.new)) }
     // Where no fault was counted, the status is the one that the words and the file ask for, or 6.
     ensures complete { (code : ℕ) → Asks (map string_bytes words.now) (F.shown files.old).told code
         → ¬ Rose (F.shown files.old).faults (F.shown files.new).faults
-        → ¬ Rose (W.shown wire.old).stops (W.shown wire.new).stops
+        → ¬ Rose (W.shown wire.old).failed_listens (W.shown wire.new).failed_listens
+        → ¬ Rose (W.shown wire.old).failed_nexts (W.shown wire.new).failed_nexts
         → ¬ Rose (S.shown out.old).faults (S.shown out.new).faults
         → (result ≡ code) ⊎ (result ≡ 6) }
     // Once the file of a run was read, the sink is lost only before every listener is open.

@@ -1,37 +1,44 @@
 //! The files and the standard output of the system.
-ghost use Rattle.std.specs.Prelude.{◌≡◌, ◌≢◌, ◌<◌, ◌≤◌, ◌+◌, ◌++◌, None, IfOk, IfSome, OnOk, length, take};
+ghost use Rattle.std.specs.Prelude.{◌≡◌, ◌⊎◌, ◌+◌, ◌++◌, None, Ok, IfOk, IfSome, IsErrOf, OnOk, length, take};
 ghost use Rattle.std.specs.Io.{StartsWith};
-ghost use Rattle.aprs_base.specs.Outside.{Rose};
+ghost use Rattle.aprs_base.specs.Outside.{one_more};
+ghost use Rattle.aprs_base.specs.Stores.{after_reading, failed_reads_after, failed_writes_after};
 
 use aprs_base::{FileError, Files, Sink, SinkError};
 use std::io::{ErrorKind, Print, Read};
 use std::{fs, io};
 
-/// The files of the system, and how many reads of them failed.
+/// The files of the system, and how many reads of them were made and failed.
 #[derive(Drop)]
 pub struct RealFiles<R: fs::Files + Drop> {
     rt: R,
+    reads: u64,
     faults: u64,
 }
 
 impl<R: fs::Files + Drop> RealFiles<R> {
     pub fn new(rt: R) -> RealFiles<R>
-        ensures { result ≡ record { rt = rt; faults = 0 } }
+        ensures { result ≡ record { rt = rt; reads = 0; faults = 0 } }
     {
-        RealFiles { rt, faults: 0 }
+        RealFiles {
+            rt,
+            reads: 0,
+            faults: 0,
+        }
     }
 
     /// The answer for an error of the system.
-    fn refuse(&mut self, error: &io::Error) -> FileError
-        ensures faults { self.old.faults ≤ self.new.faults }
-        ensures failed { result ≡ FileError.Failed → Rose self.old.faults self.new.faults }
-        ensures not_big { result ≢ FileError.Big }
+    fn refuse(&mut self, error: &io::Error) -> Result<(), FileError>
+        ensures refused { IsErrOf result FileError.Failed ⊎ IsErrOf result FileError.Memory }
+        ensures reads { self.new.reads ≡ after_reading result self.old.reads (one_more self.old.reads) }
+        ensures faults { self.new.faults ≡ failed_reads_after result self.old.faults }
     {
         if error.kind() == ErrorKind::OutOfMemory {
-            return FileError::Memory;
+            return Err(FileError::Memory);
         }
+        self.reads = self.reads.saturating_add(1);
         self.faults = self.faults.saturating_add(1);
-        FileError::Failed
+        Err(FileError::Failed)
     }
 }
 
@@ -45,24 +52,28 @@ fn append<F: Read + Drop>(file: F, most: u64, out: &mut Vec<u8>) -> io::Result<u
 }
 
 impl<R: fs::Files + Drop> Files for RealFiles<R> {
-    ghost shown = { λ f. record { told = None; faults = f.faults } };
+    ghost shown = { λ f. record { told = None; last = None; reads = f.reads; faults = f.faults } };
 
     fn read(&mut self, name: &str, limit: usize, out: &mut Vec<u8>) -> Result<(), FileError> {
         let before = out.len();
         let file = match fs::open(&self.rt, name) {
             Ok(file) => file,
-            Err(error) => return Err(self.refuse(&error)),
+            Err(error) => return self.refuse(&error),
         };
         let most = (limit as u64).saturating_add(1);
         match append(file, most, out) {
-            Ok(count) if count <= limit => Ok(()),
+            Ok(count) if count <= limit => {
+                self.reads = self.reads.saturating_add(1);
+                Ok(())
+            }
             Ok(_) => {
+                self.reads = self.reads.saturating_add(1);
                 out.truncate(before);
                 Err(FileError::Big)
             }
             Err(error) => {
                 out.truncate(before);
-                Err(self.refuse(&error))
+                self.refuse(&error)
             }
         }
     }
@@ -83,16 +94,14 @@ impl<R: Print + Drop> RealSink<R> {
     }
 
     fn note_fault(&mut self)
-        ensures rose { Rose self.old.faults self.new.faults }
-        ensures faults { self.old.faults ≤ self.new.faults }
+        ensures { self.new ≡ record self.old { faults = one_more self.old.faults } }
     {
         self.faults = self.faults.saturating_add(1);
     }
 
     /// Notes that nothing was taken of a piece that isn't empty.
     fn note_count(&mut self, count: usize, bytes: &[u8])
-        ensures nothing { count ≡ 0 → 0 < length bytes.now → Rose self.old.faults self.new.faults }
-        ensures faults { self.old.faults ≤ self.new.faults }
+        ensures { self.new ≡ record self.old { faults = failed_writes_after (Ok count) bytes.now self.old.faults } }
     {
         if count == 0 && !bytes.is_empty() {
             self.note_fault();

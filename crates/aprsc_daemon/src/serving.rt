@@ -1,6 +1,6 @@
 //! The serving of a wire: listeners first, then round after round.
 ghost use Rattle.std.specs.Prelude.{◌≡◌, ◌≤◌, ◌<◌, ◌+◌, ℕ, List, [], ◌∷◌, ◌++◌, IfOk, OnOk, OnErr, IfErr, IsErrOf, MatchBool, Option, None, length, true, false, take};
-ghost use Rattle.aprs_base.specs.Outside.{Told, WireShown, Rose, CountsLink, new_link};
+ghost use Rattle.aprs_base.specs.Outside.{Told, CountsLink, failed_after, new_link};
 ghost use Rattle.aprs_conf.specs.Sound.{IsSound};
 ghost use Rattle.aprs_history.specs.Setting.{Setting};
 ghost use Rattle.aprs_history.specs.Stands.{StandsFor};
@@ -15,6 +15,7 @@ ghost use Rattle.aprs_history.specs.Trace.{is_member};
 ghost use Rattle.server_core.specs.LinkSteps.{AreServed, Rises, has_number, numbers, pending_at};
 ghost use Rattle.server_core.specs.Meaning.{CoreMeaning, listeners, setting_of};
 ghost use Rattle.aprsc_daemon.specs.Causes.{OpensOnly};
+ghost use Rattle.aprsc_daemon.specs.Failing.{FailsNot, failed_by_opening, failed_by_serving};
 ghost use Rattle.aprsc_daemon.specs.Phases.{Acting, AreOfRound, Brings, Broken, Counted, Finished, Gathering, Idling, Listening, Offering, Resting, Served, is_partial};
 ghost use Rattle.aprs_base.specs.Journals.{JournalLineSeen};
 ghost use Rattle.aprs_base.specs.Slots.{TakesLines};
@@ -51,12 +52,13 @@ pub(crate) fn listen_all<W: Wire>(wire: &mut W, listens: &[ListenSpec]) -> Resul
     requires { length listens.now ≤ 17 }
     ensures run { (s : Setting) → s.listens ≡ listens.now
         → OnOk result (AppendsRun s (W.shown wire.old).told (W.shown wire.new).told (Listening s (length listens.now))) }
-    ensures failed { IfErr result (λ e. (n : ℕ) → e ≡ ListenError.Failed n → Rose (W.shown wire.old).stops (W.shown wire.new).stops
-        × ((s : Setting) → s.listens ≡ listens.now → AppendsRun s (W.shown wire.old).told (W.shown wire.new).told (Listening s n))) }
+    ensures failed { IfErr result (λ e. (n : ℕ) → e ≡ ListenError.Failed n
+        → (s : Setting) → s.listens ≡ listens.now → AppendsRun s (W.shown wire.old).told (W.shown wire.new).told (Listening s n)) }
     ensures within { IfErr result (λ e. (n : ℕ) → e ≡ ListenError.Failed n → n < length listens.now) }
     ensures err { (s : Setting) → s.listens ≡ listens.now
         → OnErr result (AppendsRun s (W.shown wire.old).told (W.shown wire.new).told (λ more. HasFreshLinks more × (are_listens more ≡ true))) }
-    ensures stops { (W.shown wire.old).stops ≤ (W.shown wire.new).stops }
+    ensures listens { (W.shown wire.new).failed_listens ≡ failed_by_opening result (W.shown wire.old).failed_listens }
+    ensures nexts { (W.shown wire.new).failed_nexts ≡ (W.shown wire.old).failed_nexts }
 {
     let mut n = 0;
     for spec in listens {
@@ -83,11 +85,12 @@ pub(crate) fn open<W: Wire>(
     ensures run { IfOk result (λ core. AppendsRun (setting_of conf) (W.shown wire.old).told (W.shown wire.new).told (Resting [] core)) }
     ensures conf { IfOk result (λ core. core.conf ≡ conf) }
     ensures fresh { IfOk result (λ core. (core.seen.greatest ≡ 0) × (core.seen.stopped ≡ false)) }
-    ensures listen { IfErr result (λ e. (n : ℕ) → e ≡ ListenError.Failed n → Rose (W.shown wire.old).stops (W.shown wire.new).stops
-        × AppendsRun (setting_of conf) (W.shown wire.old).told (W.shown wire.new).told (OpensOnly n)) }
+    ensures listen { IfErr result (λ e. (n : ℕ) → e ≡ ListenError.Failed n
+        → AppendsRun (setting_of conf) (W.shown wire.old).told (W.shown wire.new).told (OpensOnly n)) }
     ensures within { IfErr result (λ e. (n : ℕ) → e ≡ ListenError.Failed n → n < length (listeners conf)) }
     ensures err { OnErr result (AppendsRun (setting_of conf) (W.shown wire.old).told (W.shown wire.new).told (λ more. HasFreshLinks more × (are_listens more ≡ true))) }
-    ensures stops { (W.shown wire.old).stops ≤ (W.shown wire.new).stops }
+    ensures listens { (W.shown wire.new).failed_listens ≡ failed_by_opening result (W.shown wire.old).failed_listens }
+    ensures nexts { (W.shown wire.new).failed_nexts ≡ (W.shown wire.old).failed_nexts }
 {
     let Ok(listens) = listeners(alloc, &conf) else {
         return Err(ListenError::Memory);
@@ -118,13 +121,13 @@ fn take_next<W: Wire>(wire: &mut W, events: &mut Vec<Event>) -> Result<bool, Wir
     ensures run { (s : Setting) (start : Option Told) (lines : List JournalLineSeen) (core : CoreMeaning) → setting_of core.conf ≡ s
         → AppendsRun s start (W.shown wire.old).told (Gathering lines core events.old.items)
         → OnOk result (AppendsRun s start (W.shown wire.new).told (Gathering lines core events.new.items)) }
-    ensures failed { IsErrOf result WireError.Failed → Rose (W.shown wire.old).stops (W.shown wire.new).stops
-        × (events.new.items ≡ events.old.items) × ((W.shown wire.new).told ≡ (W.shown wire.old).told) }
+    ensures failed { IsErrOf result WireError.Failed → (events.new.items ≡ events.old.items) × ((W.shown wire.new).told ≡ (W.shown wire.old).told) }
     ensures err { (s : Setting) (start : Option Told) (lines : List JournalLineSeen) (core : CoreMeaning) (first : ℕ) → setting_of core.conf ≡ s
         → core.seen.greatest ≤ first → Counted first events.old.items (W.shown wire.old).links
         → AppendsRun s start (W.shown wire.old).told (Gathering lines core events.old.items)
         → OnErr result (AppendsRun s start (W.shown wire.new).told (Broken s lines)) }
-    ensures stops { (W.shown wire.old).stops ≤ (W.shown wire.new).stops }
+    ensures listens { (W.shown wire.new).failed_listens ≡ (W.shown wire.old).failed_listens }
+    ensures nexts { (W.shown wire.new).failed_nexts ≡ failed_after result (W.shown wire.old).failed_nexts }
 {
     let event = wire.next()?;
     let whole = is_last(events.as_slice().len(), &event);
@@ -141,7 +144,6 @@ fn gather<W: Wire>(wire: &mut W, events: &mut Vec<Event>) -> Result<(), WireErro
     ensures run { (s : Setting) (start : Option Told) (lines : List JournalLineSeen) (core : CoreMeaning) → setting_of core.conf ≡ s
         → AppendsRun s start (W.shown wire.old).told (Gathering lines core [])
         → OnOk result (AppendsRun s start (W.shown wire.new).told (Gathering lines core events.new.items)) }
-    ensures failed { IsErrOf result WireError.Failed → Rose (W.shown wire.old).stops (W.shown wire.new).stops }
     ensures idle { (s : Setting) (start : Option Told) (lines : List JournalLineSeen) (core : CoreMeaning) → setting_of core.conf ≡ s
         → core.seen.greatest ≤ (W.shown wire.old).links
         → AppendsRun s start (W.shown wire.old).told (Gathering lines core [])
@@ -150,7 +152,8 @@ fn gather<W: Wire>(wire: &mut W, events: &mut Vec<Event>) -> Result<(), WireErro
         → core.seen.greatest ≤ (W.shown wire.old).links
         → AppendsRun s start (W.shown wire.old).told (Gathering lines core [])
         → OnErr result (AppendsRun s start (W.shown wire.new).told (Broken s lines)) }
-    ensures stops { (W.shown wire.old).stops ≤ (W.shown wire.new).stops }
+    ensures listens { (W.shown wire.new).failed_listens ≡ (W.shown wire.old).failed_listens }
+    ensures nexts { (W.shown wire.new).failed_nexts ≡ failed_after result (W.shown wire.old).failed_nexts }
 {
     let mut whole = false;
     while !whole {
@@ -190,7 +193,7 @@ fn send_one<W: Wire>(
     ensures err { OnErr result ((W.shown wire.new).told ≡ (W.shown wire.old).told) }
     ensures rest { SameRest core.old core.new }
     ensures numbers { numbers core.new.seen.links ≡ numbers core.old.seen.links }
-    ensures stops { (W.shown wire.new).stops ≡ (W.shown wire.old).stops }
+    ensures failures { FailsNot (W.shown wire.old) (W.shown wire.new) }
     ensures links { (W.shown wire.new).links ≡ (W.shown wire.old).links }
 {
     let bytes = next_bytes(core, link, buffer);
@@ -220,7 +223,7 @@ fn send_all<W: Wire>(
         → OnErr result (AppendsRun s start (W.shown wire.new).told (Broken s lines)) }
     ensures brings { OnOk result (Brings [] (W.shown wire.old).told (W.shown wire.new).told) }
     ensures rest { SameRest core.old core.new }
-    ensures stops { (W.shown wire.new).stops ≡ (W.shown wire.old).stops }
+    ensures failures { FailsNot (W.shown wire.old) (W.shown wire.new) }
     ensures links { (W.shown wire.new).links ≡ (W.shown wire.old).links }
 {
     for link in offers {
@@ -238,7 +241,7 @@ fn close_all<W: Wire>(wire: &mut W, closes: &[u32]) -> Result<(), Memory>
         → AppendsRun s start (W.shown wire.old).told (Offering lines core [] closes.now)
         → OnErr result (AppendsRun s start (W.shown wire.new).told (Broken s lines)) }
     ensures brings { OnOk result (Brings [] (W.shown wire.old).told (W.shown wire.new).told) }
-    ensures stops { (W.shown wire.new).stops ≡ (W.shown wire.old).stops }
+    ensures failures { FailsNot (W.shown wire.old) (W.shown wire.new) }
     ensures links { (W.shown wire.new).links ≡ (W.shown wire.old).links }
 {
     for link in closes {
@@ -255,7 +258,7 @@ fn dial_due<W: Wire>(wire: &mut W, uplinks: &[UplinkSpec], dial: Option<u16>) ->
         → OnOk result (AppendsRun s start (W.shown wire.new).told (Acting lines core None casts offers closes)) }
     ensures err { OnErr result ((W.shown wire.new).told ≡ (W.shown wire.old).told) }
     ensures brings { OnOk result (Brings [] (W.shown wire.old).told (W.shown wire.new).told) }
-    ensures stops { (W.shown wire.new).stops ≡ (W.shown wire.old).stops }
+    ensures failures { FailsNot (W.shown wire.old) (W.shown wire.new) }
     ensures links { (W.shown wire.new).links ≡ (W.shown wire.old).links }
 {
     let Some(uplink) = dial else {
@@ -286,7 +289,7 @@ fn cast_one<W: Wire>(wire: &mut W, peers: &[PeerSpec], cast: &CastOut) -> Result
         → OnOk result (AppendsRun s start (W.shown wire.new).told (Acting lines core None casts offers closes)) }
     ensures err { OnErr result ((W.shown wire.new).told ≡ (W.shown wire.old).told) }
     ensures brings { OnOk result (Brings [] (W.shown wire.old).told (W.shown wire.new).told) }
-    ensures stops { (W.shown wire.new).stops ≡ (W.shown wire.old).stops }
+    ensures failures { FailsNot (W.shown wire.old) (W.shown wire.new) }
     ensures links { (W.shown wire.new).links ≡ (W.shown wire.old).links }
 {
     match peers.get(usize::from(cast.peer)) {
@@ -306,7 +309,7 @@ fn cast_all<W: Wire>(wire: &mut W, peers: &[PeerSpec], casts: &[CastOut]) -> Res
         → AppendsRun s start (W.shown wire.old).told (Acting lines core None casts.now offers closes)
         → OnErr result (AppendsRun s start (W.shown wire.new).told (Broken s lines)) }
     ensures brings { OnOk result (Brings [] (W.shown wire.old).told (W.shown wire.new).told) }
-    ensures stops { (W.shown wire.new).stops ≡ (W.shown wire.old).stops }
+    ensures failures { FailsNot (W.shown wire.old) (W.shown wire.new) }
     ensures links { (W.shown wire.new).links ≡ (W.shown wire.old).links }
 {
     for cast in casts {
@@ -324,7 +327,7 @@ fn reach_out<W: Wire>(wire: &mut W, conf: &Conf, acts: &Acts) -> Result<(), Memo
         → AppendsRun s start (W.shown wire.old).told (Acting lines core acts.now.dial acts.now.casts acts.now.offers acts.now.closes)
         → OnErr result (AppendsRun s start (W.shown wire.new).told (Broken s lines)) }
     ensures brings { OnOk result (Brings [] (W.shown wire.old).told (W.shown wire.new).told) }
-    ensures stops { (W.shown wire.new).stops ≡ (W.shown wire.old).stops }
+    ensures failures { FailsNot (W.shown wire.old) (W.shown wire.new) }
     ensures links { (W.shown wire.new).links ≡ (W.shown wire.old).links }
 {
     dial_due(wire, conf.uplinks.as_slice(), acts.dial)?;
@@ -385,7 +388,7 @@ fn act<R: Threads + Sync, W: Wire, G: Gate + Sync>(
     ensures conf { OnOk result (core.new.conf ≡ core.old.conf) }
     ensures greatest { OnOk result (core.new.seen.greatest ≡ greatest_after events.now core.old.seen.greatest) }
     ensures done { IfOk result (λ done. done ≡ core.new.seen.stopped) }
-    ensures stops { (W.shown wire.new).stops ≡ (W.shown wire.old).stops }
+    ensures failures { FailsNot (W.shown wire.old) (W.shown wire.new) }
     ensures links { (W.shown wire.new).links ≡ (W.shown wire.old).links }
 {
     let acts = tell_round(rt, alloc, core, events, journals, gate)?;
@@ -418,11 +421,11 @@ fn serve_round<R: Threads + Sync, W: Wire, G: Gate + Sync>(
         × (IsErrOf result WireError.Failed → AppendsRun s start (W.shown wire.new).told (Idling s (lines ++ told)))) }
     ensures whole { OnOk result (is_whole 0 events.new.items ≡ true) }
     ensures brings { OnOk result (Brings events.new.items (W.shown wire.old).told (W.shown wire.new).told) }
-    ensures failed { IsErrOf result WireError.Failed → Rose (W.shown wire.old).stops (W.shown wire.new).stops }
     ensures conf { OnOk result (core.new.conf ≡ core.old.conf) }
     ensures numbered { OnOk result (core.new.seen.greatest ≤ (W.shown wire.new).links) }
     ensures done { IfOk result (λ done. done ≡ core.new.seen.stopped) }
-    ensures stops { (W.shown wire.old).stops ≤ (W.shown wire.new).stops }
+    ensures listens { (W.shown wire.new).failed_listens ≡ (W.shown wire.old).failed_listens }
+    ensures nexts { (W.shown wire.new).failed_nexts ≡ failed_after result (W.shown wire.old).failed_nexts }
 {
     events.clear();
     gather(wire, events)?;
@@ -469,8 +472,8 @@ pub(crate) fn serve<R: Threads + Sync + Wait, W: Wire, G: Gate + Sync>(
     ensures stands { result ≡ End.Stopped → (s : Setting) (start : Option Told) (lines : List JournalLineSeen) → setting_of core.old.conf ≡ s
         → AppendsRun s start (W.shown wire.old).told (Resting lines core.old)
         → AppendsRun s start (W.shown wire.new).told (λ more. Finished s more × StandsFor s core.new.seen more) }
-    ensures failed { result ≡ End.Failed → Rose (W.shown wire.old).stops (W.shown wire.new).stops }
-    ensures stops { (W.shown wire.old).stops ≤ (W.shown wire.new).stops }
+    ensures listens { (W.shown wire.new).failed_listens ≡ (W.shown wire.old).failed_listens }
+    ensures nexts { (W.shown wire.new).failed_nexts ≡ failed_by_serving result (W.shown wire.old).failed_nexts }
 {
     let mut events = Vec::new(alloc);
     let mut buffer = [0u8; MOST_OFFERED];

@@ -4,8 +4,8 @@ use Rattle.aprs_history.specs.Runs.{AppendsRun}
 use Rattle.aprs_base.proofs.SlotLemmas.{each_takes_due}
 use Rattle.server_core.specs.Meaning.{setting_of}
 use Rattle.aprsc_daemon.specs.Phases.{JournalTold}
-use Rattle.aprsc_daemon.specs.Causes.{DrillEnds, Ended, is_before_serving}
-use Rattle.aprsc_daemon.proofs.CauseLemmas.{complete, early, headline, keeps_promise, not_named}
+use Rattle.aprsc_daemon.specs.Causes.{CountsOnce, DrillEnds, Ended, Outside, is_before_serving, outside_of}
+use Rattle.aprsc_daemon.proofs.CauseLemmas.{complete, counts, early, headline, keeps_promise, not_named}
 use Rattle.aprsc_daemon.proofs.WordsLemmas.{only_drill}
 use Rattle.aprsc_daemon.proofs.program.aprsc.Goals as goal
 
@@ -22,8 +22,14 @@ pub returns-clause-cause : goal.returns-clause-cause
 returns-clause-cause g c = (c.run.result, c.code.ensures, c.run.ensures.cause)
 
 pub returns-clause-complete : goal.returns-clause-complete
-returns-clause-complete g c = λ code asks sound going taken.
-    subst (λ n. (n ≡ code) ⊎ (n ≡ 6)) (sym c.code.ensures) (complete _ code c.run.result asks sound going taken c.run.ensures.cause)
+returns-clause-complete g c = λ code asks sound listening going taken.
+    subst (λ n. (n ≡ code) ⊎ (n ≡ 6)) (sym c.code.ensures) (complete _ code c.run.result asks sound listening going taken c.run.ensures.cause)
+
+pub returns-clause-counts : goal.returns-clause-counts
+returns-clause-counts g c =
+    let o : Outside = outside_of (map string_bytes c.args.words.now) (g.F.Files.shown c.args.files.now) (g.F.Files.shown c.run.new.files)
+    (g.W.Wire.shown c.args.wire.now) (g.W.Wire.shown c.run.new.wire) (g.S.Sink.shown c.args.out.now) (g.S.Sink.shown c.run.new.out) in
+    subst (λ n. CountsOnce n o) (sym c.code.ensures) (counts o c.run.result c.run.ensures.cause)
 
 pub returns-clause-early : goal.returns-clause-early
 returns-clause-early g c = λ conf told tells read sound lost.

@@ -14,10 +14,10 @@ use Rattle.aprsc_daemon.proofs.program.run.Goals as goal
 pub returns-in-Err-Refused-clause-cause : goal.returns-in-Err-Refused-clause-cause
 returns-in-Err-Refused-clause-cause g c =
     let bad = c.in-Err-Refused.ensures.refused (ap Err c.in-Err-Refused.field-0-is) in
-    words_cause _ _ c.say.result bad.0 bad.1 refl c.usage.ensures c.say.ensures
+    words_cause _ _ c.say.result bad.0 bad.1 refl (record { file = inl (refl, refl, refl); reads = refl; listens = refl; nexts = refl }) c.usage.ensures c.say.ensures
 
 pub returns-in-Err-Memory-clause-cause : goal.returns-in-Err-Memory-clause-cause
-returns-in-Err-Memory-clause-cause g c = memory_cause _ refl (inl refl)
+returns-in-Err-Memory-clause-cause g c = memory_cause _ refl (inl refl) (record { file = inl (refl, refl, refl); reads = refl; listens = refl; nexts = refl })
 
 pub returns-in-Ok-Server-clause-journals : goal.returns-in-Ok-Server-clause-journals
 returns-in-Ok-Server-clause-journals g c = λ conf told_files tells read.

@@ -1,4 +1,4 @@
-use Rattle.std.proofs.Common.{refl}
+use Rattle.std.proofs.Common.{inl, refl}
 use Rattle.aprsc_daemon.specs.Saying.{summary_text}
 use Rattle.aprsc_daemon.proofs.CauseLemmas.{drill_cause, drill_ends}
 use Rattle.aprsc_daemon.proofs.DrillLemmas.{summary_of}
@@ -12,4 +12,4 @@ returns-in-Ok-clause-drill g c =
 pub returns-in-Ok-clause-cause : goal.returns-in-Ok-clause-cause
 returns-in-Ok-clause-cause g c = λ words files wire named.
     let text = summary_text c.args.asked.plan c.in-Ok.counts.totals c.in-Ok.counts.taken in
-    drill_cause _ c.args.asked text c.say_made.result named refl (summary_of c.args.asked.plan c.in-Ok.counts c.in-Ok.ensures) (c.say_made.ensures text c.summary.ensures)
+    drill_cause _ c.args.asked text c.say_made.result named refl (record { file = inl (refl, refl, refl); reads = refl; listens = refl; nexts = refl }) (summary_of c.args.asked.plan c.in-Ok.counts c.in-Ok.ensures) (c.say_made.ensures text c.summary.ensures)

@@ -14,7 +14,7 @@ use Rattle.aprsc_daemon.proofs.CauseLemmas.{off_cause, memory_cause, ok_same, va
 use Rattle.aprsc_daemon.proofs.program.run_text.Goals as goal
 
 pub returns-in-Check-clause-cause : goal.returns-in-Check-clause-cause
-returns-in-Check-clause-cause g c = λ words files files_after named holds.
+returns-in-Check-clause-cause g c = λ words files files_after named holds well.
     let read : HasNamed task.Check words files.told c.in-Ok.conf = record {
       asked = _;
       bytes = c.args.text.now;
@@ -24,19 +24,20 @@ returns-in-Check-clause-cause g c = λ words files files_after named holds.
       short = c.requires.short;
       reads = c.in-Ok.ensures.value;
     } in
-    valid_cause _ c.in-Ok.conf c.say_made.result read refl (c.say_made.ensures (valid_text c.asked.inside.file.now) c.valid.ensures)
+    valid_cause _ c.in-Ok.conf c.say_made.result read refl (record { file = well.0; reads = well.1; listens = refl; nexts = refl }) (c.say_made.ensures (valid_text c.asked.inside.file.now) c.valid.ensures)
 
 pub returns-in-Err-Trouble-clause-cause : goal.returns-in-Err-Trouble-clause-cause
-returns-in-Err-Trouble-clause-cause g c = λ words files files_after named holds.
+returns-in-Err-Trouble-clause-cause g c = λ words files files_after named holds well.
     let why = c.in-Err-Trouble.why in
     let text = trouble_text c.asked.inside.file.now why in
     off_cause _ _ c.args.text.now text c.say_made-in-Err-Trouble.result (named ∙ ap Some (sym c.asked.view_is))
     (subst (λ asked. Holds files.told asked.file c.args.text.now) (sym c.asked.view_is) holds)
     (inr (c.requires.short, why, c.in-Err-Trouble.ensures.trouble why (ap Err c.in-Err-Trouble.field-0-is), refl)) refl
+    (record { file = well.0; reads = well.1; listens = refl; nexts = refl })
     (c.say_made-in-Err-Trouble.ensures text c.trouble.ensures)
 
 pub returns-in-Err-Memory-clause-cause : goal.returns-in-Err-Memory-clause-cause
-returns-in-Err-Memory-clause-cause g c = λ words files files_after named holds. memory_cause _ refl (inl refl)
+returns-in-Err-Memory-clause-cause g c = λ words files files_after named holds well. memory_cause _ refl (inl refl) (record { file = well.0; reads = well.1; listens = refl; nexts = refl })
 
 pub returns-in-Serve-clause-journals : goal.returns-in-Serve-clause-journals
 returns-in-Serve-clause-journals g c = λ conf serve reads.

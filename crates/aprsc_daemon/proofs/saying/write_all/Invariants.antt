@@ -1,4 +1,4 @@
-use Rattle.std.proofs.Common.{length, ◌-◌, ◌≤◌, take}
+use Rattle.std.proofs.Common.{◌≡◌, length, ◌-◌, ◌≤◌, take}
 use Rattle.aprsc_daemon.specs.Saying.{Grew}
 use Rattle.aprsc_daemon.proofs.saying.write_all.Given as goal
 
@@ -7,7 +7,7 @@ abbrev pub invariant-loop-done : goal.invariant-loop-done
 invariant-loop-done g l = record {
   within : l.done ≤ length l.bytes;
   grew : Grew (g.S.Sink.shown l.initial.out) (g.S.Sink.shown l.out) (take l.done l.bytes);
-  faults : (g.S.Sink.shown l.initial.out).faults ≤ (g.S.Sink.shown l.out).faults;
+  faults : (g.S.Sink.shown l.out).faults ≡ (g.S.Sink.shown l.initial.out).faults;
 }
 
 -- each turn takes a byte or ends the loop

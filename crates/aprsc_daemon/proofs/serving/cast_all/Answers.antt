@@ -10,7 +10,7 @@ use Rattle.aprsc_daemon.proofs.serving.cast_all.Goals as goal
 
 pub loop-cast-preserved : goal.loop-cast-preserved
 loop-cast-preserved g c = (
-  c.cast_one.ensures.stops ∙ c.loop-cast.invariant.0,
+  (c.cast_one.ensures.failures.0 ∙ c.loop-cast.invariant.0.0, c.cast_one.ensures.failures.1 ∙ c.loop-cast.invariant.0.1),
   c.cast_one.ensures.links ∙ c.loop-cast.invariant.1,
   brings_on [] (g.W.Wire.shown c.args.wire.now).told (g.W.Wire.shown c.loop-cast.wire).told (g.W.Wire.shown c.cast_one.new.wire).told c.loop-cast.invariant.2 c.in_ok-cast_one.ensures.brings,
   λ s start lines core offers closes same peers run.

@@ -13,7 +13,7 @@ use Rattle.aprsc_daemon.proofs.serving.close_all.Goals as goal
 
 pub loop-link-preserved : goal.loop-link-preserved
 loop-link-preserved g c = (
-  c.close.ensures.stops ∙ c.loop-link.invariant.0,
+  (c.close.ensures.listens ∙ c.loop-link.invariant.0.0, c.close.ensures.nexts ∙ c.loop-link.invariant.0.1),
   c.close.ensures.links ∙ c.loop-link.invariant.1,
   brings_on [] (g.W.Wire.shown c.args.wire.now).told (g.W.Wire.shown c.loop-link.wire).told (g.W.Wire.shown c.close.new.self).told c.loop-link.invariant.2
       (brings_one (did.Closed _) [] (g.W.Wire.shown c.loop-link.wire).told (g.W.Wire.shown c.close.new.self).told refl c.in_ok-close.ensures.ok),

@@ -4,12 +4,13 @@ use Rattle.aprs_base.specs.Outside.{Told}
 use Rattle.aprs_history.specs.Setting.{Setting}
 use Rattle.aprs_history.specs.Runs.{AppendsRun}
 use Rattle.server_core.specs.Meaning.{CoreMeaning, setting_of}
+use Rattle.aprsc_daemon.specs.Failing.{FailsNot}
 use Rattle.aprsc_daemon.specs.Phases.{Brings, Offering}
 use Rattle.aprsc_daemon.proofs.serving.close_all.Given as goal
 
 abbrev pub invariant-loop-link : goal.invariant-loop-link
 invariant-loop-link g l =
-    ((g.W.Wire.shown l.wire).stops ≡ (g.W.Wire.shown l.initial.wire).stops)
+    FailsNot (g.W.Wire.shown l.initial.wire) (g.W.Wire.shown l.wire)
     × ((g.W.Wire.shown l.wire).links ≡ (g.W.Wire.shown l.initial.wire).links)
     × Brings [] (g.W.Wire.shown l.initial.wire).told (g.W.Wire.shown l.wire).told
     × ((s : Setting) (start : Option Told) (lines : List JournalLineSeen) (core : CoreMeaning) → setting_of core.conf ≡ s

@@ -15,7 +15,7 @@ returns-in_err-whole-clause-idle g c = λ s start lines core same le run failed.
     let partial = subst (λ b. MatchBool b (is_whole 0 events ≡ true) (is_partial 0 events ≡ true)) c.loop-whole-test.true c.loop-whole.invariant.0 in
     let error = err_from_is_err_and c.from_residual.result c.from_residual.ensures.1 in
     let stays = c.in_err-whole.ensures.failed (ap Err (sym error.2 ∙ err_inside c.from_residual.result error.0 wire_error.Failed error.1 failed)) in
-    run_told s start (g.W.Wire.shown c.loop-whole.wire).told (g.W.Wire.shown c.take_next.new.wire).told (Idling s lines) stays.2
+    run_told s start (g.W.Wire.shown c.loop-whole.wire).told (g.W.Wire.shown c.take_next.new.wire).told (Idling s lines) stays.1
     (run_weaker s start (g.W.Wire.shown c.loop-whole.wire).told (Gathering lines core events) (Idling s lines) (λ more. gathering_idles core events (g.W.Wire.shown c.args.wire.now).links (g.W.Wire.shown c.loop-whole.wire).links s more same partial le c.loop-whole.invariant.1)
     (c.loop-whole.invariant.4 s start lines core same run))
 

@@ -1,4 +1,4 @@
-use Rattle.std.proofs.Common.{List, ◌≡◌, ◌≤◌, ◌-◌, [], true, Option, length, if◌then◌else◌}
+use Rattle.std.proofs.Common.{List, ◌≡◌, ◌-◌, [], true, Option, length, if◌then◌else◌}
 use Rattle.std.specs.Bool.{MatchBool}
 use Rattle.aprs_base.specs.Journals.{JournalLineSeen}
 use Rattle.aprs_base.specs.Outside.{Told}
@@ -6,6 +6,7 @@ use Rattle.aprs_history.specs.Setting.{Setting}
 use Rattle.aprs_history.specs.Rounds.{is_whole}
 use Rattle.aprs_history.specs.Runs.{AppendsRun}
 use Rattle.server_core.specs.Meaning.{CoreMeaning, setting_of}
+use Rattle.aprsc_daemon.specs.Failing.{FailsNot}
 use Rattle.aprsc_daemon.specs.Phases.{Brings, Counted, Gathering, is_partial}
 use Rattle.aprsc_daemon.proofs.serving.gather.Given as goal
 
@@ -14,7 +15,7 @@ invariant-loop-whole g l =
     MatchBool l.whole (is_whole 0 l.events.items ≡ true) (is_partial 0 l.events.items ≡ true)
     × Counted (g.W.Wire.shown l.initial.wire).links l.events.items (g.W.Wire.shown l.wire).links
     × Brings l.events.items (g.W.Wire.shown l.initial.wire).told (g.W.Wire.shown l.wire).told
-    × ((g.W.Wire.shown l.initial.wire).stops ≤ (g.W.Wire.shown l.wire).stops)
+    × FailsNot (g.W.Wire.shown l.initial.wire) (g.W.Wire.shown l.wire)
     × ((s : Setting) (start : Option Told) (lines : List JournalLineSeen) (core : CoreMeaning) → setting_of core.conf ≡ s → AppendsRun s start (g.W.Wire.shown l.initial.wire).told (Gathering lines core [])
     → AppendsRun s start (g.W.Wire.shown l.wire).told (Gathering lines core l.events.items))
 

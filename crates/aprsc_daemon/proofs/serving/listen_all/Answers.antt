@@ -1,4 +1,4 @@
-use Rattle.std.proofs.Common.{◌≡◌, true, refl, arith, le_refl, ◌<◌, length}
+use Rattle.std.proofs.Common.{◌≡◌, ◌∙◌, true, refl, arith, ◌<◌, length}
 use Rattle.aprs_history.specs.Headline.{HasFreshLinks}
 use Rattle.aprs_history.specs.Runs.{are_listens}
 use Rattle.aprsc_daemon.specs.Phases.{Listening}
@@ -6,7 +6,7 @@ use Rattle.aprsc_daemon.proofs.RunLemmas.{run_begins, listened, listed_at, run_w
 use Rattle.aprsc_daemon.proofs.serving.listen_all.Goals as goal
 
 pub loop-spec-init : goal.loop-spec-init
-loop-spec-init g c = (refl, le_refl _, λ s is. run_begins s (g.W.Wire.shown c.args.wire.now).told (Listening s 0) (listens_begin s))
+loop-spec-init g c = (refl, (refl, refl), λ s is. run_begins s (g.W.Wire.shown c.args.wire.now).told (Listening s 0) (listens_begin s))
 
 pub returns-in-Err-Failed-clause-err : goal.returns-in-Err-Failed-clause-err
 returns-in-Err-Failed-clause-err g c = λ s is.
@@ -21,7 +21,7 @@ returns-in-Err-Memory-clause-err g c = λ s is.
 pub loop-spec-preserved : goal.loop-spec-preserved
 loop-spec-preserved g c = (
   omega arith,
-  (let before = c.loop-spec.invariant.1 in let now = c.listen.ensures.stops in omega arith),
+  (c.in-Ok.ensures.listens ∙ c.loop-spec.invariant.1.0, c.listen.ensures.nexts ∙ c.loop-spec.invariant.1.1),
   λ s is.
       let at : c.loop-spec.n ≡ c.loop-spec.spec-index = c.loop-spec.invariant.0 in
       let within : c.loop-spec.n < length c.args.listens.now = omega arith in

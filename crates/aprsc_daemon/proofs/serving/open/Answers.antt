@@ -22,11 +22,8 @@ returns-in_err-listen_all-clause-listen g c =
     let s = setting_of c.args.conf in
     let same : c.as_slice.result.now ≡ listeners c.args.conf = c.as_slice.ensures.value ∙ c.in-Ok.ensures in
     err_of _ c.from_residual.result error.0 c.in_err-listen_all.field-0.0 error.1 error.2 (λ n is.
-    let failed = c.in_err-listen_all.ensures.failed n is in (
-      failed.0,
-      run_weaker s (g.W.Wire.shown c.args.wire.now).told (g.W.Wire.shown c.listen_all.new.wire).told (Listening s n) (OpensOnly n)
-          (λ more phase. (phase.count, phase.only)) (failed.1 s (sym same)),
-    ))
+    run_weaker s (g.W.Wire.shown c.args.wire.now).told (g.W.Wire.shown c.listen_all.new.wire).told (Listening s n) (OpensOnly n)
+    (λ more phase. (phase.count, phase.only)) (c.in_err-listen_all.ensures.failed n is s (sym same)))
 
 pub returns-in_err-listen_all-clause-within : goal.returns-in_err-listen_all-clause-within
 returns-in_err-listen_all-clause-within g c =

@@ -32,7 +32,7 @@ loop-link-preserved g c =
     let left = next_item offers i (get_or offers i 0) c.loop-link-test.true (same_at offers i 0 _ c.loop-link-test.true) in (
       record { conf = now.conf ∙ was.conf; greatest = now.greatest ∙ was.greatest; stopped = now.stopped ∙ was.stopped },
       c.send_one.ensures.numbers ∙ c.loop-link.invariant.1,
-      c.send_one.ensures.stops ∙ c.loop-link.invariant.2,
+      (c.send_one.ensures.failures.0 ∙ c.loop-link.invariant.2.0, c.send_one.ensures.failures.1 ∙ c.loop-link.invariant.2.1),
       c.send_one.ensures.links ∙ c.loop-link.invariant.3,
       brings_on [] (g.W.Wire.shown c.args.wire.now).told (g.W.Wire.shown c.loop-link.wire).told (g.W.Wire.shown c.send_one.new.wire).told c.loop-link.invariant.4 c.in_ok-send_one.ensures.brings,
       c.send_one.auto.buffer ∙ c.loop-link.invariant.5,

@@ -6,6 +6,7 @@ use Rattle.aprs_history.specs.Runs.{AppendsRun}
 use Rattle.server_core.specs.LinkSteps.{numbers}
 use Rattle.server_core.specs.Meaning.{setting_of}
 use Rattle.server_core.specs.Steps.{SameRest}
+use Rattle.aprsc_daemon.specs.Failing.{FailsNot}
 use Rattle.aprsc_daemon.specs.Phases.{Brings, Offering}
 use Rattle.aprsc_daemon.proofs.serving.send_all.Given as goal
 
@@ -13,7 +14,7 @@ abbrev pub invariant-loop-link : goal.invariant-loop-link
 invariant-loop-link g l =
     SameRest l.initial.core l.core
     × (numbers l.core.seen.links ≡ numbers l.initial.core.seen.links)
-    × ((g.W.Wire.shown l.wire).stops ≡ (g.W.Wire.shown l.initial.wire).stops)
+    × FailsNot (g.W.Wire.shown l.initial.wire) (g.W.Wire.shown l.wire)
     × ((g.W.Wire.shown l.wire).links ≡ (g.W.Wire.shown l.initial.wire).links)
     × Brings [] (g.W.Wire.shown l.initial.wire).told (g.W.Wire.shown l.wire).told
     × (length l.buffer ≡ 65536)

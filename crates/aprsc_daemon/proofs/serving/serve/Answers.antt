@@ -1,4 +1,4 @@
-use Rattle.std.proofs.Common.{◌++◌, ◌∙◌, [], Err, ap, append-nil, append_assoc, arith, le_refl, refl, subst, sym}
+use Rattle.std.proofs.Common.{◌++◌, ◌∙◌, [], Err, ap, append-nil, append_assoc, refl, subst, sym}
 use Rattle.aprs_base.proofs.SlotLemmas.{each_takes-append, each_takes-none}
 use Rattle.aprs_history.specs.Runs.{AppendsRun}
 use Rattle.server_core.specs.Meaning.{setting_of}
@@ -15,7 +15,7 @@ loop-init g c = (
   refl,
   c.requires.going,
   c.requires.numbered,
-  le_refl _,
+  (refl, refl),
   [],
   each_takes-none (λ z. (goal.Journal-dyn g z).journal_shown z.1) c.args.journals.now.items,
   λ s start lines same run. subst (λ all. AppendsRun s start (g.W.Wire.shown c.args.wire.now).told (Resting all c.args.core.now)) (sym (append-nil lines)) run,
@@ -30,7 +30,7 @@ loop-preserved g c =
       c.in-Ok-false.ensures.conf ∙ before.2,
       sym c.in-Ok-false.ensures.done ∙ c.in-Ok-false.field-0-test,
       c.in-Ok-false.ensures.numbered,
-      (let old = before.5 in let new = c.in-Ok-false.ensures.stops in omega arith),
+      (c.serve_round.ensures.listens ∙ before.5.0, c.in-Ok-false.ensures.nexts ∙ before.5.1),
       before.6 ++ now.0,
       each_takes-append (λ z. (goal.Journal-dyn g z).journal_shown z.1) before.6 now.0 _ _ _ before.7 now.1,
       λ s start lines same run.

@@ -6,6 +6,7 @@ use Rattle.aprs_base.specs.Slots.{TakesLines}
 use Rattle.aprs_history.specs.Setting.{Setting}
 use Rattle.aprs_history.specs.Runs.{AppendsRun}
 use Rattle.server_core.specs.Meaning.{setting_of}
+use Rattle.aprsc_daemon.specs.Failing.{FailsNot}
 use Rattle.aprsc_daemon.specs.Phases.{Resting}
 use Rattle.aprsc_daemon.proofs.serving.serve.Given as goal
 
@@ -16,7 +17,7 @@ invariant-loop g l =
     × (l.core.conf ≡ l.initial.core.conf)
     × (l.core.seen.stopped ≡ false)
     × (l.core.seen.greatest ≤ (g.W.Wire.shown l.wire).links)
-    × ((g.W.Wire.shown l.initial.wire).stops ≤ (g.W.Wire.shown l.wire).stops)
+    × FailsNot (g.W.Wire.shown l.initial.wire) (g.W.Wire.shown l.wire)
     × (told : List JournalLineSeen)
     × AllZip (TakesLines (λ z. (goal.Journal-dyn g z).journal_shown z.1) told) l.initial.journals.items l.journals.items
     × ((s : Setting) (start : Option Told) (lines : List JournalLineSeen) → setting_of l.initial.core.conf ≡ s
