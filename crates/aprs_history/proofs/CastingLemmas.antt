@@ -3,39 +3,27 @@ use Rattle.std.proofs.Common.{◌≡◌, ℕ, ◌+◌, ◌<◌, ◌≤◌, ◌==
 use Rattle.std.specs.Bool.{⊤}
 use Rattle.std.proofs.lemmas.List.{map-append}
 use Rattle.std.proofs.lemmas.Bool.{cases_Bool, eqb-true, true≢false}
-use Rattle.aprs_base.specs.declared.cutting.Cut.{Cut}
 use Rattle.aprs_base.specs.declared.events.Event.{Event}
-use Rattle.aprs_base.specs.declared.events.Event.TheVariants as event
-use Rattle.aprs_base.specs.declared.events.Sent.{Sent}
 use Rattle.aprs_base.specs.declared.events.Sent.TheVariants as sent
 use Rattle.aprs_base.specs.declared.events.Happening.{Happening}
 use Rattle.aprs_base.specs.declared.events.Happening.TheVariants as did
 use Rattle.aprs_base.specs.declared.packets.ListenSpec.{ListenSpec}
-use Rattle.aprs_base.specs.declared.packets.Source.{Source}
-use Rattle.aprs_base.specs.declared.packets.Source.TheVariants as source
 use Rattle.link_queue.specs.Lines.{ended_line}
-use Rattle.q_construct.specs.declared.origins.Origin.TheVariants as origin
 use Rattle.aprs_history.specs.declared.verdicts.Verdict.{Verdict}
 use Rattle.aprs_history.specs.declared.verdicts.Verdict.TheVariants.{PassedOver, Refused, LoggedIn, Filtered, Accepted}
 use Rattle.aprs_history.specs.Setting.{Peer, Setting}
-use Rattle.aprs_history.specs.Trace.{Trace, Entry, RoundBegan, Brought, Said, Ended, closed_links, is_live}
-use Rattle.aprs_history.specs.declared.verdicts.EndReason.TheVariants.{FoundGone}
-use Rattle.aprs_history.specs.Links.{brought_by, gone_links, is_submitted}
-use Rattle.aprs_history.specs.Verdicts.{Scene, verdict_of}
-use Rattle.aprs_history.specs.Scenes.{datagram_scene, scene_of}
+use Rattle.aprs_history.specs.Trace.{Trace, RoundBegan, Said, closed_links}
+use Rattle.aprs_history.specs.Links.{is_submitted}
 use Rattle.aprs_history.specs.Dials.{cast_by, casts_of, casts_to, dial_of}
-use Rattle.aprs_history.specs.History.{History, begin_round, begun, bring, datagram_cuts, end_all, ends_round, is_stopped, open_events, say_all, trace_of, with_event}
-use Rattle.aprs_base.specs.Cuts.{cuts_by}
+use Rattle.aprs_history.specs.History.{History, ends_round, is_stopped, open_events, trace_of}
 use Rattle.aprs_history.specs.Acts.{Act, Listens, Casts, Closes, Fulfils, IsRun, MayCome, acts_after, but_first, cast_act, dials, due, listens_from, offer_to, offered_links}
 use Rattle.aprs_history.specs.Casting.{SubmissionsAreCast, casts_to_peer, submitted_line, submitted_lines}
-use Rattle.aprs_history.proofs.StepLemmas.{IsOfLink, IsQuiet, Steps, kept_ended, kept_event}
+use Rattle.aprs_history.proofs.RoundLemmas.{before_round, border_event}
 
 -- ---- before and since the last round began
 
 abbrev before_last : Trace → List (List ℕ)
-before_last [] = []
-before_last (RoundBegan ∷ t) = submitted_lines t
-before_last (entry ∷ t) = before_last t
+before_last t = submitted_lines (before_round t)
 
 abbrev since_last : Trace → List (List ℕ)
 since_last [] = []
@@ -50,56 +38,12 @@ both (Said from said verdict ∷ t) =
     ap (λ lines. lines ++ submitted_line (is_submitted t from) verdict) (both t) ∙ append_assoc (before_last t) (since_last t) (submitted_line (is_submitted t from) verdict)
 both (entry ∷ t) = both t
 
--- within a round the border stays
-module _ (s : Setting) (lines : List (List ℕ)) where
-  abbrev HasBorder : Trace → Type 0
-  HasBorder t = before_last t ≡ lines
-
-  border_said : (scene : Trace → Scene) (from : Source) (cuts : List Cut) (t : Trace) → HasBorder t → HasBorder (say_all scene from cuts t)
-  border_said scene from [] t has = has
-  border_said scene from (said ∷ cuts) t has = border_said scene from cuts (Said from said (verdict_of (scene t) said) ∷ t) has
-
-  border_quiet : (t : Trace) (entry : Entry) → IsQuiet entry → HasBorder t → HasBorder (entry ∷ t)
-  border_quiet t RoundBegan is has = absurd is
-  border_quiet t entry is has = has
-
-  border_steps : Steps s HasBorder
-  border_steps = record {
-    quiet = border_quiet;
-    refused = λ t listener said why alone has. has;
-    submitted = λ t listener bytes first cuts login are is has. border_said (datagram_scene s (origin.Udp login)) (source.Submit listener) cuts t has;
-    relayed = λ t from bytes peer is has. border_said (datagram_scene s (origin.Peer peer.1)) (source.Peer peer.0) (datagram_cuts bytes) t has;
-  }
-
-  border_of_link : (e : Event) (t : Trace) → IsOfLink e → HasBorder t → HasBorder (with_event s e t)
-  border_of_link (event.Opened listener link from) t is has = has
-  border_of_link (event.Joined uplink link at) t is has = has
-  border_of_link (event.Bytes k bytes) t is has = of (is_live t k)
-    where
-      of : (b : Bool) → HasBorder (if b then bring s k bytes t else t)
-      of true = border_said (λ now. scene_of s now k) (source.Link k) (cuts_by (brought_by t k) bytes) (Brought k bytes ∷ t) has
-      of false = has
-  border_of_link e t is has = absurd is
-
-border_ends : (ks : List ℕ) (t : Trace) → before_last (end_all FoundGone ks t) ≡ before_last t
-border_ends [] t = refl
-border_ends (k ∷ ks) t = border_ends ks (Ended k FoundGone ∷ t)
-
--- where a round begins all that came before is
-border_begun : (s : Setting) (n : ℕ) (t : Trace) → before_last (begun n t) ≡ (if n == 0 then submitted_lines t else before_last t)
-border_begun s n t = of (n == 0)
+border_lines : (s : Setting) (h : History) (e : Event) → before_last (trace_of s (did.Event e ∷ h)) ≡ (if open_events h == 0 then submitted_lines (trace_of s h) else before_last (trace_of s h))
+border_lines s h e = ap submitted_lines (border_event s h e) ∙ of (open_events h == 0) (trace_of s h)
   where
-    of : (b : Bool) → before_last (if b then begin_round t else t) ≡ (if b then submitted_lines t else before_last t)
-    of true = border_ends (gone_links (RoundBegan ∷ t)) (RoundBegan ∷ t)
-    of false = refl
-
-border_event : (s : Setting) (h : History) (e : Event) → before_last (trace_of s (did.Event e ∷ h)) ≡ (if open_events h == 0 then submitted_lines (trace_of s h) else before_last (trace_of s h))
-unfolding trace_of
-border_event s h e =
-    let lines = if open_events h == 0 then submitted_lines (trace_of s h) else before_last (trace_of s h) in
-    let begins = begun (open_events h) (trace_of s h) in
-    kept_ended s (HasBorder s lines) (border_steps s lines) (ends_round (open_events h) e) e (with_event s e begins)
-    (kept_event s (HasBorder s lines) (border_steps s lines) e begins (border_of_link s lines e begins) (border_begun s (open_events h) (trace_of s h)))
+    of : (b : Bool) (t : Trace) → submitted_lines (if b then t else before_round t) ≡ (if b then submitted_lines t else before_last t)
+    of true t = refl
+    of false t = refl
 
 -- ---- the casts of acts
 
@@ -215,7 +159,7 @@ module _ (peer : ℕ) where
     unfolding due
     holds_event e h before =
         let t = trace_of s (did.Event e ∷ h) in
-        ap (λ lines. lines ++ cast_lines peer (due_by (ends_round (open_events h) e) t)) (before ∙ ap (map ended_line) (sym (border_event s h e))) ∙ of (ends_round (open_events h) e)
+        ap (λ lines. lines ++ cast_lines peer (due_by (ends_round (open_events h) e) t)) (before ∙ ap (map ended_line) (sym (border_lines s h e))) ∙ of (ends_round (open_events h) e)
       where
         of : (ends : Bool) → map ended_line (before_last (trace_of s (did.Event e ∷ h))) ++ cast_lines peer (due_by ends (trace_of s (did.Event e ∷ h)))
             ≡ map ended_line (if (if ends then 0 else open_events h + 1) == 0 then submitted_lines (trace_of s (did.Event e ∷ h)) else before_last (trace_of s (did.Event e ∷ h)))

@@ -29,7 +29,7 @@ use Rattle.aprs_history.proofs.NumberLemmas.{member_first, first_left, rises_fil
 abbrev pub Goes : ℕ → Trace → Type 0
 Goes high t = (stopped_links t ≡ []) × Rises 0 (live_links t) high
 
-goes_on : (s : Setting) (h : History) (high : ℕ) (t : Trace) (entry : Entry) → MayAdd s h (λ link. ⊥) t entry → Goes high t → Goes high (entry ∷ t)
+pub goes_on : (s : Setting) (h : History) (high : ℕ) (t : Trace) (entry : Entry) → MayAdd s h (λ link. ⊥) t entry → Goes high t → Goes high (entry ∷ t)
 goes_on s h high t (Opened door admission link from) may goes = absurd may
 goes_on s h high t (Took link offered taken) may goes = absurd may
 goes_on s h high t (Lost link) may goes = absurd may
@@ -51,7 +51,7 @@ goes_event s h high (event.Unjoined uplink) t fresh goes = goes
 goes_event s h high e t fresh goes = let all = did.Event e ∷ h in kept_event s all (λ link. ⊥) (Goes high) (goes_on s all high) h e t refl tt goes
 
 -- rising links are all stopped, in order
-stopped_all : (low high : ℕ) (ks : List ℕ) (t : Trace) → Rises low ks high → live_links t ≡ ks → served_links (end_all ByStop ks t) ≡ stopped_links t ++ ks
+pub stopped_all : (low high : ℕ) (ks : List ℕ) (t : Trace) → Rises low ks high → live_links t ≡ ks → served_links (end_all ByStop ks t) ≡ stopped_links t ++ ks
 stopped_all low high [] t rises is = ap (λ ks. stopped_links t ++ ks) is
 stopped_all low high (k ∷ ks) t rises is =
     stopped_all k high ks (Ended k ByStop ∷ t) rises.1 (ap (filter (is_other k)) is ∙ first_left low high k ks rises) ∙ append_assoc (stopped_links t) (k ∷ []) ks
@@ -80,21 +80,35 @@ event_comes [] stopped e may = may.0
 event_comes (Listens n ∷ acts) stopped e may = absurd may
 event_comes (act ∷ acts) stopped e may = absurd may
 
+-- up to the round's end
+goes_through : (s : Setting) (h : History) (e : Event) → IfSome (new_link e) (λ link. greatest_link h < link) → Serves false (greatest_link h) (trace_of s h)
+    → Goes (greatest_link (did.Event e ∷ h)) (with_event s e (begun (open_events h) (trace_of s h)))
+goes_through s h e fresh before =
+    let high = greatest_link h in
+    let none = before.0 refl in
+    let goes = kept_begun s h (λ link. ⊥) (Goes high) (goes_on s h high) (open_events h) (trace_of s h) (none, subst (λ ks. Rises 0 (ks ++ live_links (trace_of s h)) high) none before.1) in
+    goes_event s h high e (begun (open_events h) (trace_of s h)) fresh goes
+
 -- in a run the links that are served rise
 pub serves : (s : Setting) (h : History) → IsRun s h → HasFreshLinks h → Serves (is_stopped h) (greatest_link h) (trace_of s h)
 unfolding trace_of
 serves s [] run fresh = (λ is. refl, omega arith)
 serves s (did.Event e ∷ h) run fresh =
     let going = event_comes (due s h) (is_stopped h) e run.1 in
-    let before = serves s h run.0 fresh.0 in
-    let none = before.0 going in
-    let n = open_events h in
-    let goes = kept_begun s h (λ link. ⊥) (Goes (greatest_link h)) (goes_on s h (greatest_link h)) n (trace_of s h) (none, subst (λ ks. Rises 0 (ks ++ live_links (trace_of s h)) (greatest_link h)) none before.1) in
-    subst (λ stopped. Serves stopped (greatest_link (did.Event e ∷ h)) (trace_of s (did.Event e ∷ h))) (sym (ap (λ b. is_stop e || b) going ∙ or-false (is_stop e)))
-    (serves_ended s h (ends_round n e) (greatest_link (did.Event e ∷ h)) e (with_event s e (begun n (trace_of s h))) (goes_event s h (greatest_link h) e (begun n (trace_of s h)) fresh.1 goes))
+    let high = greatest_link (did.Event e ∷ h) in
+    let goes = goes_through s h e fresh.1 (subst (λ stopped. Serves stopped (greatest_link h) (trace_of s h)) going (serves s h run.0 fresh.0)) in
+    subst (λ stopped. Serves stopped high (trace_of s (did.Event e ∷ h))) (sym (ap (λ b. is_stop e || b) going ∙ or-false (is_stop e)))
+    (serves_ended s h (ends_round (open_events h) e) high e (with_event s e (begun (open_events h) (trace_of s h))) goes)
 serves s (did.Sent link bytes (sent.Took n) ∷ h) run fresh = serves s h run.0 fresh
 serves s (did.Sent link bytes sent.Gone ∷ h) run fresh = serves s h run.0 fresh
 serves s (happening ∷ h) run fresh = serves s h run.0 fresh
+
+-- in a run no link is stopped before the last event's round ends
+pub goes_before_end : (s : Setting) (h : History) (e : Event) → IsRun s (did.Event e ∷ h) → HasFreshLinks (did.Event e ∷ h)
+    → Goes (greatest_link (did.Event e ∷ h)) (with_event s e (begun (open_events h) (trace_of s h)))
+goes_before_end s h e run fresh =
+    let going = event_comes (due s h) (is_stopped h) e run.1 in
+    goes_through s h e fresh.1 (subst (λ stopped. Serves stopped (greatest_link h) (trace_of s h)) going (serves s h run.0 fresh.0))
 
 -- ---- offers
 

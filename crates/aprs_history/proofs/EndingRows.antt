@@ -1,5 +1,5 @@
 -- Small histories with endings and comment lines, and what the definitions say of them.
-use Rattle.std.proofs.Common.{◌≡◌, refl, ℕ, zero, suc, List, [], ◌∷◌, ◌++◌, codes}
+use Rattle.std.proofs.Common.{◌≡◌, refl, ℕ, zero, suc, Bool, true, false, List, [], ◌∷◌, ◌++◌, codes}
 use Rattle.aprs_base.specs.declared.events.Event.TheVariants as event
 use Rattle.aprs_base.specs.declared.events.Happening.{Happening}
 use Rattle.aprs_base.specs.declared.events.Happening.TheVariants as did
@@ -11,12 +11,13 @@ use Rattle.q_construct.specs.Rule.{process_of, given_drops, built_drops, built_r
 use Rattle.tnc2_line.specs.Packet.{parts_of, text_of, via_of, head_of}
 use Rattle.aprs_history.specs.Dates.{comment_text}
 use Rattle.aprs_history.specs.Setting.{Setting}
-use Rattle.aprs_history.specs.Trace.{Trace, Ended, live_links}
+use Rattle.aprs_history.specs.Trace.{Trace, Ended, live_links, served_links}
 use Rattle.aprs_history.specs.declared.verdicts.EndReason.{EndReason}
-use Rattle.aprs_history.specs.declared.verdicts.EndReason.TheVariants.{NoLogin, Silent, Overfull, Full, ByPeer}
-use Rattle.aprs_history.specs.History.{History, trace_of}
-use Rattle.aprs_history.specs.Acts.{Closes, Offers, due}
-use Rattle.aprs_history.specs.Texts.{banner, lines_of}
+use Rattle.aprs_history.specs.declared.verdicts.EndReason.TheVariants.{NoLogin, Silent, Overfull, Full, ByPeer, ByStop}
+use Rattle.aprs_history.specs.Ending.{last_events}
+use Rattle.aprs_history.specs.History.{History, open_events, trace_of}
+use Rattle.aprs_history.specs.Acts.{Closes, IsRun, Offers, due}
+use Rattle.aprs_history.specs.Texts.{banner, lines_of, text_to}
 use Rattle.aprs_history.proofs.Rows.{client, crlf, listen, server_on, told_in}
 
 setting : Setting
@@ -147,22 +148,47 @@ late_not_told = refl
 
 -- ---- overfull links
 
-abbrev many : ℕ → List ℕ → List ℕ
+-- whether the first link is overfull, and the links that live
+abbrev text_over : History → Bool × List ℕ
+text_over history = ((text_to setting (trace_of setting history) 1).over, live_links (trace_of setting history))
+
+abbrev pub many : ℕ → List ℕ → List ℕ
 many zero line = []
 many (suc n) line = line ++ many n line
 
 -- a link that takes nothing, and asks for so many replies
+asked : ℕ → History
+asked n = did.Event (event.Bytes 1 (many n (codes "#filter" ++ crlf))) ∷ says 1 (codes "user N0CALL pass 13023 vers t 1") ∷ one_link
+
 asking : ℕ → History
-asking n = at_moment 1000 ∷ did.Event (event.Bytes 1 (many n (codes "#filter" ++ crlf))) ∷ says 1 (codes "user N0CALL pass 13023 vers t 1") ∷ one_link
+asking n = at_moment 1000 ∷ asked n
 
 -- the banner, the reply to the login and 998 more are as many as may wait
 as_many_as_may : ends setting (asking 998) ≡ []
-unfolding trace_of setting asking one_link listening client crlf login_of passcode_of
+unfolding trace_of setting asking asked one_link listening client crlf login_of passcode_of
 as_many_as_may = refl
 
 one_too_many : ends setting (asking 999) ≡ (1, Overfull) ∷ []
-unfolding trace_of setting asking one_link listening client crlf login_of passcode_of
+unfolding trace_of setting asking asked one_link listening client crlf login_of passcode_of
 one_too_many = refl
+
+-- within the round it is overfull and lives, and once that is finished it doesn't
+overfull_within : text_over (asked 999) ≡ (true, 1 ∷ [])
+unfolding trace_of setting asked one_link listening client crlf login_of passcode_of
+overfull_within = refl
+
+round_is_finished : open_events (asking 999) ≡ 0
+unfolding asking asked one_link listening
+round_is_finished = refl
+
+ended_with_its_round : live_links (trace_of setting (asking 999)) ≡ []
+unfolding trace_of setting asking asked one_link listening client crlf login_of passcode_of
+ended_with_its_round = refl
+
+-- the other one lives on, and has room
+fits_between : text_over (asking 998) ≡ (false, 1 ∷ [])
+unfolding trace_of setting asking asked one_link listening client crlf login_of passcode_of
+fits_between = refl
 
 -- it lives to the round's end: what it says still counts, but it is told nothing more
 said_after : History
@@ -182,3 +208,41 @@ stopped_later : due setting (did.Event event.Stop ∷ did.Event (event.Bytes 1 (
     ≡ Offers 2 (codes "# aprsc 1.0" ++ crlf) ∷ Closes 1 ∷ Closes 2 ∷ []
 unfolding due trace_of setting spoke one_link listening client crlf login_of passcode_of
 stopped_later = refl
+
+-- ---- by an event of the round
+
+-- the peer's end is among the events of the round in which the link ended, and not of the next
+peer_ended : History
+peer_ended = at_moment 1001 ∷ did.Event (event.Ended 1) ∷ one_link
+
+ended_by_peer : ends setting peer_ended ≡ (1, ByPeer) ∷ []
+unfolding trace_of setting peer_ended one_link listening client
+ended_by_peer = refl
+
+events_of_its_round : last_events peer_ended ≡ event.Tick 1001 ∷ event.Ended 1 ∷ event.Opened 0 1 client ∷ []
+unfolding peer_ended one_link listening
+events_of_its_round = refl
+
+events_of_the_next : last_events (at_moment 1002 ∷ peer_ended) ≡ event.Tick 1002 ∷ []
+unfolding peer_ended one_link listening
+events_of_the_next = refl
+
+stop_ended : ends setting (did.Event event.Stop ∷ one_link) ≡ (1, ByStop) ∷ []
+unfolding trace_of setting one_link listening client
+stop_ended = refl
+
+events_up_to_a_stop : last_events (did.Event event.Stop ∷ one_link) ≡ event.Stop ∷ event.Opened 0 1 client ∷ []
+unfolding one_link listening
+events_up_to_a_stop = refl
+
+-- a run that a stop ends: the link that it ended is still served, and has room
+stopped : History
+stopped = did.Event event.Stop ∷ did.Event (event.Opened 0 1 client) ∷ did.Listen 0 ∷ []
+
+is_run : IsRun setting stopped
+unfolding due trace_of setting stopped client
+is_run = (((tt, refl), (refl, tt)), (refl, tt))
+
+served_with_room : (served_links (trace_of setting stopped) ≡ 1 ∷ []) × ((text_to setting (trace_of setting stopped) 1).over ≡ false)
+unfolding trace_of setting stopped client
+served_with_room = (refl, refl)

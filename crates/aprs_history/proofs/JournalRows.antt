@@ -17,6 +17,7 @@ use Rattle.tnc2_line.specs.Packet.{parts_of, text_of, via_of, head_of}
 use Rattle.aprs_history.specs.Setting.{Setting}
 use Rattle.aprs_history.specs.History.{History, trace_of}
 use Rattle.aprs_history.specs.Journal.{journal_of, line_of}
+use Rattle.aprs_history.specs.Refusing.{lines_in}
 use Rattle.aprs_history.proofs.EndingRows.{at_moment}
 use Rattle.aprs_history.proofs.Rows.{client, crlf, listen, server_on}
 
@@ -76,6 +77,12 @@ found_gone : journal_of setting (at_moment 1002 ∷ did.Sent 1 (codes "# aprsc 1
     ≡ step 1000 (codes "open 1 0") ∷ step 1001 (codes "end 1 gone") ∷ []
 unfolding trace_of setting listening client crlf digits
 found_gone = refl
+
+-- so it is of the entries, of which the outcome of a send is one
+found_gone_entries : lines_in setting (trace_of setting (at_moment 1002 ∷ did.Sent 1 (codes "# aprsc 1.0" ++ crlf) sent.Gone ∷ at_moment 1001 ∷ opens 0 1 ∷ at_moment 1000 ∷ listening))
+    ≡ step 1000 (codes "open 1 0") ∷ step 1001 (codes "end 1 gone") ∷ []
+unfolding trace_of setting listening client crlf digits
+found_gone_entries = refl
 
 -- one that doesn't log in ends at the tick, with its moment
 nameless : journal_of setting (at_moment 1030 ∷ opens 0 1 ∷ at_moment 1000 ∷ listening) ≡ step 1000 (codes "open 1 0") ∷ step 1030 (codes "end 1 nologin") ∷ []

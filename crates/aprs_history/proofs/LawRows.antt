@@ -18,6 +18,7 @@ use Rattle.aprs_history.specs.Links.{brought_by}
 use Rattle.aprs_history.specs.Scenes.{accepted_of}
 use Rattle.aprs_history.specs.History.{History, trace_of}
 use Rattle.aprs_history.specs.Texts.{uplink_login}
+use Rattle.aprs_history.specs.Counts.{counted, is_duplicate}
 use Rattle.aprs_history.specs.Arriving.{NoneCameEarly, came_to, said_on}
 use Rattle.aprs_history.specs.Sound.{IsSound, JoinsHaveAddresses, is_address}
 use Rattle.aprs_history.proofs.Rows.{client, crlf, listen, server_on}
@@ -61,6 +62,18 @@ moment_at packet = packet.moment
 accepted_twice : map moment_at (accepted_of (trace_of setting heard)) ≡ 1000 ∷ 1030 ∷ []
 unfolding trace_of setting heard client crlf parts_of text_of via_of head_of login_of passcode_of process_of given_drops built_drops built_row rows body_of
 accepted_twice = refl
+
+-- a third one comes too early: it is refused, and what was accepted is as it was
+repeated : History
+repeated = did.Event (event.Bytes 1 (codes "N0CALL>APRS:>hi" ++ crlf)) ∷ heard
+
+refused_once : counted is_duplicate (trace_of setting repeated) ≡ 1
+unfolding trace_of setting repeated heard client crlf parts_of text_of via_of head_of login_of passcode_of process_of given_drops built_drops built_row rows body_of
+refused_once = refl
+
+accepted_as_before : map moment_at (accepted_of (trace_of setting repeated)) ≡ 1000 ∷ 1030 ∷ []
+unfolding trace_of setting repeated heard client crlf parts_of text_of via_of head_of login_of passcode_of process_of given_drops built_drops built_row rows body_of
+accepted_as_before = refl
 
 -- what comes once a link has ended isn't brought
 ended_between : History

@@ -23,7 +23,7 @@ use Rattle.aprs_history.specs.declared.verdicts.Refusal.TheVariants as refusal
 use Rattle.aprs_history.specs.declared.verdicts.Verdict.TheVariants.{Refused}
 use Rattle.aprs_history.specs.declared.verdicts.EndReason.{EndReason}
 use Rattle.aprs_history.specs.declared.verdicts.EndReason.TheVariants.{ByPeer, FoundGone, ByStop}
-use Rattle.aprs_history.specs.Trace.{Trace, Entry, RoundBegan, Dated, Looked, Unjoined, Ticked, Opened, Brought, Said, Roomed, Took, Lost, Ended, is_live, live_links, moment_of}
+use Rattle.aprs_history.specs.Trace.{Trace, Entry, RoundBegan, Dated, Looked, Unjoined, Ticked, Opened, Brought, Said, Roomed, Lost, Ended, is_live, live_links, moment_of}
 use Rattle.aprs_history.specs.Links.{gone_links, late_links, late_reason}
 use Rattle.aprs_history.specs.Verdicts.{submitter_by, submitter_of}
 use Rattle.aprs_history.specs.Scenes.{datagram_scene}

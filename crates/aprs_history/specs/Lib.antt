@@ -4,6 +4,7 @@ pub mod Arriving
 pub mod Casting
 pub mod Counts
 pub mod Dates
+pub mod Ending
 pub mod Headline
 pub mod History
 pub mod Joining
@@ -11,6 +12,7 @@ pub mod Journal
 pub mod Links
 pub mod MessageRule
 pub mod Messages
+pub mod Refusing
 pub mod Rounds
 pub mod Runs
 pub mod Scenes
@@ -21,4 +23,5 @@ pub mod Stands
 pub mod Texts
 pub mod Trace
 pub mod Verdicts
+pub mod Wanting
 pub mod Dials

@@ -2,10 +2,13 @@
 ghost use Rattle.aprs_history.specs.Accepting.{AcceptancesAreApart, NoneNamesTheServer, PacketsComeFromLines};
 ghost use Rattle.aprs_history.specs.Arriving.{LinesArriveWhole, LinksBringWhatCame, LinksSayWhatTheyBrought};
 ghost use Rattle.aprs_history.specs.Casting.{SubmissionsAreCast};
+ghost use Rattle.aprs_history.specs.Ending.{EventsEndInTheirRound, NoneServedIsOverfull, NoneStaysOverfull};
 ghost use Rattle.aprs_history.specs.Headline.{ClosesHaveReasons, DialsAreOfUplinks, LinksEndByRules, LinksTakePrefixes, NoneHearThemselves, PeersGetSubmissions, UplinksGetSubmissions};
 ghost use Rattle.aprs_history.specs.Joining.{UplinkLoginsAreRead, UplinkLoginsAreVerified};
 ghost use Rattle.aprs_history.specs.MessageRule.{HeardIsLastAccepted, PromisesAreOwed};
+ghost use Rattle.aprs_history.specs.Refusing.{JournalsTellEachEntry, RefusalsChangeNothing, RefusalsHaveOneLine, RefusalsReachNobody};
 ghost use Rattle.aprs_history.specs.Sound.{OriginsAreStations, TextsAreLines};
+ghost use Rattle.aprs_history.specs.Wanting.{DuplicatesAreShown, LinksWantWhatIsForThem, TextsHaveWhatLinksWant};
 
 /// The bytes that each link takes are a prefix of its text, no line of its text is a packet that it sent itself, a link
 /// ends only by a rule, and it is closed only where it ended by a reason that closes.
@@ -14,6 +17,36 @@ pub fn runs_keep_the_promise()
     ensures others { NoneHearThemselves }
     ensures ends { LinksEndByRules }
     ensures closes { ClosesHaveReasons }
+{}
+
+/// The packet lines of a text are exactly those of the packets that its link wanted as they came, in order, until it was overfull.
+/// A link wants a packet of another by what it is: a full feed all, one with a filter what this passes or the message rule asks
+/// for, an uplink what was submitted here; and a port for that is shown the duplicates.
+pub fn texts_have_what_links_want()
+    ensures texts { TextsHaveWhatLinksWant }
+    ensures wanted { LinksWantWhatIsForThem }
+    ensures shown { DuplicatesAreShown }
+{}
+
+/// Where its peer or a stop ended a link, that event came in the round in which the link ended. Once a round is finished, no
+/// link that lives is overfull, and in a run none that a stop ended.
+pub fn links_end_in_their_round()
+    ensures events { EventsEndInTheirRound }
+    ensures overfull { NoneStaysOverfull }
+    ensures served { NoneServedIsOverfull }
+{}
+
+/// A line that is refused changes no login and no filter, nothing of what was accepted, seen, heard and promised, and so nothing of
+/// what the lines to come meet; and no text but its own link's, unless it is a duplicate that is shown.
+pub fn refusals_change_nothing()
+    ensures kept { RefusalsChangeNothing }
+    ensures texts { RefusalsReachNobody }
+{}
+
+/// Once a round is finished, the journals have the lines of each entry, in order. A refused line has exactly one.
+pub fn journals_tell_each_entry()
+    ensures entries { JournalsTellEachEntry }
+    ensures refused { RefusalsHaveOneLine }
 {}
 
 /// A link heard a call where a packet of that source was accepted from it, at the last one's moment. A link is owed the next
