@@ -3,9 +3,12 @@ use aprs_base::{Addr, Chunk, Event, ListenSpec, PortKind, Sent, UplinkSpec, Wire
 use arrayvec::ArrayVec;
 use mio_wire::MioWire;
 use std::io::{self, Read, Write};
-use std::net::{Net, Shutdown, TcpListener, TcpStream, UdpSocket};
+use std::net::{
+    Ipv4Addr, Net, Shutdown, SocketAddr, SocketAddrV4, TcpListener, TcpStream, UdpSocket,
+};
 use std::test::Fail;
 use std::thread;
+use std::time::{Clock, Duration, SystemTime};
 
 fn loopback(port: u16) -> Addr {
     Addr {
@@ -238,8 +241,8 @@ fn a_flood_keeps_nobody_waiting(rt: HostRuntime) -> Result<(), Fail> {
     let lines = Vec::from_elem(rt.alloc(), b'\n', 200_000)?;
     let mut wire = MioWire::new(&rt, rt.alloc(), None);
     let _ = listens(&mut wire, 0, PortKind::Full, 24004);
-    // One read of at most 65,536 bytes in pieces of 1,460, and a tick after each, since each has more than 400 line ends.
-    assert!(rt; matches!(flood(&rt, &mut wire, lines.as_slice()), Ok((1..=45, true))));
+    // One read of at most 2,920 bytes in pieces of 1,460, and a tick after each, since each has more than 400 line ends.
+    assert!(rt; matches!(flood(&rt, &mut wire, lines.as_slice()), Ok((1..=2, true))));
     Ok(())
 }
 
@@ -321,11 +324,12 @@ fn joins_an_uplink(rt: HostRuntime) {
     assert!(rt; matches!(joins(&rt, &mut wire), Ok(true)));
 }
 
-/// Uplinks where nobody listens, and whose host is no name.
+/// Uplinks where nobody listens, and whose host is no name: this one is answered after the tick of another second.
 fn fails_to_join<W: Wire>(wire: &mut W) -> bool {
     dials(wire, 4, b"127.0.0.1", 24014)
         && gives(wire, Seen::Unjoined(4))
         && dials(wire, 5, b"\xff", 24014)
+        && next(wire) == Seen::Tick
         && gives(wire, Seen::Unjoined(5))
 }
 
@@ -333,4 +337,98 @@ fn fails_to_join<W: Wire>(wire: &mut W) -> bool {
 fn answers_a_dial_that_fails(rt: HostRuntime) {
     let mut wire = MioWire::new(&rt, rt.alloc(), None);
     assert!(rt; fails_to_join(&mut wire));
+}
+
+/// Another address of loopback.
+fn elsewhere(port: u16) -> Addr {
+    Addr {
+        ip: [127, 0, 0, 2],
+        port,
+    }
+}
+
+fn is_at(socket: SocketAddr, at: Addr) -> bool {
+    socket == SocketAddr::V4(SocketAddrV4::new(Ipv4Addr::from(at.ip), at.port))
+}
+
+/// Where the link comes from that is opened next.
+fn opened_from<W: Wire>(wire: &mut W) -> Addr {
+    for _ in 0..100 {
+        match wire.next() {
+            Ok(Event::Opened { from, .. }) => return from,
+            Ok(Event::Tick(_)) => {}
+            _ => break,
+        }
+    }
+    loopback(0)
+}
+
+/// Listens at that address alone, and a link comes from its client's.
+fn listens_there<R: Net<Stream = TcpStream>, W: Wire>(rt: &R, wire: &mut W) -> io::Result<bool> {
+    let kind = PortKind::Full;
+    let at = elsewhere(24015);
+    let listened = wire.listen(0, &ListenSpec { kind, at }) == Ok(())
+        && TcpStream::connect(rt, "127.0.0.1:24015").is_err();
+    let client = TcpStream::connect(rt, "127.0.0.2:24015")?;
+    let opened = is_at(client.local_addr()?, opened_from(wire));
+    drop(client);
+    Ok(listened && opened && gives(wire, Seen::Ended(1)))
+}
+
+/// Dials that address, and casts from one there to another.
+fn reaches_there<R: Net<Stream = TcpStream, Listener = TcpListener>, W: Wire>(
+    rt: &R,
+    wire: &mut W,
+) -> io::Result<bool> {
+    let listener = TcpListener::bind(rt, "127.0.0.2:24016")?;
+    let joined = dials(wire, 2, b"127.0.0.2", 24016) && gives(wire, Seen::Joined(2, 2, 24016));
+    let _ = listener.accept()?;
+    let peer = UdpSocket::bind(rt, "127.0.0.2:24017")?;
+    let kind = PortKind::Core;
+    let at = elsewhere(24018);
+    let cast = wire.listen(1, &ListenSpec { kind, at }) == Ok(())
+        && wire.cast(0, elsewhere(24017), b"cast") == Ok(());
+    let (count, from) = peer.recv_from(&mut [0; 9])?;
+    Ok(joined && cast && count == 4 && is_at(from, at))
+}
+
+#[test]
+fn keeps_to_its_addresses(rt: HostRuntime) {
+    let mut wire = MioWire::new(&rt, rt.alloc(), None);
+    assert!(rt; matches!(listens_there(&rt, &mut wire), Ok(true)));
+    assert!(rt; matches!(reaches_there(&rt, &mut wire), Ok(true)));
+}
+
+/// The second that the system's clock shows.
+fn second<R: Clock>(rt: &R) -> u64 {
+    SystemTime::now(rt)
+        .ok()
+        .and_then(|now| now.duration_since(SystemTime::UNIX_EPOCH).ok())
+        .map_or(0, |since| since.as_secs())
+}
+
+/// A tick whose second the clock shows between the call and its answer.
+fn ticks<R: Clock, W: Wire>(rt: &R, wire: &mut W) -> bool {
+    let before = second(rt);
+    matches!(wire.next(), Ok(Event::Tick(moment)) if before <= moment && moment <= second(rt))
+}
+
+/// What a client says while the process stands still comes before the tick of the second in which it goes on.
+fn hears_before_time<R: Net<Stream = TcpStream> + Clock, W: Wire>(
+    rt: &R,
+    wire: &mut W,
+) -> io::Result<bool> {
+    let mut client = meet(rt, wire, 1, "127.0.0.1:24019")?;
+    let _ = next(wire);
+    thread::sleep(rt, Duration::from_millis(1100));
+    client.write_all(b"user\r\n")?;
+    Ok(next(wire) == Seen::Bytes(1, b'u') && next(wire) == Seen::Tick)
+}
+
+#[test]
+fn goes_by_the_clock(rt: HostRuntime) {
+    let mut wire = MioWire::new(&rt, rt.alloc(), None);
+    assert!(rt; ticks(&rt, &mut wire) && ticks(&rt, &mut wire) && ticks(&rt, &mut wire));
+    let _ = listens(&mut wire, 0, PortKind::Full, 24019);
+    assert!(rt; matches!(hears_before_time(&rt, &mut wire), Ok(true)));
 }

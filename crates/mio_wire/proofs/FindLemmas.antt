@@ -11,18 +11,18 @@ use Rattle.mio_wire.specs.Linked.{IsRising, numbers}
 use Rattle.mio_wire.specs.declared.links.Link.{Link}
 use Rattle.mio_wire.proofs.LinkLemmas.{none_found}
 
-found_at : (links : List Link) (number place : ℕ) → place < length links → ((d : Link) → nat_cmp (get_or links place d).number number ≡ Equal) →
+found_at : {S : Type 0} → (links : List (Link S)) (number place : ℕ) → place < length links → ((d : Link S) → nat_cmp (get_or links place d).number number ≡ Equal) →
     option_map (λ l. l.number) (slice_get links place) ≡ Some number
 found_at [] number place lt equal = absurd (omega arith)
 found_at (link ∷ links) number zero lt equal = ap Some (ranked _ number _ (sym (equal link)))
 found_at (link ∷ links) number (suc place) lt equal = found_at links number place (omega arith) equal
 
-pub found : (links : List Link) (number : ℕ) (r : Result ℕ ℕ) → IsSearchInRange r (length links) → IsBinarySearchResult (λ l. nat_cmp l.number number) links r →
+pub found : {S : Type 0} → (links : List (Link S)) (number : ℕ) (r : Result ℕ ℕ) → IsSearchInRange r (length links) → IsBinarySearchResult (λ l. nat_cmp l.number number) links r →
     IfSome (result_ok r) (λ place. option_map (λ l. l.number) (slice_get links place) ≡ Some number)
 found links number (Ok place) within equal = found_at links number place within equal
 found links number (Err place) within parted = tt
 
-pub unfound : (links : List Link) (number : ℕ) (r : Result ℕ ℕ) → IsRising (numbers links) → IsBinarySearchResult (λ l. nat_cmp l.number number) links r →
+pub unfound : {S : Type 0} → (links : List (Link S)) (number : ℕ) (r : Result ℕ ℕ) → IsRising (numbers links) → IsBinarySearchResult (λ l. nat_cmp l.number number) links r →
     IfNone (result_ok r) (All (λ n. n ≢ number) (numbers links))
 unfound links number (Ok place) rising equal = tt
 unfound links number (Err place) rising parted = none_found number place links rising parted

@@ -13,9 +13,9 @@ contains_first n x ns same = (0, omega arith, same)
 contains_later : (n x : ℕ) (ns : List ℕ) → Contains ns x → Contains (n ∷ ns) x
 contains_later n x ns there = (suc there.0, omega (arith, there.1), there.2)
 
-pub contains_link : (links : List Link) (place : ℕ) (link : Link) → place < length links → link ≡ get_or links place link → Contains (numbers links) link.number
+pub contains_link : {S : Type 0} → (links : List (Link S)) (place : ℕ) (link : Link S) → place < length links → link ≡ get_or links place link → Contains (numbers links) link.number
 contains_link [] place link lt at = absurd (omega arith)
-contains_link (l ∷ links) zero link lt at = contains_first l.number link.number (numbers links) (ap (λ (k : Link). k.number) (sym at))
+contains_link {S} (l ∷ links) zero link lt at = contains_first l.number link.number (numbers links) (ap (λ (k : Link S). k.number) (sym at))
 contains_link (l ∷ links) (suc place) link lt at = contains_later l.number link.number (numbers links) (contains_link links place link (omega arith) at)
 
 pub contains_got : (ns : List ℕ) (place x : ℕ) → slice_get ns place ≡ Some x → Contains ns x
@@ -23,12 +23,12 @@ contains_got [] place x at = absurd cc
 contains_got (n ∷ ns) zero x at = contains_first n x ns cc
 contains_got (n ∷ ns) (suc place) x at = contains_later n x ns (contains_got ns place x at)
 
-contains_at : (links : List Link) (place number : ℕ) → option_map (λ l. l.number) (slice_get links place) ≡ Some number → Contains (numbers links) number
+pub contains_at : {S : Type 0} → (links : List (Link S)) (place number : ℕ) → option_map (λ l. l.number) (slice_get links place) ≡ Some number → Contains (numbers links) number
 contains_at [] place number at = absurd cc
 contains_at (l ∷ links) zero number at = contains_first l.number number (numbers links) cc
 contains_at (l ∷ links) (suc place) number at = contains_later l.number number (numbers links) (contains_at links place number at)
 
-pub found_there : (links : List Link) (number : ℕ) (r : Option ℕ) → IfSome r (λ place. option_map (λ l. l.number) (slice_get links place) ≡ Some number) → OnSome r (Contains (numbers links) number)
+pub found_there : {S : Type 0} → (links : List (Link S)) (number : ℕ) (r : Option ℕ) → IfSome r (λ place. option_map (λ l. l.number) (slice_get links place) ≡ Some number) → OnSome r (Contains (numbers links) number)
 found_there links number None found = tt
 found_there links number (Some place) found = contains_at links place number found
 

@@ -1,11 +1,13 @@
 -- What comes next by what was unread at the start, where nothing was read while that was left.
-use Rattle.std.proofs.Common.{◌≡◌, ◌≢◌, ℕ, ◌<◌, Bool, true, false, List, [], ◌∷◌, length, Option, Some, None, IfSome, subst, arith, rules}
+use Rattle.std.proofs.Common.{◌≡◌, ◌≢◌, ℕ, ◌<◌, Bool, true, false, List, [], ◌∷◌, length, Option, Some, None, IfSome, refl, sym, ap, subst, arith, rules}
 use Rattle.std.specs.Bool.{IsTrue}
 use Rattle.aprs_base.specs.declared.events.Event.{Event}
 use Rattle.aprs_base.specs.declared.events.Event.TheVariants.{Bytes, Stop, Tick}
-use Rattle.mio_wire.specs.Arrivals.{IsArrival}
-use Rattle.mio_wire.specs.Coming.{Comes, ComesNext, Passes, Rests, StepGives, dead_at, has_stopped, is_arrival}
-use Rattle.mio_wire.specs.Held.{RetriesAt}
+use Rattle.mio_wire.specs.Arrivals.{IsArrival, Steps}
+use Rattle.mio_wire.specs.Coming.{Comes, ComesNext, Passes, Rests, StepGives, TicksAt, dead_at, has_stopped, is_arrival}
+use Rattle.mio_wire.specs.Dialled.{AnswersStep}
+use Rattle.mio_wire.specs.Held.{IsServed, Listening, MovesAt, NamesStep, unread}
+use Rattle.mio_wire.specs.Linked.{TellsStep}
 use Rattle.mio_wire.specs.Pacing.{is_due, is_full}
 use Rattle.mio_wire.specs.Unread.{Brought, HandsUp, IsNextOf, Leaves, nothing}
 use Rattle.mio_wire.specs.declared.course.Course.{Course}
@@ -66,12 +68,64 @@ arrived_gives course dials bytes None undue arrives handed =
 arrived_gives course dials bytes (Some e) undue arrives handed =
     arrived_comes course.second (has_stopped course.stop_after course.ended) (is_full course.pace) (is_due course.pace) (dead_at course.second dials) bytes e undue arrives handed
 
-no_tick : (last : Option ℕ) (sockets : Option Sockets) (e : Event) → IsTrue (is_arrival e) → RetriesAt last sockets e
-unfolding RetriesAt
+no_tick : (last : Option ℕ) (sockets : Option Sockets) (e : Event) → IsTrue (is_arrival e) → MovesAt last sockets e
+unfolding MovesAt
 no_tick last sockets e arrives = search rules
 
 -- what arrives is no tick
-pub arrived_retries : (last : Option ℕ) (sockets : Option Sockets) (o : Option Event) → IsArrival o → IfSome o (RetriesAt last sockets)
+pub arrived_moves : (last : Option ℕ) (sockets : Option Sockets) (o : Option Event) → IsArrival o → IfSome o (MovesAt last sockets)
 unfolding IsArrival
-arrived_retries last sockets None arrives = tt
-arrived_retries last sockets (Some e) arrives = no_tick last sockets e arrives
+arrived_moves last sockets None arrives = tt
+arrived_moves last sockets (Some e) arrives = no_tick last sockets e arrives
+
+-- where all that came is served, no bytes are left
+pub served_none : (sockets : Option Sockets) → IsServed sockets → length (unread sockets).left ≡ 0
+unfolding IsServed unread
+served_none None served = refl
+served_none (Some sockets) served = served.0
+
+-- a tick changes no links, answers no dial, takes no bytes, and tells of nothing that came
+pub tick_steps : (course : Course) (ns : List ℕ) (made : ℕ) (o : Option Event) → TicksAt course o → Steps ns ns made made o
+unfolding Steps TicksAt
+tick_steps course ns made o ticks = search rules
+
+pub tick_answers : (course : Course) (dials : List Dial) (o : Option Event) → TicksAt course o → AnswersStep dials dials o
+unfolding AnswersStep TicksAt
+tick_answers course dials o ticks = search rules
+
+pub tick_tells : (course : Course) (ns : List ℕ) (o : Option Event) → TicksAt course o → TellsStep ns o
+unfolding TellsStep TicksAt
+tick_tells course ns o ticks = search rules
+
+pub tick_names : (course : Course) (heard : Listening) (o : Option Event) → TicksAt course o → NamesStep heard o
+unfolding NamesStep TicksAt
+tick_names course heard o ticks = search rules
+
+none_left : (before now : Brought) (left : List ℕ) (e : Event) → length left ≡ 0 → Leaves before now left e
+unfolding Leaves
+none_left before now [] e empty = tt
+none_left before now (b ∷ bs) e empty = absurd (omega arith)
+
+pub tick_leaves : (before now : Brought) (o : Option Event) → length before.left ≡ 0 → IfSome o (Leaves before now before.left)
+tick_leaves before now None empty = tt
+tick_leaves before now (Some e) empty = none_left before now before.left e empty
+
+none_next : (link : ℕ) (left : List ℕ) (e : Event) → length left ≡ 0 → IsNextOf link left e
+none_next link [] e empty = tt
+none_next link (b ∷ bs) e empty = absurd (omega arith)
+
+tick_rests : (due : Bool) (moment last : ℕ) → (due ≡ false → Some last ≢ Some moment) → Rests due last (Tick moment)
+tick_rests true moment last undue = λ same. absurd cc
+tick_rests false moment last undue = (λ same. absurd cc, λ same. let is : moment ≡ last = cc in absurd (undue refl (ap Some (sym is))))
+
+tick_comes : (last : Option ℕ) (stopped full due : Bool) (dead : Option ℕ) (bytes : Brought) (moment : ℕ) → Passes last stopped full dead nothing → length bytes.left ≡ 0 → (due ≡ false → last ≢ Some moment) → Comes last stopped full due dead bytes (Tick moment)
+tick_comes None stopped full due dead bytes moment undue empty ticks = absurd undue
+tick_comes (Some last) stopped full due dead bytes moment undue empty ticks = rw (undue.0, undue.1, undue.2) (tick_rests due moment last ticks, none_next bytes.link bytes.left (Tick moment) empty)
+
+pub tick_gives : (course : Course) (dials : List Dial) (bytes : Brought) (o : Option Event) → StepGives course dials nothing None → length bytes.left ≡ 0 → TicksAt course o → StepGives course dials bytes o
+unfolding ComesNext StepGives TicksAt
+tick_gives course dials bytes None undue empty ticks =
+    arrived_passes course.second (has_stopped course.stop_after course.ended) (is_full course.pace) (dead_at course.second dials) bytes undue empty
+tick_gives course dials bytes (Some (Tick moment)) undue empty ticks =
+    tick_comes course.second (has_stopped course.stop_after course.ended) (is_full course.pace) (is_due course.pace) (dead_at course.second dials) bytes moment undue empty ticks
+tick_gives course dials bytes (Some _) undue empty ticks = absurd ticks

@@ -1,6 +1,6 @@
 -- What arrives, and is not yet handed up.
-use Rattle.std.specs.Prelude.{◌≡◌, ℕ, ◌+◌, ◌-◌, ◌^◌, ⊤, min, List, Option, Some, None, Result, Ok, Err, IsTrue}
-use Rattle.aprs_base.specs.Outside.{CountsLink, WireShown, new_link}
+use Rattle.std.specs.Prelude.{◌≡◌, ℕ, ⊤, List, Option, Some, None, Result, Ok, Err, IsTrue}
+use Rattle.aprs_base.specs.Outside.{CountsLink, WireShown, new_link, one_more}
 use Rattle.aprs_base.specs.declared.events.Event.{Event}
 use Rattle.aprs_base.specs.declared.events.Sent.{Sent}
 use Rattle.aprs_base.specs.declared.events.Sent.TheVariants as sent
@@ -32,21 +32,11 @@ after_sent (Ok (sent.Took count)) link ns = ns
 after_sent (Ok sent.Gone) link ns = dropped link ns
 after_sent (Err e) link ns = ns
 
--- a lost link counts once
-abbrev pub gones_after : {E : Type 0} → Result Sent E → ℕ → ℕ
-gones_after (Ok (sent.Took count)) gones = gones
-gones_after (Ok sent.Gone) gones = min (gones + 1) (2 ^ 64 - 1)
-gones_after (Err e) gones = gones
-
 -- a call that failed counts once, and one that had no memory doesn't count
-abbrev pub stops_with : WireError → ℕ → ℕ
-stops_with wire_error.Memory stops = stops
-stops_with wire_error.Failed stops = min (stops + 1) (2 ^ 64 - 1)
-
-abbrev pub stops_after : {T : Type 0} → Result T WireError → ℕ → ℕ
-stops_after (Ok x) stops = stops
-stops_after (Err e) stops = stops_with e stops
+abbrev pub failed_with : WireError → ℕ → ℕ
+failed_with wire_error.Memory failed = failed
+failed_with wire_error.Failed failed = one_more failed
 
 -- the counts alone: nothing else is told
-abbrev pub counts : (stops gones links : ℕ) → WireShown
-counts stops gones links = record { told = None; stops = stops; gones = gones; links = links }
+abbrev pub counts : (failed_listens failed_nexts gones links : ℕ) → WireShown
+counts failed_listens failed_nexts gones links = record { told = None; failed_listens = failed_listens; failed_nexts = failed_nexts; gones = gones; links = links }

@@ -1,5 +1,5 @@
 -- How far a wire has come, and what comes next of it.
-use Rattle.std.specs.Prelude.{◌≡◌, ◌≢◌, ℕ, ◌+◌, ◌-◌, ◌^◌, Bool, true, false, min, nat_le, List, length, Option, Some, None, Result, Ok, Err, IsTrue}
+use Rattle.std.specs.Prelude.{◌≡◌, ◌≢◌, ⊤, ℕ, ◌+◌, ◌-◌, ◌^◌, Bool, true, false, min, nat_le, List, length, Option, Some, None, Result, Ok, Err, IsTrue}
 use Rattle.aprs_base.specs.declared.events.Event.{Event}
 use Rattle.aprs_base.specs.declared.events.Event.TheVariants as event
 use Rattle.aprs_base.specs.declared.events.Sent.{Sent}
@@ -62,7 +62,7 @@ Rests false moment e = (e ≢ event.Stop) × (e ≢ event.Tick moment)
 abbrev pub Comes : (last : Option ℕ) (stopped full due : Bool) (dead : Option ℕ) → Brought → Event → Type 0
 Comes None stopped full due dead bytes e = IsTrue (is_tick e)
 Comes (Some moment) true full due dead bytes e = e ≡ event.Stop
-Comes (Some moment) false true due dead bytes e = IsTrue (is_tick e)
+Comes (Some moment) false true due dead bytes e = e ≡ event.Tick moment
 Comes (Some moment) false false due (Some uplink) bytes e = e ≡ event.Unjoined uplink
 Comes (Some moment) false false due None bytes e = Rests due moment e × IsNextOf bytes.link bytes.left e
 
@@ -71,8 +71,8 @@ abbrev pub dead_at : Option ℕ → List Dial → Option ℕ
 dead_at None dials = None
 dead_at (Some moment) dials = first_dead moment dials
 
--- what comes next: a tick before anything else; a stop once enough links ended; a tick where one is due at once; the answer to a dial that
--- failed or is too old; the next bytes that were read; and else no stop, nor a tick that repeats one
+-- what comes next: a tick before anything else; a stop once enough links ended; a tick of the last moment where one is due at once; the answer
+-- to a dial that failed or is too old; the next bytes that were read; and else no stop, nor a tick that repeats one
 unfoldable pub ComesNext : Course → List Dial → Brought → Event → Type 0
 ComesNext course dials bytes e = Comes course.second (has_stopped course.stop_after course.ended) (is_full course.pace) (is_due course.pace) (dead_at course.second dials) bytes e
 
@@ -84,3 +84,9 @@ Passes (Some moment) stopped full dead bytes = (stopped ≡ false) × (full ≡ 
 unfoldable pub StepGives : Course → List Dial → Brought → Option Event → Type 0
 StepGives course dials bytes (Some e) = ComesNext course dials bytes e
 StepGives course dials bytes None = Passes course.second (has_stopped course.stop_after course.ended) (is_full course.pace) (dead_at course.second dials) bytes
+
+-- nothing, or a tick: one of the last moment only where one is due
+unfoldable pub TicksAt : Course → Option Event → Type 0
+TicksAt course None = ⊤
+TicksAt course (Some (event.Tick moment)) = is_due course.pace ≡ false → course.second ≢ Some moment
+TicksAt course (Some _) = ⊥

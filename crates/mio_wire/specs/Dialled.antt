@@ -1,5 +1,5 @@
 -- Dials that are not answered yet.
-use Rattle.std.specs.Prelude.{◌≡◌, ℕ, ◌||◌, Bool, true, false, nat_le, List, [], ◌∷◌, ◌++◌, Option, Some, None, IfSome, is_none, option_map, option_and_then, position, remove, slice_get}
+use Rattle.std.specs.Prelude.{◌≡◌, ℕ, Bool, true, false, nat_le, List, [], ◌∷◌, ◌++◌, Option, Some, None, IfSome, is_none, option_map, option_and_then, position, remove, slice_get}
 use Rattle.std.specs.Int.{abs_diff}
 use Rattle.aprs_base.specs.declared.events.Event.{Event}
 use Rattle.aprs_base.specs.declared.events.Event.TheVariants as event
@@ -11,9 +11,13 @@ use Rattle.mio_wire.specs.declared.dials.Dial.{Dial}
 use Rattle.mio_wire.specs.declared.dials.Outcome.{Outcome}
 use Rattle.mio_wire.specs.declared.dials.Outcome.TheVariants.{Waits, Joins, Fails}
 
--- a dial that failed, or that no answer came to for 30 s
+-- how many seconds after its beginning a dial is dead: at another second's tick where it failed, and else where no answer came for 30 s
+abbrev pub lasts : (failed : Bool) → ℕ
+lasts true = 1
+lasts false = 30
+
 unfoldable pub is_dead : ℕ → Dial → Bool
-is_dead second dial = is_none dial.stream || nat_le 30 (abs_diff second dial.since)
+is_dead second dial = nat_le (lasts (is_none dial.stream)) (abs_diff second dial.since)
 
 -- the uplink of the first dial that is dead
 unfoldable pub first_dead : ℕ → List Dial → Option ℕ

@@ -86,7 +86,12 @@ abbrev pub Retries : Option Sockets → Type 0
 Retries None = ⊤
 Retries (Some sockets) = sockets.retry ≡ true
 
--- with a tick of another second than the last one's, deaf listeners are to be tried again
-unfoldable pub RetriesAt : (last : Option ℕ) → Option Sockets → Event → Type 0
-RetriesAt last sockets (event.Tick moment) = last ≢ Some moment → Retries sockets
-RetriesAt last sockets _ = ⊤
+-- all that was read and all that the last poll brought is handed up or looked at
+unfoldable pub IsServed : Option Sockets → Type 0
+IsServed None = ⊤
+IsServed (Some sockets) = (length sockets.inbox.left ≡ 0) × (slice_get sockets.turns.ready.items sockets.turns.at ≡ None)
+
+-- with a tick of another second than the last one's, deaf listeners are to be tried again; but for the first, it comes where all that came is served
+unfoldable pub MovesAt : (last : Option ℕ) → Option Sockets → Event → Type 0
+MovesAt last sockets (event.Tick moment) = last ≢ Some moment → Retries sockets × (last ≢ None → IsServed sockets)
+MovesAt last sockets _ = ⊤

@@ -1,5 +1,6 @@
 -- The links by their numbers.
-use Rattle.std.specs.Prelude.{Bool, if◌then◌else◌, ◌==◌, ◌&&◌, ◌||◌, ⊤, Contains, Option, Some, None, ℕ, ◌<◌, ◌≤◌, not, List, [], ◌∷◌, ◌++◌, All, AllPairs, map, filter}
+use Rattle.std.specs.Prelude.{Bool, if◌then◌else◌, ◌==◌, ◌&&◌, ◌||◌, ⊤, Contains, Option, Some, None, option_and_then, slice_get, take, ℕ, ◌<◌, ◌≤◌, not, List, [], ◌∷◌, ◌++◌, All, AllPairs, map, filter}
+use Rattle.std.specs.Io.KnownBytes.{Appends}
 use Rattle.aprs_base.specs.declared.events.Event.{Event}
 use Rattle.aprs_base.specs.declared.events.Event.TheVariants as event
 use Rattle.aprs_base.specs.declared.events.Sent.{Sent}
@@ -9,8 +10,17 @@ use Rattle.mio_wire.specs.declared.links.Reading.{Reading}
 use Rattle.mio_wire.specs.declared.links.Reading.TheVariants as reading
 use Rattle.mio_wire.specs.declared.turns.Ready.{Ready}
 
-abbrev pub numbers : List Link → List ℕ
+abbrev pub numbers : {S : Type 0} → List (Link S) → List ℕ
 numbers links = map (λ l. l.number) links
+
+-- what is known of the bytes of the stream of the link at a place
+unfoldable pub at_place : {S : Type 0} → (S → Option (List ℕ)) → List (Link S) → ℕ → Option (List ℕ)
+at_place known links place = option_and_then (λ l. known l.stream) (slice_get links place)
+
+-- what a link took of an offer is written after all that was
+unfoldable pub TakesBytes : (before now : Option (List ℕ)) → List ℕ → Sent → Type 0
+TakesBytes before now bytes (sent.Took count) = Appends before now (take count bytes)
+TakesBytes before now bytes sent.Gone = ⊤
 
 -- each number is below all later ones
 abbrev pub IsRising : List ℕ → Type 0
@@ -21,17 +31,17 @@ abbrev pub IsCounted : ℕ → List ℕ → Type 0
 IsCounted made ns = All (λ n. n ≤ made) ns
 
 -- the links but for the one with that number
-abbrev pub without : ℕ → List Link → List Link
+abbrev pub without : {S : Type 0} → ℕ → List (Link S) → List (Link S)
 without number links = filter (λ l. not (l.number == number)) links
 
 -- a link once the poll told of it: one that was blocked has room again where it can be written to
-abbrev pub noted : Ready → Link → Link
+abbrev pub noted : {S : Type 0} → Ready → Link S → Link S
 noted ready link = record link { closed = link.closed || ready.closed; blocked = link.blocked && not ready.writable }
 
 -- what a read tells that brought so many bytes: there may be more where they were a whole read, and else the end is next where the peer has ended
 -- its side
 unfoldable pub reading_of : (count : ℕ) (closed : Bool) → Reading
-reading_of count closed = if count == 65536 then reading.More else (if closed then reading.Last else reading.All)
+reading_of count closed = if count == 2920 then reading.More else (if closed then reading.Last else reading.All)
 
 -- the numbers but for that one
 abbrev pub dropped : ℕ → List ℕ → List ℕ

@@ -1,12 +1,14 @@
 //! Addresses of the system and of the trait `Wire`.
-ghost use Rattle.std.specs.Prelude.{◌≡◌};
-ghost use Rattle.mio_wire.specs.Names.{ipv4_of};
+ghost use Rattle.std.specs.Prelude.{◌≡◌, Some};
+ghost use Rattle.mio_wire.specs.Names.{addr_of, ipv4_of};
 
 use aprs_base::Addr;
 use std::net::{Ipv4Addr, SocketAddr, SocketAddrV4};
 
 /// The address of a socket of IPv4.
-pub(crate) fn socket_of(at: Addr) -> SocketAddr {
+pub(crate) fn socket_of(at: Addr) -> SocketAddr
+    ensures { ipv4_of result ≡ Some at }
+{
     SocketAddr::V4(SocketAddrV4::new(Ipv4Addr::from(at.ip), at.port))
 }
 
@@ -24,7 +26,9 @@ pub(crate) fn ipv4_of(socket: SocketAddr) -> Option<Addr>
 }
 
 /// The address that a peer has; that of an IPv6 peer, which no listener of IPv4 has, is left out.
-pub(crate) fn addr_of(socket: SocketAddr) -> Addr {
+pub(crate) fn addr_of(socket: SocketAddr) -> Addr
+    ensures { result ≡ addr_of socket }
+{
     match socket {
         SocketAddr::V4(at) => Addr {
             ip: at.ip().octets(),

@@ -11,6 +11,10 @@ use std::alloc::{AllocError, Global};
 /// For so many seconds a dial may be without an answer.
 const MOST_SECONDS: u64 = 30;
 
+/// A dial that failed is answered at the tick of another second. So where a look-up took long, what came meanwhile is served
+/// before the next dial.
+const FAILED_SECONDS: u64 = 1;
+
 /// A dial that is not answered yet.
 #[derive(Drop)]
 pub(crate) struct Dial {
@@ -26,12 +30,17 @@ pub(crate) struct Dial {
 }
 
 impl Dial {
-    /// Whether it failed, or no answer came for 30 s. A clock that is set back doesn't keep it open.
+    /// Whether it failed in another second, or no answer came for 30 s. A clock that is set back doesn't keep it open.
     #[tactic(auto, unfolding(crate::specs::Dialled::is_dead))]
     fn is_dead(&self, second: u64) -> bool
         ensures { result ≡ is_dead second self.now }
     {
-        self.stream.is_none() || second.abs_diff(self.since) >= MOST_SECONDS
+        let most = if self.stream.is_none() {
+            FAILED_SECONDS
+        } else {
+            MOST_SECONDS
+        };
+        second.abs_diff(self.since) >= most
     }
 }
 
@@ -88,7 +97,7 @@ impl Dials {
         Ok(())
     }
 
-    /// Where the first dial stands that failed or was not answered for 30 s.
+    /// Where the first dial stands that is dead.
     fn dead(&self, second: u64) -> Option<usize>
         ensures place { result ≡ position (is_dead second) self.now.list.items }
         ensures within { IfSome result (λ place. place < length self.now.list.items) }
@@ -126,7 +135,7 @@ impl Dials {
         self.list.remove(place)
     }
 
-    /// Gives up the first dial that failed or was not answered for 30 s, if any: its uplink.
+    /// Gives up the first dial that is dead, if any: its uplink.
     #[tactic(auto, unfolding(crate::specs::Dialled::first_dead))]
     pub(crate) fn give_up_dead(&mut self, second: u64) -> Option<u16>
         ensures uplink { result ≡ first_dead second self.old.list.items }

@@ -8,8 +8,8 @@ use std::alloc::{AllocError, Global};
 use std::io::{self, Read};
 use std::marker::Model;
 
-/// How many bytes one read takes at most.
-pub(crate) const MOST_READ: usize = 65_536;
+/// How many bytes one read takes at most: those of two events, so that a link of short lines doesn't hold the others for long.
+pub(crate) const MOST_READ: usize = 2920;
 
 /// How many bytes one event has at most.
 const MOST_CHUNK: usize = 1460;
@@ -54,7 +54,7 @@ impl Inbox {
     /// Reads what a link brings, in place of what is left.
     pub(crate) fn fill<F: Read>(&mut self, link: u32, from: &mut F) -> io::Result<usize>
         ensures count { IfOk result (λ n. length self.new.left ≡ n) }
-        ensures bytes { OnOk result (Consumes (F.remaining from.old) (F.remaining from.new) self.new.left) }
+        ensures bytes { Consumes (F.remaining from.old) (F.remaining from.new) self.new.left }
         ensures end { IfOk result (λ n. n ≡ 0 → IsAtEnd (F.remaining from.new)) }
         ensures link { self.new.link ≡ link }
         ensures none { OnErr result (self.new.left ≡ []) }

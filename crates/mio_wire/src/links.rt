@@ -1,20 +1,19 @@
 //! The links, and what is read from them and written to them.
 ghost use Rattle.std.specs.Prelude.{◌≡◌, ◌≢◌, ℕ, ◌+◌, ◌≤◌, ◌<◌, ◌^◌, [], ◌∷◌, ◌++◌, Some, OnOk, OnErr, OnSome, IfSome, IfNone, IfOk, All, Contains, false, ◌&&◌, ◌||◌, nat_lt, length, take, option_map, slice_get, vec_len, vec_capacity};
-ghost use Rattle.std.specs.Io.KnownBytes.{Appends};
+ghost use Rattle.std.specs.Io.KnownBytes.{Appends, Consumes};
 ghost use Rattle.mio_wire.specs.declared.links.Reading.TheVariants.{End};
-ghost use Rattle.mio_wire.specs.Linked.{IsCounted, IsRising, dropped, noted, numbers, reading_of, without};
+ghost use Rattle.mio_wire.specs.Linked.{IsCounted, IsRising, at_place, dropped, noted, numbers, reading_of, without};
 
 use crate::inbox::{Inbox, MOST_READ};
 use crate::turns::Ready;
-use mio::net::TcpStream;
 use std::alloc::{AllocError, Global};
-use std::io::{ErrorKind, Write};
+use std::io::{ErrorKind, Read, Write};
 
-/// A link to a client.
+/// A link to a client, over a stream.
 #[derive(Drop)]
-pub(crate) struct Link {
+pub(crate) struct Link<S> {
     pub(crate) number: u32,
-    pub(crate) stream: TcpStream,
+    pub(crate) stream: S,
     /// It waits for another turn.
     pub(crate) later: bool,
     /// Its peer will send no more.
@@ -36,7 +35,7 @@ pub(crate) enum Reading {
     All,
 }
 
-impl Link {
+impl<S> Link<S> {
     /// Notes what the poll says. True where the link was blocked and has room again.
     fn note(&mut self, ready: Ready) -> bool
         ensures room { result ≡ (ready.writable && self.old.blocked) }
@@ -49,12 +48,15 @@ impl Link {
         }
         room
     }
+}
 
+impl<S: Read> Link<S> {
     /// Reads once into an inbox.
     #[tactic(auto, unfolding(crate::specs::Linked::reading_of))]
     fn read(&mut self, inbox: &mut Inbox) -> Reading
         ensures number { self.new.number ≡ self.old.number }
         ensures link { inbox.new.link ≡ self.old.number }
+        ensures bytes { Consumes (S.remaining self.old.stream) (S.remaining self.new.stream) inbox.new.left }
         ensures end { result ≡ End → length inbox.new.left ≡ 0 }
         ensures reading { 1 ≤ length inbox.new.left → result ≡ reading_of (length inbox.new.left) self.old.closed }
     {
@@ -70,12 +72,15 @@ impl Link {
         self.later = matches!(reading, Reading::More | Reading::Last);
         reading
     }
+}
 
+impl<S: Write> Link<S> {
     /// Offers bytes to the link.
     fn write(&mut self, bytes: &[u8]) -> Option<Written>
         ensures number { self.new.number ≡ self.old.number }
         ensures blocked { IfSome result (λ w. self.new.blocked ≡ (self.old.blocked || nat_lt w.taken (length bytes.now))) }
         ensures within { IfSome result (λ w. w.taken ≤ length bytes.now) }
+        ensures bytes { IfSome result (λ w. Appends (S.contents self.old.stream) (S.contents self.new.stream) (take w.taken bytes.now)) }
     {
         let written = write_on(&mut self.stream, bytes)?;
         if written.taken < bytes.len() {
@@ -87,15 +92,15 @@ impl Link {
 
 /// The links that are open, in rising number, and the number of the last that was made.
 #[derive(Drop)]
-pub(crate) struct Links {
-    pub(crate) list: Vec<Link>,
+pub(crate) struct Links<S> {
+    pub(crate) list: Vec<Link<S>>,
     pub(crate) made: u32,
     ghost rising: { IsRising (numbers list.items) },
     ghost counted: { IsCounted made (numbers list.items) },
 }
 
-impl Links {
-    pub(crate) fn new(alloc: Global) -> Links
+impl<S: Drop> Links<S> {
+    pub(crate) fn new(alloc: Global) -> Links<S>
         ensures { (result.list.items ≡ []) × (result.made ≡ 0) }
     {
         Links {
@@ -113,7 +118,7 @@ impl Links {
     }
 
     /// Adds a link with the next number. It fails only where there is no room.
-    pub(crate) fn add(&mut self, stream: TcpStream) -> Result<(), AllocError>
+    pub(crate) fn add(&mut self, stream: S) -> Result<(), AllocError>
         requires { self.old.made + 1 < 2 ^ 32 }
         ensures ok { OnOk result (self.new.made ≡ self.old.made + 1) }
         ensures link { OnOk result (self.new.list.items ≡ self.old.list.items ++ record { number = self.old.made + 1; stream = stream; later = false; closed = false; blocked = false } ∷ []) }
@@ -162,11 +167,25 @@ impl Links {
         self.list[place].later
     }
 
+    /// Lets go the link with a number.
+    pub(crate) fn let_go(&mut self, number: u32)
+        ensures links { (self.new.list.items ≡ without number self.old.list.items) × (self.new.made ≡ self.old.made) }
+        ensures numbers { numbers self.new.list.items ≡ dropped number (numbers self.old.list.items) }
+        ensures others { without number self.new.list.items ≡ without number self.old.list.items }
+    {
+        if let Some(place) = self.place_of(number) {
+            let _ = self.list.remove(place);
+        }
+    }
+}
+
+impl<S: Read + Drop> Links<S> {
     /// Reads once from the link at a place.
     pub(crate) fn read(&mut self, place: usize, inbox: &mut Inbox) -> Reading
         requires { place < length self.old.list.items }
         ensures link { Contains (numbers self.old.list.items) inbox.new.link }
         ensures number { option_map (λ l. l.number) (slice_get self.old.list.items place) ≡ Some inbox.new.link }
+        ensures bytes { Consumes (at_place S.remaining self.old.list.items place) (at_place S.remaining self.new.list.items place) inbox.new.left }
         ensures end { result ≡ End → length inbox.new.left ≡ 0 }
         ensures reading { 1 ≤ length inbox.new.left → IfSome (slice_get self.old.list.items place) (λ l. result ≡ reading_of (length inbox.new.left) l.closed) }
         ensures same { (numbers self.new.list.items ≡ numbers self.old.list.items) × (self.new.made ≡ self.old.made) }
@@ -174,24 +193,18 @@ impl Links {
     {
         self.list[place].read(inbox)
     }
+}
 
+impl<S: Write + Drop> Links<S> {
     /// Offers bytes to the link at a place.
     pub(crate) fn write(&mut self, place: usize, bytes: &[u8]) -> Option<Written>
         requires { place < length self.old.list.items }
         ensures same { (numbers self.new.list.items ≡ numbers self.old.list.items) × (self.new.made ≡ self.old.made) }
         ensures others { (number : ℕ) → option_map (λ l. l.number) (slice_get self.old.list.items place) ≡ Some number → without number self.new.list.items ≡ without number self.old.list.items }
         ensures within { IfSome result (λ w. w.taken ≤ length bytes.now) }
+        ensures bytes { IfSome result (λ w. Appends (at_place S.contents self.old.list.items place) (at_place S.contents self.new.list.items place) (take w.taken bytes.now)) }
     {
         self.list[place].write(bytes)
-    }
-
-    /// Lets go the link with a number.
-    pub(crate) fn let_go(&mut self, number: u32)
-        ensures links { (self.new.list.items ≡ without number self.old.list.items) × (self.new.made ≡ self.old.made) }
-        ensures numbers { numbers self.new.list.items ≡ dropped number (numbers self.old.list.items) }
-        ensures others { without number self.new.list.items ≡ without number self.old.list.items }
-    {
-        self.list.retain(|link| link.number != number);
     }
 }
 

@@ -1,11 +1,14 @@
 //! Datagrams that come, and the socket that they are cast from.
-ghost use Rattle.std.specs.Prelude.{◌≡◌, ◌≤◌, ◌↔◌, IsSome, IfSome, length};
+ghost use Rattle.std.specs.Prelude.{◌≡◌, ◌<◌, ◌≤◌, ◌⊎◌, ◌↔◌, IsSome, IfOk, IfSome, length, take};
 ghost use Rattle.mio_wire.specs.Mail.{caster_after};
+ghost use Rattle.mio_wire.specs.Names.{addr_of};
+ghost use Rattle.mio_wire.specs.declared.mail.Received.TheVariants.{Datagram, Dropped};
 
 use crate::addresses::addr_of;
 use aprs_base::{Addr, Chunk, PortKind};
 use mio::net::UdpSocket;
-use std::io::ErrorKind;
+use std::io::{self, ErrorKind};
+use std::net::SocketAddr;
 
 /// A socket for datagrams.
 #[derive(Drop)]
@@ -65,7 +68,17 @@ fn whole_datagram(bytes: &[u8]) -> Option<Chunk>
 /// Reads a datagram.
 pub(crate) fn receive(socket: &UdpSocket) -> Received {
     let mut bytes = [0; MOST_RECEIVED];
-    match socket.recv_from(&mut bytes) {
+    let answer = socket.recv_from(&mut bytes);
+    received_of(&bytes, answer)
+}
+
+/// What a read brought, by the system's answer to it: how many of the bytes are a datagram, and where it comes from.
+fn received_of(bytes: &[u8], answer: io::Result<(usize, SocketAddr)>) -> Received
+    requires { IfOk answer (λ r. r.0 ≤ length bytes.now) }
+    ensures whole { IfOk answer (λ r. 1 ≤ r.0 → r.0 ≤ 1460 → result ≡ Datagram (addr_of r.1) (take r.0 bytes.now)) }
+    ensures dropped { IfOk answer (λ r. (r.0 ≡ 0) ⊎ (1460 < r.0) → result ≡ Dropped) }
+{
+    match answer {
         Ok((count, from)) => match whole_datagram(&bytes[..count]) {
             Some(chunk) => Received::Datagram(addr_of(from), chunk),
             None => Received::Dropped,

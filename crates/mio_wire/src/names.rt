@@ -50,7 +50,7 @@ impl Names {
             return Ok(Some(address));
         }
         let place = self.place_of(uplink, spec)?;
-        self.list[place].next(rt)
+        self.list[place].next(rt, self.alloc)
     }
 
     /// Where what was found for an uplink stands, which may be nothing yet.
@@ -91,15 +91,19 @@ fn in_digits(spec: &UplinkSpec) -> Option<Addr>
 }
 
 impl Name {
-    /// The next address that was not tried since the last look-up, which is made anew where all were.
-    fn next<R: Net>(&mut self, rt: &R) -> Result<Option<Addr>, AllocError>
+    /// The next address that was not tried since the last look-up, which is made anew where all were. Those that were found stay
+    /// until a look-up gives others.
+    fn next<R: Net>(&mut self, rt: &R, alloc: Global) -> Result<Option<Addr>, AllocError>
         ensures turn { OnOk result (IsTurn self.old.found.items self.old.tried self.new.found.items self.new.tried) }
         ensures address { IfOk result (λ o. o ≡ slice_get self.new.found.items (self.new.tried - 1)) }
         ensures kept { (self.new.uplink ≡ self.old.uplink) × (self.new.spec ≡ self.old.spec) }
     {
         let mut tried = self.tried;
         if tried >= self.found.len() {
-            look_up(rt, &self.spec, &mut self.found)?;
+            let found = look_up(rt, alloc, &self.spec)?;
+            if !found.is_empty() {
+                self.found = found;
+            }
             tried = 0;
         }
         self.tried = tried.saturating_add(1);
@@ -107,19 +111,19 @@ impl Name {
     }
 }
 
-/// Finds the addresses of IPv4 that a name has: none where it can't be looked up.
-fn look_up<R: Net>(rt: &R, spec: &UplinkSpec, found: &mut Vec<Addr>) -> Result<(), AllocError> {
-    found.clear();
+/// The addresses of IPv4 that a name has: none where it can't be looked up.
+fn look_up<R: Net>(rt: &R, alloc: Global, spec: &UplinkSpec) -> Result<Vec<Addr>, AllocError> {
+    let mut found = Vec::new(alloc);
     let Ok(host) = str::from_utf8(spec.host.as_slice()) else {
-        return Ok(());
+        return Ok(found);
     };
     let Ok(addresses) = (host, spec.port).to_socket_addrs(rt) else {
-        return Ok(());
+        return Ok(found);
     };
     for address in addresses {
         if let Some(at) = ipv4_of(address) {
             found.push(at)?;
         }
     }
-    Ok(())
+    Ok(found)
 }

@@ -1,9 +1,9 @@
 //! The poll with the sockets that it watches.
-ghost use Rattle.std.specs.Prelude.{◌≡◌, ◌≤◌, ◌⊎◌, ◌++◌, [], ◌∷◌, map, None, true, false, OnOk, OnErr, IfOk, IfNone, IfSome, length, take, drop};
+ghost use Rattle.std.specs.Prelude.{◌≡◌, ◌≤◌, ◌⊎◌, ◌++◌, [], ◌∷◌, map, None, true, false, OnOk, OnErr, IfOk, IfNone, IfSome, is_some, length, option_map, slice_get, take, drop, ℕ, Some};
 ghost use Rattle.aprs_base.specs.Outside.{IsOutcome};
 ghost use Rattle.aprs_base.specs.declared.packets.PortKind.TheVariants.{Core, Submit};
 ghost use Rattle.mio_wire.specs.Arrivals.{after_sent};
-ghost use Rattle.mio_wire.specs.Linked.{TakesOf, dropped, numbers, without};
+ghost use Rattle.mio_wire.specs.Linked.{TakesBytes, TakesOf, at_place, dropped, numbers, without};
 ghost use Rattle.mio_wire.specs.Held.{listening_after, listening_of, with_deaf, woken};
 ghost use Rattle.mio_wire.specs.Sources.{reads_link};
 ghost use Rattle.mio_wire.specs.Unread.{IsHeld, forgotten, nothing, unread_after};
@@ -20,7 +20,7 @@ use aprs_base::{Addr, Chunk, ListenSpec, PortKind, Sent, WireError};
 use mio::net::{TcpListener, TcpStream, UdpSocket};
 use mio::{Events, Interest, Poll, Token};
 use std::alloc::{AllocError, Global};
-use std::io;
+use std::io::{self, Write};
 use std::net::Net;
 use std::time::Duration;
 
@@ -234,7 +234,9 @@ impl Sockets {
     }
 
     /// Whether a source of this turn is not served yet.
-    pub(crate) fn has_ready(&self) -> bool {
+    pub(crate) fn has_ready(&self) -> bool
+        ensures { result ≡ is_some (slice_get self.now.turns.ready.items self.now.turns.at) }
+    {
         self.turns.current().is_some()
     }
 
@@ -246,7 +248,7 @@ impl Sockets {
     }
 
     /// Lets go a link with what it brought.
-    pub(crate) fn let_go(&mut self, links: &mut Links, number: u32)
+    pub(crate) fn let_go<S: Drop>(&mut self, links: &mut Links<S>, number: u32)
         ensures links { (links.new.list.items ≡ without number links.old.list.items) × (links.new.made ≡ links.old.made) }
         ensures numbers { numbers links.new.list.items ≡ dropped number (numbers links.old.list.items) }
         ensures others { without number links.new.list.items ≡ without number links.old.list.items }
@@ -258,9 +260,9 @@ impl Sockets {
     }
 
     /// Offers bytes to a link.
-    pub(crate) fn send(
+    pub(crate) fn send<S: Write + Drop>(
         &mut self,
-        links: &mut Links,
+        links: &mut Links<S>,
         number: u32,
         bytes: &[u8],
     ) -> Result<Sent, AllocError>
@@ -268,6 +270,7 @@ impl Sockets {
         ensures held { IsHeld self.old.inbox (numbers links.old.list.items) → IsHeld self.new.inbox (numbers links.new.list.items) }
         ensures unread { self.new.inbox ≡ unread_after result number self.old.inbox }
         ensures part { IfOk result (IsOutcome bytes.now) }
+        ensures bytes { (place : ℕ) → option_map (λ l. l.number) (slice_get links.old.list.items place) ≡ Some number → IfOk result (TakesBytes (at_place S.contents links.old.list.items place) (at_place S.contents links.new.list.items place) bytes.now) }
         ensures made { links.new.made ≡ links.old.made }
         ensures numbers { OnOk result (numbers links.new.list.items ≡ after_sent result number (numbers links.old.list.items)) }
         ensures others { without number links.new.list.items ≡ without number links.old.list.items }

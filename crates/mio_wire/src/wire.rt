@@ -1,18 +1,18 @@
 //! The wire over the sockets of the system.
-ghost use Rattle.std.specs.Prelude.{◌≡◌, ◌<◌, ℕ, ◌+◌, ◌-◌, ◌^◌, ◌≤◌, ◌++◌, ◌&&◌, not, [], ◌∷◌, Some, None, true, false, is_some, length, OnOk, OnErr, IfNone, IfOk, IfSome, IsErrOf};
-ghost use Rattle.aprs_base.specs.Outside.{AfterAct, AfterListen, AfterNext, AfterSend, IsOutcome, Rose, with_cast, with_closed, with_dial};
+ghost use Rattle.std.specs.Prelude.{◌≡◌, ◌≢◌, ◌<◌, ℕ, ◌+◌, ◌-◌, ◌^◌, ◌≤◌, ◌++◌, ◌&&◌, not, [], ◌∷◌, Some, None, true, false, is_some, length, OnOk, OnErr, IfNone, IfOk, IfSome, IsErrOf};
+ghost use Rattle.aprs_base.specs.Outside.{AfterAct, AfterListen, AfterNext, AfterSend, IsOutcome, with_cast, with_closed, with_dial};
 ghost use Rattle.aprs_base.specs.declared.events.Event.TheVariants.{Tick};
 ghost use Rattle.aprs_base.specs.declared.events.WireError.TheVariants as WireError;
 ghost use Rattle.mio_wire.specs.Pacing.{is_due, rested};
-ghost use Rattle.mio_wire.specs.Coming.{ComesNext, StepGives, after_event, after_offer};
+ghost use Rattle.mio_wire.specs.Coming.{ComesNext, StepGives, TicksAt, after_event, after_offer};
 ghost use Rattle.std.specs.Net.Grammar.{IsIpv4Text};
 ghost use Rattle.std.specs.declared.net.ipv4_addr.Ipv4Addr.{Ipv4Addr};
 ghost use Rattle.mio_wire.specs.Names.{IsIn};
 ghost use Rattle.mio_wire.specs.Dialled.{Answers, AnswersStep, Begins};
 ghost use Rattle.mio_wire.specs.Linked.{TakesOf, TellsOfOne, TellsStep, numbers, numbers_after, without};
-ghost use Rattle.mio_wire.specs.Arrivals.{IsArrival, Steps, after_sent, counts, gones_after, stops_after, stops_with};
+ghost use Rattle.mio_wire.specs.Arrivals.{IsArrival, Steps, after_sent, counts, failed_with};
 ghost use Rattle.mio_wire.specs.Unread.{HandsUp, IsHeld, Leaves, forgotten, nothing, unread_after};
-ghost use Rattle.mio_wire.specs.Held.{NamesListener, NamesStep, RetriesAt, listening, listening_after, reads_on, unread};
+ghost use Rattle.mio_wire.specs.Held.{IsServed, MovesAt, NamesListener, NamesStep, Retries, listening, listening_after, reads_on, unread};
 
 use crate::course::Course;
 use crate::dials::{Dial, Dials};
@@ -33,6 +33,16 @@ fn left_of_second(over: u32) -> u64
     1000u64.saturating_sub(u64::from(over))
 }
 
+/// A count of failed calls after one more answer that is no good. It stays at the greatest.
+fn failed_with(error: WireError, failed: u64) -> u64
+    ensures { result ≡ failed_with error failed }
+{
+    match error {
+        WireError::Failed => failed.saturating_add(1),
+        WireError::Memory => failed,
+    }
+}
+
 /// The address of a dial for which none was found.
 const NOWHERE: Addr = Addr {
     ip: [0; 4],
@@ -42,19 +52,25 @@ const NOWHERE: Addr = Addr {
 /// The network of the system. It tells nothing of what happens but its counts: of failed calls, of links that a send found
 /// gone, and of links that were made.
 ///
-/// Beside the tick of each new second it gives one as soon as all that came is handed up, where something was handed up since
-/// the last tick; one where 400 line ends or 48,000 bytes were handed up; and one where a send took 65,536 bytes whole.
-/// Listeners that couldn't open a link try again once a tick has another second than the last one's.
+/// The tick of a new second comes once the sockets were asked twice since that second began and all that they had is handed up: so
+/// nothing that came is late by a pause of the process, not even what a link says that is let in only then. Beside it there is a tick of the last moment as soon as all that came is handed
+/// up, where something was handed up since the last tick; one where 400 line ends or 48,000 bytes were handed up; and one where
+/// a send took 65,536 bytes whole. Listeners that couldn't open a link try again with the tick of a new second.
 #[derive(Drop)]
 pub struct MioWire<'a, R: Net + Clock> {
     rt: &'a R,
     alloc: Global,
     sockets: Option<Sockets>,
-    links: Links,
+    links: Links<TcpStream>,
     dials: Dials,
     names: Names,
     course: Course,
-    stops: u64,
+    /// A second whose tick comes once all that the sockets had in it is handed up.
+    ahead: Option<u64>,
+    /// Whether the sockets were asked once in a new second: what was let in then is read after the second time.
+    asked: bool,
+    failed_listens: u64,
+    failed_nexts: u64,
     gones: u64,
 }
 
@@ -62,7 +78,7 @@ impl<'a, R: Net + Clock> MioWire<'a, R> {
     /// A wire that gives a stop once it has given so many ends of links, where a number is given. It takes no memory and
     /// opens nothing until it is called.
     pub fn new(rt: &'a R, alloc: Global, stop_after: Option<u32>) -> MioWire<'a, R>
-        ensures counts { (result.stops ≡ 0) × (result.gones ≡ 0) × (result.links.made ≡ 0) }
+        ensures counts { (result.failed_listens ≡ 0) × (result.failed_nexts ≡ 0) × (result.gones ≡ 0) × (result.links.made ≡ 0) }
         ensures opens { (result.sockets ≡ None) × (result.links.list.items ≡ []) × (result.dials.list.items ≡ []) }
         ensures course { result.course ≡ record { stop_after = stop_after; second = None; ended = 0; pace = rested } }
     {
@@ -74,21 +90,20 @@ impl<'a, R: Net + Clock> MioWire<'a, R> {
             dials: Dials::new(alloc),
             names: Names::new(alloc),
             course: Course::new(stop_after),
-            stops: 0,
+            ahead: None,
+            asked: false,
+            failed_listens: 0,
+            failed_nexts: 0,
             gones: 0,
         }
     }
 
-    /// Counts a failed call, and hands the error on.
-    fn refuse(&mut self, error: WireError) -> WireError
+    /// Counts a failed `next`, and hands the error on.
+    fn refuse_next(&mut self, error: WireError) -> WireError
         ensures same { result ≡ error }
-        ensures counted { self.new.stops ≡ stops_with error self.old.stops }
-        ensures stops { (self.old.stops ≤ self.new.stops) × (error ≡ WireError.Failed → Rose self.old.stops self.new.stops) }
-        ensures kept { self.new ≡ record self.old { stops = self.new.stops } }
+        ensures counted { self.new ≡ record self.old { failed_nexts = failed_with error self.old.failed_nexts } }
     {
-        if error == WireError::Failed {
-            self.stops = self.stops.saturating_add(1);
-        }
+        self.failed_nexts = failed_with(error, self.failed_nexts);
         error
     }
 
@@ -106,21 +121,6 @@ impl<'a, R: Net + Clock> MioWire<'a, R> {
         Ok(())
     }
 
-    /// Opens the sockets where they are not open. A failure counts.
-    fn open(&mut self) -> Result<(), WireError>
-        ensures there { OnOk result (is_some self.new.sockets ≡ true) }
-        ensures stops { (self.old.stops ≤ self.new.stops) × (IsErrOf result WireError.Failed → Rose self.old.stops self.new.stops) }
-        ensures kept { self.new ≡ record self.old { sockets = self.new.sockets; stops = self.new.stops } }
-        ensures counted { self.new.stops ≡ stops_after result self.old.stops }
-        ensures unread { unread self.new.sockets ≡ unread self.old.sockets }
-        ensures listening { listening self.new.sockets ≡ listening self.old.sockets }
-    {
-        match self.open_sockets() {
-            Ok(()) => Ok(()),
-            Err(error) => Err(self.refuse(error)),
-        }
-    }
-
     /// How long ago 1970 was, or the moment of the last tick where the clock doesn't tell.
     fn clock(&self) -> Duration {
         SystemTime::now(self.rt)
@@ -129,27 +129,40 @@ impl<'a, R: Net + Clock> MioWire<'a, R> {
             .unwrap_or(Duration::from_secs(self.course.second.unwrap_or(0)))
     }
 
-    /// A tick. In a new second, listeners that failed to open a link try again.
-    #[tactic(auto, unfolding(crate::specs::Held::RetriesAt, crate::specs::Held::listening, crate::specs::Held::unread))]
-    fn tick(&mut self, moment: u64) -> Event
-        ensures event { result ≡ Tick moment }
-        ensures retries { RetriesAt self.old.course.second self.new.sockets result }
+    /// The tick of another second than the last one's: listeners that failed to open a link try again.
+    #[tactic(auto, unfolding(crate::specs::Held::IsServed, crate::specs::Held::MovesAt, crate::specs::Held::Retries, crate::specs::Held::listening, crate::specs::Held::unread))]
+    fn move_on(&mut self, second: u64) -> Event
+        ensures event { result ≡ Tick second }
+        ensures moves { (self.old.course.second ≢ None → IsServed self.old.sockets) → MovesAt self.old.course.second self.new.sockets result }
         ensures kept { self.new ≡ record self.old { sockets = self.new.sockets } }
         ensures unread { unread self.new.sockets ≡ unread self.old.sockets }
         ensures listening { listening self.new.sockets ≡ listening self.old.sockets }
     {
-        if self.course.second != Some(moment) {
-            if let Some(sockets) = &mut self.sockets {
-                sockets.retry();
-            }
+        if let Some(sockets) = &mut self.sockets {
+            sockets.retry();
         }
-        Event::Tick(moment)
+        Event::Tick(second)
+    }
+
+    /// Listens, with sockets that are opened where they are not open.
+    #[tactic(auto, unfolding(crate::specs::Held::listening, crate::specs::Held::unread))]
+    fn listen_at(&mut self, n: u16, spec: &ListenSpec) -> Result<(), WireError>
+        ensures listening { OnOk result (listening self.new.sockets ≡ listening_after spec.now.kind n (listening self.old.sockets)) }
+        ensures err { OnErr result (listening self.new.sockets ≡ listening self.old.sockets) }
+        ensures unread { unread self.new.sockets ≡ unread self.old.sockets }
+        ensures kept { self.new ≡ record self.old { sockets = self.new.sockets } }
+    {
+        self.open_sockets()?;
+        match &mut self.sockets {
+            Some(sockets) => sockets.listen(self.rt, n, spec),
+            None => Err(WireError::Failed),
+        }
     }
 
     /// Whether something has come that is not handed up, or not looked at.
-    #[tactic(auto, unfolding(crate::specs::Held::unread))]
+    #[tactic(auto, unfolding(crate::specs::Held::IsServed))]
     fn has_arrived(&self) -> bool
-        ensures { result ≡ false → length (unread self.now.sockets).left ≡ 0 }
+        ensures { result ≡ false → IsServed self.now.sockets }
     {
         match &self.sockets {
             Some(sockets) => sockets.has_bytes() || sockets.has_ready(),
@@ -181,11 +194,10 @@ impl<'a, R: Net + Clock> MioWire<'a, R> {
         ensures err { OnErr result ((numbers self.new.links.list.items ≡ numbers self.old.links.list.items) × (self.new.links.made ≡ self.old.links.made)) }
         ensures unanswered { OnErr result (self.new.dials.list.items ≡ self.old.dials.list.items) }
         ensures unread { OnErr result (unread self.new.sockets ≡ unread self.old.sockets) }
-        ensures memory { IsErrOf result WireError.Failed → ⊥ }
         ensures names { IfOk result (NamesStep (listening self.old.sockets)) }
-        ensures counted { self.new.stops ≡ stops_after result self.old.stops }
         ensures listening { listening self.new.sockets ≡ listening self.old.sockets }
-        ensures kept { (self.new.stops ≡ self.old.stops) × (self.new.gones ≡ self.old.gones) × (self.new.course ≡ self.old.course) }
+        ensures counts { (self.new.failed_listens ≡ self.old.failed_listens) × (self.new.failed_nexts ≡ self.old.failed_nexts) × (self.new.gones ≡ self.old.gones) }
+        ensures kept { self.new.course ≡ self.old.course }
     {
         let Some(sockets) = &mut self.sockets else {
             return Ok(None);
@@ -197,7 +209,7 @@ impl<'a, R: Net + Clock> MioWire<'a, R> {
     }
 
     /// What comes before anything that arrives: the first tick, a stop, a tick that is due at once, or the answer to a dead dial.
-    #[tactic(auto, using(crate::proofs::NextLemmas::leaves_same), unfolding(crate::specs::Arrivals::Steps, crate::specs::Coming::ComesNext, crate::specs::Coming::StepGives, crate::specs::Dialled::AnswersStep, crate::specs::Held::NamesStep, crate::specs::Held::RetriesAt, crate::specs::Linked::TellsStep))]
+    #[tactic(auto, using(crate::proofs::NextLemmas::leaves_same), unfolding(crate::specs::Arrivals::Steps, crate::specs::Coming::ComesNext, crate::specs::Coming::StepGives, crate::specs::Dialled::AnswersStep, crate::specs::Held::MovesAt, crate::specs::Held::NamesStep, crate::specs::Linked::TellsStep))]
     fn due(&mut self) -> Option<Event>
         ensures steps { Steps (numbers self.old.links.list.items) (numbers self.new.links.list.items) self.old.links.made self.new.links.made result }
         ensures dials { AnswersStep self.old.dials.list.items self.new.dials.list.items result }
@@ -205,53 +217,66 @@ impl<'a, R: Net + Clock> MioWire<'a, R> {
         ensures tells { TellsStep (numbers self.old.links.list.items) result }
         ensures names { NamesStep (listening self.old.sockets) result }
         ensures gives { IfSome result (λ e. StepGives self.old.course self.old.dials.list.items (unread self.old.sockets) (Some e)) }
-        ensures retries { IfSome result (RetriesAt self.old.course.second self.new.sockets) }
+        ensures moves { IfSome result (MovesAt self.old.course.second self.new.sockets) }
         ensures none { IfNone result (StepGives self.old.course self.old.dials.list.items nothing None × (self.new ≡ self.old)) }
         ensures unread { unread self.new.sockets ≡ unread self.old.sockets }
         ensures listening { listening self.new.sockets ≡ listening self.old.sockets }
         ensures kept { self.new ≡ record self.old { sockets = self.new.sockets; dials = self.new.dials } }
     {
         let Some(second) = self.course.second else {
-            return Some(self.tick(self.clock().as_secs()));
+            return Some(self.move_on(self.clock().as_secs()));
         };
         if self.course.is_stopped() {
             return Some(Event::Stop);
         }
         if self.course.pace.is_full() {
-            return Some(self.tick(self.clock().as_secs()));
+            return Some(Event::Tick(second));
         }
         Some(Event::Unjoined(self.dials.give_up_dead(second)?))
     }
 
-    /// Gives a tick in a new second, or where all that came is handed up and one is due, and else waits.
-    #[tactic(auto, using(crate::proofs::NextLemmas::leaves_same), unfolding(crate::specs::Arrivals::Steps, crate::specs::Coming::ComesNext, crate::specs::Coming::StepGives, crate::specs::Dialled::AnswersStep, crate::specs::Held::NamesStep, crate::specs::Linked::TellsStep))]
+    /// Gives the tick of a second in which the sockets were asked, and else rests.
+    #[tactic(auto, unfolding(crate::specs::Coming::TicksAt))]
     fn rest(&mut self) -> Result<Option<Event>, WireError>
-        requires undue { StepGives self.old.course self.old.dials.list.items nothing None }
-        requires handed { length (unread self.old.sockets).left ≡ 0 }
-        ensures steps { IfOk result (Steps (numbers self.old.links.list.items) (numbers self.new.links.list.items) self.old.links.made self.new.links.made) }
-        ensures dials { IfOk result (AnswersStep self.old.dials.list.items self.new.dials.list.items) }
-        ensures rest { IfOk result (λ o. IfSome o (Leaves (unread self.old.sockets) (unread self.new.sockets) (unread self.old.sockets).left)) }
-        ensures tells { IfOk result (TellsStep (numbers self.old.links.list.items)) }
-        ensures gives { IfOk result (StepGives self.old.course self.old.dials.list.items (unread self.old.sockets)) }
-        ensures stops { (self.old.stops ≤ self.new.stops) × (IsErrOf result WireError.Failed → Rose self.old.stops self.new.stops) }
-        ensures names { IfOk result (NamesStep (listening self.old.sockets)) }
-        ensures retries { IfOk result (λ o. IfSome o (RetriesAt self.old.course.second self.new.sockets)) }
-        ensures counted { self.new.stops ≡ stops_after result self.old.stops }
+        requires served { IsServed self.old.sockets }
+        ensures ticks { IfOk result (TicksAt self.old.course) }
+        ensures moves { IfOk result (λ o. IfSome o (MovesAt self.old.course.second self.new.sockets)) }
         ensures unread { unread self.new.sockets ≡ unread self.old.sockets }
         ensures listening { listening self.new.sockets ≡ listening self.old.sockets }
-        ensures kept { self.new ≡ record self.old { sockets = self.new.sockets; stops = self.new.stops } }
+        ensures kept { self.new ≡ record self.old { sockets = self.new.sockets; ahead = self.new.ahead; asked = self.new.asked } }
+    {
+        match self.ahead.take() {
+            Some(second) if self.course.second != Some(second) => Ok(Some(self.move_on(second))),
+            _ => self.idle(),
+        }
+    }
+
+    /// Asks the sockets in a new second, twice before its tick, gives a tick that is due since all that came is handed up, and else waits.
+    #[tactic(auto, unfolding(crate::specs::Coming::TicksAt, crate::specs::Held::MovesAt))]
+    fn idle(&mut self) -> Result<Option<Event>, WireError>
+        ensures ticks { IfOk result (TicksAt self.old.course) }
+        ensures moves { IfOk result (λ o. IfSome o (MovesAt self.old.course.second self.new.sockets)) }
+        ensures unread { unread self.new.sockets ≡ unread self.old.sockets }
+        ensures listening { listening self.new.sockets ≡ listening self.old.sockets }
+        ensures kept { self.new ≡ record self.old { sockets = self.new.sockets; ahead = self.new.ahead; asked = self.new.asked } }
     {
         let now = self.clock();
-        let all_handed = self.course.pace.is_due() && !self.reads_on();
-        if all_handed || self.course.second != Some(now.as_secs()) {
-            return Ok(Some(self.tick(now.as_secs())));
+        let second = now.as_secs();
+        if self.course.second != Some(second) {
+            self.poll(Duration::ZERO)?;
+            self.ahead = self.asked.then_some(second);
+            self.asked = !self.asked;
+            return Ok(None);
+        }
+        if self.course.pace.is_due() && !self.reads_on() {
+            return Ok(Some(Event::Tick(second)));
         }
         self.wait(now)?;
         Ok(None)
     }
 
     /// The next event, or none where it took a step towards it.
-    #[tactic(auto, using(crate::proofs::NextLemmas::arrived_gives, crate::proofs::NextLemmas::arrived_retries))]
+    #[tactic(auto, using(crate::proofs::NextLemmas::arrived_gives, crate::proofs::NextLemmas::arrived_moves, crate::proofs::NextLemmas::served_none, crate::proofs::NextLemmas::tick_answers, crate::proofs::NextLemmas::tick_gives, crate::proofs::NextLemmas::tick_leaves, crate::proofs::NextLemmas::tick_names, crate::proofs::NextLemmas::tick_steps, crate::proofs::NextLemmas::tick_tells))]
     fn step(&mut self) -> Result<Option<Event>, WireError>
         ensures steps { IfOk result (Steps (numbers self.old.links.list.items) (numbers self.new.links.list.items) self.old.links.made self.new.links.made) }
         ensures dials { IfOk result (AnswersStep self.old.dials.list.items self.new.dials.list.items) }
@@ -262,12 +287,11 @@ impl<'a, R: Net + Clock> MioWire<'a, R> {
         ensures err { OnErr result ((numbers self.new.links.list.items ≡ numbers self.old.links.list.items) × (self.new.links.made ≡ self.old.links.made)) }
         ensures unanswered { OnErr result (self.new.dials.list.items ≡ self.old.dials.list.items) }
         ensures unread { OnErr result (unread self.new.sockets ≡ unread self.old.sockets) }
-        ensures stops { (self.old.stops ≤ self.new.stops) × (IsErrOf result WireError.Failed → Rose self.old.stops self.new.stops) }
         ensures names { IfOk result (NamesStep (listening self.old.sockets)) }
-        ensures retries { IfOk result (λ o. IfSome o (RetriesAt self.old.course.second self.new.sockets)) }
-        ensures counted { self.new.stops ≡ stops_after result self.old.stops }
+        ensures moves { IfOk result (λ o. IfSome o (MovesAt self.old.course.second self.new.sockets)) }
         ensures listening { listening self.new.sockets ≡ listening self.old.sockets }
-        ensures kept { (self.new.gones ≡ self.old.gones) × (self.new.course ≡ self.old.course) }
+        ensures counts { (self.new.failed_listens ≡ self.old.failed_listens) × (self.new.failed_nexts ≡ self.old.failed_nexts) × (self.new.gones ≡ self.old.gones) }
+        ensures kept { self.new.course ≡ self.old.course }
     {
         if let Some(event) = self.due() {
             return Ok(Some(event));
@@ -358,85 +382,88 @@ impl<'a, R: Net + Clock> MioWire<'a, R> {
     }
 
     /// Waits for the sockets, but not beyond the second that `now` is in.
-    #[tactic(auto, unfolding(crate::specs::Held::listening, crate::specs::Held::unread))]
     fn wait(&mut self, now: Duration) -> Result<(), WireError>
         requires { (is_due self.old.course.pace && not (reads_on self.old.sockets)) ≡ false }
-        ensures stops { (self.old.stops ≤ self.new.stops) × (IsErrOf result WireError.Failed → Rose self.old.stops self.new.stops) }
-        ensures counted { self.new.stops ≡ stops_after result self.old.stops }
-        ensures kept { self.new ≡ record self.old { sockets = self.new.sockets; stops = self.new.stops } }
+        ensures kept { self.new ≡ record self.old { sockets = self.new.sockets } }
         ensures unread { unread self.new.sockets ≡ unread self.old.sockets }
         ensures listening { listening self.new.sockets ≡ listening self.old.sockets }
     {
-        let left = left_of_second(now.subsec_millis());
-        let Some(sockets) = &mut self.sockets else {
-            return Ok(());
-        };
-        match sockets.wait(Duration::from_millis(left)) {
-            Ok(()) => Ok(()),
-            Err(error) => Err(self.refuse(error)),
+        self.poll(Duration::from_millis(left_of_second(now.subsec_millis())))
+    }
+
+    /// Asks the sockets, and waits for them so long at most.
+    #[tactic(auto, unfolding(crate::specs::Held::listening, crate::specs::Held::unread))]
+    fn poll(&mut self, most: Duration) -> Result<(), WireError>
+        ensures kept { self.new ≡ record self.old { sockets = self.new.sockets } }
+        ensures unread { unread self.new.sockets ≡ unread self.old.sockets }
+        ensures listening { listening self.new.sockets ≡ listening self.old.sockets }
+    {
+        match &mut self.sockets {
+            Some(sockets) => sockets.wait(most),
+            None => Ok(()),
         }
     }
 }
 
 impl<'a, R: Net + Clock + Wait> Wire for MioWire<'a, R> {
-    ghost shown = { λ w. counts w.stops w.gones w.links.made };
+    ghost shown = { λ w. counts w.failed_listens w.failed_nexts w.gones w.links.made };
 
     /// Listens over TCP for links, and over UDP for what is submitted in datagrams and for a peer group.
-    #[tactic(auto, unfolding(crate::specs::Held::listening, crate::specs::Held::unread))]
     fn listen(&mut self, n: u16, spec: &ListenSpec) -> Result<(), WireError>
-        ensures listen { AfterListen (counts self.old.stops self.old.gones self.old.links.made) (counts self.new.stops self.new.gones self.new.links.made) n spec.now result }
+        ensures listen { AfterListen (counts self.old.failed_listens self.old.failed_nexts self.old.gones self.old.links.made) (counts self.new.failed_listens self.new.failed_nexts self.new.gones self.new.links.made) n spec.now result }
         ensures listening { OnOk result (listening self.new.sockets ≡ listening_after spec.now.kind n (listening self.old.sockets)) }
         ensures err { OnErr result (listening self.new.sockets ≡ listening self.old.sockets) }
-        ensures stops { self.new.stops ≡ stops_after result self.old.stops }
         ensures unread { unread self.new.sockets ≡ unread self.old.sockets }
-        ensures kept { self.new ≡ record self.old { sockets = self.new.sockets; stops = self.new.stops } }
+        ensures kept { self.new ≡ record self.old { sockets = self.new.sockets; failed_listens = self.new.failed_listens } }
     {
-        self.open()?;
-        let listened = match &mut self.sockets {
-            Some(sockets) => sockets.listen(self.rt, n, spec),
-            None => Err(WireError::Failed),
-        };
-        match listened {
+        match self.listen_at(n, spec) {
             Ok(()) => Ok(()),
-            Err(error) => Err(self.refuse(error)),
+            Err(error) => {
+                self.failed_listens = failed_with(error, self.failed_listens);
+                Err(error)
+            }
         }
     }
 
     #[tactic(auto, unfolding(crate::specs::Arrivals::Steps, crate::specs::Coming::StepGives, crate::specs::Dialled::AnswersStep, crate::specs::Linked::TellsStep))]
     fn next(&mut self) -> Result<Event, WireError>
-        ensures next { AfterNext (counts self.old.stops self.old.gones self.old.links.made) (counts self.new.stops self.new.gones self.new.links.made) result }
+        ensures next { AfterNext (counts self.old.failed_listens self.old.failed_nexts self.old.gones self.old.links.made) (counts self.new.failed_listens self.new.failed_nexts self.new.gones self.new.links.made) result }
         ensures comes { IfOk result (ComesNext self.old.course self.old.dials.list.items (unread self.old.sockets)) }
         ensures tells { IsHeld (unread self.old.sockets) (numbers self.old.links.list.items) → IfOk result (TellsOfOne (numbers self.old.links.list.items)) }
         ensures held { IsHeld (unread self.old.sockets) (numbers self.old.links.list.items) → IfOk result (λ e. IsHeld (unread self.new.sockets) (numbers self.new.links.list.items)) }
         ensures rest { IfOk result (Leaves (unread self.old.sockets) (unread self.new.sockets) (unread self.old.sockets).left) }
         ensures names { IfOk result (NamesListener (listening self.old.sockets)) }
-        ensures retries { IfOk result (RetriesAt self.old.course.second self.new.sockets) }
+        ensures moves { IfOk result (MovesAt self.old.course.second self.new.sockets) }
         ensures listening { listening self.new.sockets ≡ listening self.old.sockets }
-        ensures stops { self.new.stops ≡ stops_after result self.old.stops }
         ensures course { IfOk result (λ e. self.new.course ≡ after_event e self.old.course) }
         ensures links { IfOk result (λ e. numbers self.new.links.list.items ≡ numbers_after e (numbers self.old.links.list.items)) }
         ensures dials { IfOk result (λ e. Answers e self.old.dials.list.items self.new.dials.list.items) }
         ensures err { OnErr result ((self.new.course ≡ self.old.course) × (numbers self.new.links.list.items ≡ numbers self.old.links.list.items) × (self.new.dials.list.items ≡ self.old.dials.list.items)) }
         ensures unread { OnErr result (0 < length (unread self.old.sockets).left → unread self.new.sockets ≡ unread self.old.sockets) }
     {
-        self.open()?;
+        if let Err(error) = self.open_sockets() {
+            return Err(self.refuse_next(error));
+        }
         for _ in self.rt.forever() {
-            if let Some(event) = self.step()? {
-                self.course.note(&event);
-                return Ok(event);
+            match self.step() {
+                Ok(Some(event)) => {
+                    self.course.note(&event);
+                    return Ok(event);
+                }
+                Ok(None) => {}
+                Err(error) => return Err(self.refuse_next(error)),
             }
         }
         unreachable!()
     }
 
     fn send(&mut self, link: u32, bytes: &[u8]) -> Result<Sent, Memory>
-        ensures send { AfterSend (counts self.old.stops self.old.gones self.old.links.made) (counts self.new.stops self.new.gones self.new.links.made) link bytes.now result }
+        ensures send { AfterSend (counts self.old.failed_listens self.old.failed_nexts self.old.gones self.old.links.made) (counts self.new.failed_listens self.new.failed_nexts self.new.gones self.new.links.made) link bytes.now result }
         ensures there { IfOk result (TakesOf (numbers self.old.links.list.items) link) }
         ensures held { IsHeld (unread self.old.sockets) (numbers self.old.links.list.items) → IsHeld (unread self.new.sockets) (numbers self.new.links.list.items) }
         ensures unread { unread self.new.sockets ≡ unread_after result link (unread self.old.sockets) }
         ensures listening { listening self.new.sockets ≡ listening self.old.sockets }
         ensures course { self.new.course ≡ after_offer result self.old.course }
-        ensures gones { self.new.gones ≡ gones_after result self.old.gones }
         ensures links { OnOk result (numbers self.new.links.list.items ≡ after_sent result link (numbers self.old.links.list.items)) }
         ensures others { without link self.new.links.list.items ≡ without link self.old.links.list.items }
         ensures err { OnErr result (self.new.links.list.items ≡ self.old.links.list.items) }
@@ -452,7 +479,7 @@ impl<'a, R: Net + Clock + Wait> Wire for MioWire<'a, R> {
 
     #[tactic(auto, unfolding(crate::specs::Held::listening, crate::specs::Held::unread, crate::specs::Unread::IsHeld))]
     fn close(&mut self, link: u32) -> Result<(), Memory>
-        ensures close { AfterAct (counts self.old.stops self.old.gones self.old.links.made) (counts self.new.stops self.new.gones self.new.links.made) (with_closed link) result }
+        ensures close { AfterAct (counts self.old.failed_listens self.old.failed_nexts self.old.gones self.old.links.made) (counts self.new.failed_listens self.new.failed_nexts self.new.gones self.new.links.made) (with_closed link) result }
         ensures held { IsHeld (unread self.old.sockets) (numbers self.old.links.list.items) → IsHeld (unread self.new.sockets) (numbers self.new.links.list.items) }
         ensures links { (self.new.links.list.items ≡ without link self.old.links.list.items) × (self.new.links.made ≡ self.old.links.made) }
         ensures unread { unread self.new.sockets ≡ forgotten link (unread self.old.sockets) }
@@ -469,7 +496,7 @@ impl<'a, R: Net + Clock + Wait> Wire for MioWire<'a, R> {
     /// Begins to connect to an uplink's address, or to the next one of its name, which is looked up where none is left. A
     /// look-up waits, and the whole server with it. The answer comes from `next`: within 30 s, `Unjoined` where it isn't joined.
     fn dial(&mut self, uplink: u16, spec: &UplinkSpec) -> Result<(), Memory>
-        ensures dial { AfterAct (counts self.old.stops self.old.gones self.old.links.made) (counts self.new.stops self.new.gones self.new.links.made) (with_dial uplink spec.now) result }
+        ensures dial { AfterAct (counts self.old.failed_listens self.old.failed_nexts self.old.gones self.old.links.made) (counts self.new.failed_listens self.new.failed_nexts self.new.gones self.new.links.made) (with_dial uplink spec.now) result }
         ensures listening { listening self.new.sockets ≡ listening self.old.sockets }
         ensures begun { OnOk result (Begins uplink spec.now self.old.course.second self.old.dials.list.items self.new.dials.list.items) }
         ensures unread { unread self.new.sockets ≡ unread self.old.sockets }
@@ -483,7 +510,7 @@ impl<'a, R: Net + Clock + Wait> Wire for MioWire<'a, R> {
 
     /// Casts from the socket of the peer group's listener, or of the one with the greatest number. A lost datagram is no fault.
     fn cast(&mut self, peer: u16, to: Addr, bytes: &[u8]) -> Result<(), Memory>
-        ensures cast { AfterAct (counts self.old.stops self.old.gones self.old.links.made) (counts self.new.stops self.new.gones self.new.links.made) (with_cast peer to bytes.now) result }
+        ensures cast { AfterAct (counts self.old.failed_listens self.old.failed_nexts self.old.gones self.old.links.made) (counts self.new.failed_listens self.new.failed_nexts self.new.gones self.new.links.made) (with_cast peer to bytes.now) result }
         ensures kept { self.new ≡ self.old }
     {
         if let Some(sockets) = &self.sockets {

@@ -1,9 +1,10 @@
 //! Serving the sources that are ready.
-ghost use Rattle.std.specs.Prelude.{◌≡◌, ◌+◌, ◌<◌, ◌≤◌, ◌^◌, Some, OnOk, OnErr, IfOk, IfSome, Contains, length, option_map, slice_get, vec_len};
+ghost use Rattle.std.specs.Prelude.{◌≡◌, ◌+◌, ◌<◌, ◌≤◌, ◌^◌, Some, OnOk, OnErr, IfNone, IfOk, IfSome, Contains, length, option_map, slice_get, vec_len};
+ghost use Rattle.std.specs.Io.KnownBytes.{Consumes};
 ghost use Rattle.mio_wire.specs.Arrivals.{IsArrival, IsMail, IsUnasked, Steps};
 ghost use Rattle.mio_wire.specs.Dialled.{AnswersStep};
 ghost use Rattle.mio_wire.specs.Held.{BringsAt, NamesStep, OpensAt, listening_of};
-ghost use Rattle.mio_wire.specs.Linked.{TellsStep, numbers, reading_of, without};
+ghost use Rattle.mio_wire.specs.Linked.{TellsStep, at_place, numbers, reading_of, without};
 ghost use Rattle.mio_wire.specs.Sources.{after_read, waiting_after};
 ghost use Rattle.mio_wire.specs.Unread.{IsHeld};
 
@@ -17,7 +18,7 @@ use aprs_base::{Addr, Event};
 use mio::net::{TcpListener, TcpStream};
 use mio::{Interest, Poll, Token};
 use std::alloc::AllocError;
-use std::io::{self, ErrorKind};
+use std::io::{self, ErrorKind, Read};
 
 /// How many links one listener opens in a turn.
 const MOST_OPENED: u32 = 64;
@@ -30,7 +31,7 @@ impl Sockets {
     #[tactic(auto, using(crate::proofs::ArrivalLemmas::mail_steps, crate::proofs::ArrivalLemmas::mail_tells, crate::proofs::ArrivalLemmas::mail_unasked, crate::proofs::ArrivalLemmas::unasked_answers, crate::proofs::ArrivalLemmas::unasked_arrives, crate::proofs::HeldLemmas::held_none), unfolding(crate::specs::Arrivals::IsArrival, crate::specs::Arrivals::Steps, crate::specs::Dialled::AnswersStep, crate::specs::Held::NamesStep, crate::specs::Linked::TellsStep, crate::specs::Unread::IsHeld))]
     pub(crate) fn serve(
         &mut self,
-        links: &mut Links,
+        links: &mut Links<TcpStream>,
         dials: &mut Dials,
     ) -> Result<Option<Event>, AllocError>
         requires { length self.old.inbox.left ≡ 0 }
@@ -105,7 +106,7 @@ impl Sockets {
     #[tactic(auto, unfolding(crate::specs::Arrivals::IsArrival, crate::specs::Arrivals::Steps, crate::specs::Dialled::AnswersStep, crate::specs::Held::NamesStep, crate::specs::Linked::TellsStep))]
     fn serve_dial(
         &mut self,
-        links: &mut Links,
+        links: &mut Links<TcpStream>,
         dials: &mut Dials,
         token: usize,
         ready: Ready,
@@ -135,7 +136,7 @@ impl Sockets {
     #[tactic(auto, unfolding(crate::specs::Arrivals::IsArrival, crate::specs::Arrivals::Steps, crate::specs::Dialled::AnswersStep, crate::specs::Held::NamesStep, crate::specs::Linked::TellsStep))]
     fn join(
         &mut self,
-        links: &mut Links,
+        links: &mut Links<TcpStream>,
         dials: &mut Dials,
         place: usize,
     ) -> Result<Option<Event>, AllocError>
@@ -184,7 +185,7 @@ impl Sockets {
     /// Opens a link, or goes on where none waits.
     fn serve_ear(
         &mut self,
-        links: &mut Links,
+        links: &mut Links<TcpStream>,
         place: usize,
         token: usize,
     ) -> Result<Option<Event>, AllocError>
@@ -207,7 +208,7 @@ impl Sockets {
     #[tactic(auto, unfolding(crate::specs::Arrivals::IsUnasked, crate::specs::Arrivals::Steps, crate::specs::Held::OpensAt, crate::specs::Linked::TellsStep, crate::specs::Sources::waiting_after))]
     fn open_link(
         &mut self,
-        links: &mut Links,
+        links: &mut Links<TcpStream>,
         place: usize,
         token: usize,
     ) -> Result<Option<Event>, AllocError>
@@ -271,9 +272,9 @@ impl Sockets {
 
     /// Says that a link has room again, or reads what it brings.
     #[tactic(auto, unfolding(crate::specs::Arrivals::IsUnasked, crate::specs::Arrivals::Steps, crate::specs::Held::NamesStep, crate::specs::Linked::TellsStep, crate::specs::Unread::IsHeld))]
-    fn serve_link(
+    fn serve_link<S: Read + Drop>(
         &mut self,
-        links: &mut Links,
+        links: &mut Links<S>,
         number: u32,
         ready: Ready,
     ) -> Result<Option<Event>, AllocError>
@@ -305,9 +306,9 @@ impl Sockets {
 
     /// Reads once from a link, which has another turn where more may be there.
     #[tactic(auto, unfolding(crate::specs::Arrivals::IsUnasked, crate::specs::Arrivals::Steps, crate::specs::Held::NamesStep, crate::specs::Linked::TellsStep, crate::specs::Unread::IsHeld))]
-    fn read(
+    fn read<S: Read + Drop>(
         &mut self,
-        links: &mut Links,
+        links: &mut Links<S>,
         place: usize,
         number: u32,
     ) -> Result<Option<Event>, AllocError>
@@ -316,6 +317,7 @@ impl Sockets {
         requires at { option_map (λ l. l.number) (slice_get links.old.list.items place) ≡ Some number }
         requires there { Contains (numbers links.old.list.items) number }
         ensures link { 1 ≤ length self.new.inbox.left → self.new.inbox.link ≡ number }
+        ensures bytes { IfOk result (λ o. IfNone o (Consumes (at_place S.remaining links.old.list.items place) (at_place S.remaining links.new.list.items place) self.new.inbox.left)) }
         ensures later { OnOk result (1 ≤ length self.new.inbox.left → IfSome (slice_get links.old.list.items place) (λ l. self.new.turns.later.items ≡ after_read (reading_of (length self.new.inbox.left) l.closed) number self.old.turns.later.items)) }
         ensures others { without number links.new.list.items ≡ without number links.old.list.items }
         ensures tells { IfOk result (TellsStep (numbers links.old.list.items)) }

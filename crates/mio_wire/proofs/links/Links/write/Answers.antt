@@ -1,22 +1,26 @@
-use Rattle.std.proofs.Common.{◌≡◌, refl, sym, ap, set, ◌∙◌}
+use Rattle.std.proofs.Common.{◌≡◌, take, refl, sym, ap, set, ◌∙◌}
 use Rattle.mio_wire.specs.Linked.{numbers}
 use Rattle.mio_wire.specs.declared.links.Link.{Link}
-use Rattle.mio_wire.proofs.LinkLemmas.{number_of, numbers-set, without-set}
+use Rattle.mio_wire.proofs.LinkLemmas.{at_written, number_of, numbers-set, without-set}
 use Rattle.mio_wire.proofs.links.Links.write.Goals as goal
 
 pub invariant_of-self : goal.invariant_of-self
-invariant_of-self c =
+invariant_of-self g c =
     let old = c.args.self.now in
     let same : numbers (set old.list.items c.args.place c.write.new.self) ≡ numbers old.list.items =
-    numbers-set old.list.items c.args.place c.write.new.self c.index_mut.result.now (c.write.ensures.number ∙ ap (λ (l : Link). l.number) c.index_mut.ensures.value) in
+    numbers-set old.list.items c.args.place c.write.new.self c.index_mut.result.now (c.write.ensures.number ∙ ap (λ (l : Link _). l.number) c.index_mut.ensures.value) in
     rw same (record { rising = old.rising; counted = old.counted })
 
 pub returns-clause-same : goal.returns-clause-same
-returns-clause-same c = (numbers-set c.args.self.now.list.items c.args.place c.write.new.self c.index_mut.result.now (c.write.ensures.number ∙ ap (λ (l : Link). l.number) c.index_mut.ensures.value), refl)
+returns-clause-same g c = (numbers-set c.args.self.now.list.items c.args.place c.write.new.self c.index_mut.result.now (c.write.ensures.number ∙ ap (λ (l : Link _). l.number) c.index_mut.ensures.value), refl)
 
 pub returns-clause-others : goal.returns-clause-others
-returns-clause-others c = λ number at.
+returns-clause-others g c = λ number at.
     let old = c.args.self.now.list.items in
     let link = c.index_mut.result.now in
     let is : link.number ≡ number = number_of old c.args.place link number c.requires c.index_mut.ensures.value at in
-    without-set number old c.args.place c.write.new.self link c.requires (ap (λ (l : Link). l.number) (sym c.index_mut.ensures.value) ∙ is) (c.write.ensures.number ∙ is)
+    without-set number old c.args.place c.write.new.self link c.requires (ap (λ (l : Link _). l.number) (sym c.index_mut.ensures.value) ∙ is) (c.write.ensures.number ∙ is)
+
+pub returns-clause-bytes : goal.returns-clause-bytes
+returns-clause-bytes g c =
+    at_written g.S.Write.contents c.args.self.now.list.items c.args.place c.index_mut.result.now c.write.new.self c.write.result (λ w. take w.taken c.args.bytes.now) c.requires c.index_mut.ensures.value c.write.ensures.bytes

@@ -6,38 +6,38 @@ use Rattle.mio_wire.proofs.NextLemmas.{comes_from, leaves_from}
 use Rattle.mio_wire.proofs.wire.MioWireWire.next.Goals as goal
 use Rattle.mio_wire.specs.Coming.{StepGives}
 
-pub returns-in-Some-2-clause-comes : goal.returns-in-Some-2-clause-comes
+pub returns-in-Ok-Some-clause-comes : goal.returns-in-Ok-Some-clause-comes
 unfolding StepGives
-returns-in-Some-2-clause-comes g c =
+returns-in-Ok-Some-clause-comes g c =
     let start = c.args.self.now in
-    let course : c.loop.self.course ≡ start.course = rw c.open.ensures.kept at c.loop.invariant.8 in
-    let dials : c.loop.self.dials.list.items ≡ start.dials.list.items = rw c.open.ensures.kept at c.loop.invariant.6 in
-    let same : 0 < length (unread start.sockets).left → unread c.loop.self.sockets ≡ unread start.sockets = rw c.open.ensures.unread at c.loop.invariant.7 in
-    let gives = rw c.in-Some-2.is at c.in_ok-event.ensures.gives in
-    comes_from start.course start.dials.list.items (unread start.sockets) (unread c.loop.self.sockets) c.in-Some-2.event same (rw (course, dials) at gives)
+    let course : c.loop.self.course ≡ start.course = rw c.open_sockets.ensures.kept at c.loop.invariant.8 in
+    let dials : c.loop.self.dials.list.items ≡ start.dials.list.items = rw c.open_sockets.ensures.kept at c.loop.invariant.6 in
+    let same : 0 < length (unread start.sockets).left → unread c.loop.self.sockets ≡ unread start.sockets = rw c.open_sockets.ensures.unread at c.loop.invariant.7 in
+    let gives = rw c.in-Ok-Some.field-0-is at c.in-Ok-Some.ensures.gives in
+    comes_from start.course start.dials.list.items (unread start.sockets) (unread c.loop.self.sockets) c.in-Ok-Some.event same (rw (course, dials) at gives)
 
-pub returns-in-Some-2-clause-rest : goal.returns-in-Some-2-clause-rest
-returns-in-Some-2-clause-rest g c =
+pub returns-in-Ok-Some-clause-rest : goal.returns-in-Ok-Some-clause-rest
+returns-in-Ok-Some-clause-rest g c =
     let start = c.args.self.now in
-    let same : 0 < length (unread start.sockets).left → unread c.loop.self.sockets ≡ unread start.sockets = rw c.open.ensures.unread at c.loop.invariant.7 in
-    leaves_from (unread start.sockets).link (unread start.sockets).left (unread c.loop.self.sockets) (unread c.step.new.self.sockets) c.in-Some-2.event same (rw c.in-Some-2.is at c.in_ok-event.ensures.rest)
+    let same : 0 < length (unread start.sockets).left → unread c.loop.self.sockets ≡ unread start.sockets = rw c.open_sockets.ensures.unread at c.loop.invariant.7 in
+    leaves_from (unread start.sockets).link (unread start.sockets).left (unread c.loop.self.sockets) (unread c.step.new.self.sockets) c.in-Ok-Some.event same (rw c.in-Ok-Some.field-0-is at c.in-Ok-Some.ensures.rest)
 
-pub returns-in-Some-2-clause-tells : goal.returns-in-Some-2-clause-tells
+pub returns-in-Ok-Some-clause-tells : goal.returns-in-Ok-Some-clause-tells
 unfolding TellsStep
-returns-in-Some-2-clause-tells g c = λ held.
-    let opened : IsHeld (unread c.open.new.self.sockets) (numbers c.open.new.self.links.list.items) = rw (c.open.ensures.unread, c.open.ensures.kept) held in
-    let tells : TellsStep (numbers c.loop.self.links.list.items) c.in_ok-event.field-0 = c.in_ok-event.ensures.tells (c.loop.invariant.9 opened) in
-    let same : numbers c.loop.self.links.list.items ≡ numbers c.args.self.now.links.list.items = rw c.open.ensures.kept at c.loop.invariant.5 in
-    rw (c.in-Some-2.is, same) at tells
+returns-in-Ok-Some-clause-tells g c = λ held.
+    let opened : IsHeld (unread c.open_sockets.new.self.sockets) (numbers c.open_sockets.new.self.links.list.items) = rw (c.open_sockets.ensures.unread, c.open_sockets.ensures.kept) held in
+    let tells : TellsStep (numbers c.loop.self.links.list.items) c.in-Ok-Some.field-0 = c.in-Ok-Some.ensures.tells (c.loop.invariant.9 opened) in
+    let same : numbers c.loop.self.links.list.items ≡ numbers c.args.self.now.links.list.items = rw c.open_sockets.ensures.kept at c.loop.invariant.5 in
+    rw (c.in-Ok-Some.field-0-is, same) at tells
 
-pub returns-in-Some-2-clause-held : goal.returns-in-Some-2-clause-held
-returns-in-Some-2-clause-held g c = λ held.
-    let opened : IsHeld (unread c.open.new.self.sockets) (numbers c.open.new.self.links.list.items) = rw (c.open.ensures.unread, c.open.ensures.kept) held in
-    c.in_ok-event.ensures.held (c.loop.invariant.9 opened)
+pub returns-in-Ok-Some-clause-held : goal.returns-in-Ok-Some-clause-held
+returns-in-Ok-Some-clause-held g c = λ held.
+    let opened : IsHeld (unread c.open_sockets.new.self.sockets) (numbers c.open_sockets.new.self.links.list.items) = rw (c.open_sockets.ensures.unread, c.open_sockets.ensures.kept) held in
+    c.in-Ok-Some.ensures.held (c.loop.invariant.9 opened)
 
-pub returns-in-Some-2-clause-names : goal.returns-in-Some-2-clause-names
+pub returns-in-Ok-Some-clause-names : goal.returns-in-Ok-Some-clause-names
 unfolding NamesStep
-returns-in-Some-2-clause-names g c =
-    let same : listening c.loop.self.sockets ≡ listening c.args.self.now.sockets = c.loop.invariant.10 ∙ c.open.ensures.listening in
-    let names : NamesStep (listening c.loop.self.sockets) c.in_ok-event.field-0 = c.in_ok-event.ensures.names in
-    rw (c.in-Some-2.is, same) at names
+returns-in-Ok-Some-clause-names g c =
+    let same : listening c.loop.self.sockets ≡ listening c.args.self.now.sockets = c.loop.invariant.10 ∙ c.open_sockets.ensures.listening in
+    let names : NamesStep (listening c.loop.self.sockets) c.in-Ok-Some.field-0 = c.in-Ok-Some.ensures.names in
+    rw (c.in-Ok-Some.field-0-is, same) at names

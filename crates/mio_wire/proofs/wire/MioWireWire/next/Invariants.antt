@@ -9,8 +9,8 @@ abbrev pub invariant-loop : goal.invariant-loop
 invariant-loop g l =
     (goal.iterator-loop g).can_next l.iterator'
     × (goal.iterator-loop g).is_finite l.iterator'
-    × (l.self.stops ≡ l.initial.self.stops)
-    × (l.self.gones ≡ l.initial.self.gones)
+    × (l.self.failed_listens ≡ l.initial.self.failed_listens)
+    × ((l.self.failed_nexts ≡ l.initial.self.failed_nexts) × (l.self.gones ≡ l.initial.self.gones))
     × (l.self.links.made ≡ l.initial.self.links.made)
     × (numbers l.self.links.list.items ≡ numbers l.initial.self.links.list.items)
     × (l.self.dials.list.items ≡ l.initial.self.dials.list.items)
