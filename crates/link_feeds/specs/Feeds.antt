@@ -1,5 +1,5 @@
 -- The links with all that came to them, whether it was matched yet or not.
-use Rattle.std.specs.Prelude.{ℕ, ◌^◌, ◌-◌, ◌==◌, Bool, true, false, not, min, List, [], ◌∷◌, map, Option, Some, None}
+use Rattle.std.specs.Prelude.{ℕ, ◌^◌, ◌-◌, ◌==◌, ◌||◌, Bool, true, false, not, min, List, [], ◌∷◌, map, Option, Some, None}
 use Rattle.std.specs.List.{list_any, sum_by}
 use Rattle.filter_lang.specs.Terms.{TermSeen}
 use Rattle.filter_eval.specs.Passes.{fresh}
@@ -8,6 +8,7 @@ use Rattle.link_queue.specs.Queues.{without_bytes}
 use Rattle.worker_match.specs.Seen.{LinkSeen, ItemSeen, Told}
 use Rattle.worker_match.specs.Walk.{after, walked}
 use Rattle.worker_match.specs.declared.links.Feed.{Feed}
+use Rattle.worker_match.specs.declared.links.Feed.TheVariants as feed
 
 -- the links as what came leaves them, and whether all of it was matched
 pub record FeedsSeen : Type 0 where
@@ -67,6 +68,18 @@ counted link = record link { put = 0 }
 
 abbrev pub put_of : LinkSeen → ℕ
 put_of link = link.put
+
+-- it has left, and comes to nothing any more: it keeps its place until all such are let go
+abbrev pub left : LinkSeen → LinkSeen
+left link = record link { feed = feed.Nothing; inbound = false }
+
+abbrev pub is_fed : Feed → Bool
+is_fed feed.Nothing = false
+is_fed other = true
+
+-- it hasn't left: who has come from the other side waits to be fed, and an uplink is fed from the first
+abbrev pub is_served : LinkSeen → Bool
+is_served link = link.inbound || is_fed link.feed
 
 -- how many packet lines were put into the queues, up to a counter's last value
 abbrev pub put_in : List LinkSeen → ℕ

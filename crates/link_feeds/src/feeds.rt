@@ -1,14 +1,15 @@
 //! The links, and what came to them since it was last matched.
-ghost use Rattle.std.specs.Prelude.{◌≡◌, ◌==◌, ◌++◌, ◌∷◌, ◌≤◌, ◌<◌, [], IfOk, IfSome, OnErr, OnOk, Some, false, true, filter, length, map, min, slice_get, slice_set, take};
+ghost use Rattle.std.specs.Prelude.{◌≡◌, ◌==◌, ◌++◌, ◌∷◌, ◌≤◌, ◌<◌, [], IfOk, IfSome, OnErr, OnOk, Some, drop, false, true, filter, length, map, min, slice_get, slice_set, take};
 ghost use Rattle.std.specs.Arc.{arc_value};
 ghost use Rattle.link_queue.specs.Queues.{pending_bytes};
-ghost use Rattle.link_feeds.specs.Feeds.{counted, forgotten, is_other, is_over, link_of, met_by, new_feed, put_in, told, with_login, with_taken, with_terms};
+ghost use Rattle.link_feeds.specs.Feeds.{counted, forgotten, is_other, is_over, is_served, left, link_of, met_by, new_feed, put_in, told, with_login, with_taken, with_terms};
 ghost use Rattle.worker_match.specs.Items.{item_seen};
 ghost use Rattle.worker_match.specs.Seen.{LinkSeen};
 ghost use Rattle.worker_match.specs.Walk.{IsOrdered};
 
 use crate::states::{
-    count_each, drop_each, forget_each, log_in, opened, overfull, put_by, set_filter, walk_each,
+    count_each, drop_each, forget_each, leave, log_in, opened, overfull, put_by, set_filter, sweep,
+    walk_each,
 };
 use aprs_base::{Call, Gate, Line, Memory};
 use filter_eval::{Friends, Seen};
@@ -197,6 +198,24 @@ impl Feeds {
         drop_each(&mut self.states, numbers);
     }
 
+    /// The link at that place leaves: it comes to nothing any more, and keeps its place until those that left are let go. What came
+    /// must have been matched.
+    pub fn leave(&mut self, place: usize)
+        requires settled { self.old.settled ≡ true }
+        requires within { place < length self.old.links }
+        ensures { (link : LinkSeen) → slice_get self.old.links place ≡ Some link → self.new ≡ record self.old { links = slice_set self.old.links place (left link) } }
+    {
+        leave(&mut self.states[place]);
+    }
+
+    /// All links that left are let go. What came must have been matched.
+    pub fn sweep(&mut self)
+        requires { self.old.settled ≡ true }
+        ensures { self.new ≡ record self.old { links = filter is_served self.old.links } }
+    {
+        sweep(&mut self.states);
+    }
+
     /// All links leave, and nothing waits to be matched.
     pub fn clear(&mut self)
         ensures { self.new ≡ record { links = []; settled = true } }
@@ -258,13 +277,14 @@ impl Feeds {
         self.states[place].tell(line);
     }
 
-    /// Writes the next bytes of the link at that place, as many as there are and as fit, and says how many. What came must have
-    /// been matched.
+    /// Writes the next bytes of the link at that place, as many as there are and as fit, and says how many. The buffer stays as it
+    /// was behind them. What came must have been matched.
     pub fn front_bytes(&self, place: usize, out: &mut [u8]) -> usize
         requires settled { self.now.settled ≡ true }
         requires within { place < length self.now.links }
         ensures count { (link : LinkSeen) → slice_get self.now.links place ≡ Some link → result ≡ min (length out.old) (length (pending_bytes link.queue)) }
         ensures bytes { (link : LinkSeen) → slice_get self.now.links place ≡ Some link → take result out.new ≡ take (length out.old) (pending_bytes link.queue) }
+        ensures rest { drop result out.new ≡ drop result out.old }
     {
         self.states[place].queue.front_bytes(out)
     }

@@ -2,7 +2,7 @@
 ghost use Rattle.std.specs.Prelude.{◌≡◌, ◌==◌, All, IfOk, OnOk, filter, length, map};
 ghost use Rattle.std.specs.List.{list_any};
 ghost use Rattle.std.specs.Arc.{arc_value};
-ghost use Rattle.link_feeds.specs.Feeds.{counted, forgotten, is_other, is_over, link_of, new_feed, put_in, told, with_login, with_terms};
+ghost use Rattle.link_feeds.specs.Feeds.{counted, forgotten, is_other, is_fed, is_over, is_served, left, link_of, new_feed, put_in, told, with_login, with_terms};
 ghost use Rattle.worker_match.specs.Items.{items_seen};
 ghost use Rattle.worker_match.specs.Walk.{IsOrdered, walked};
 
@@ -130,6 +130,33 @@ pub(crate) fn drop_each(states: &mut Vec<LinkState>, numbers: &[u32])
     ensures { states.new.items ≡ filter (is_other numbers.now) states.old.items }
 {
     states.retain(|state| is_other(state, numbers));
+}
+
+/// It has left.
+pub(crate) fn leave(state: &mut LinkState)
+    ensures { state.new ≡ left state.old }
+{
+    state.feed = Feed::Nothing;
+    state.inbound = false;
+}
+
+fn is_fed(feed: Feed) -> bool
+    ensures { result ≡ is_fed feed }
+{
+    !matches!(feed, Feed::Nothing)
+}
+
+fn is_served(state: &LinkState) -> bool
+    ensures { result ≡ is_served state.now }
+{
+    state.inbound || is_fed(state.feed)
+}
+
+/// Those that left are let go.
+pub(crate) fn sweep(states: &mut Vec<LinkState>)
+    ensures { states.new.items ≡ filter is_served states.old.items }
+{
+    states.retain(|state| is_served(state));
 }
 
 pub(crate) fn overfull(alloc: Global, states: &[LinkState]) -> Result<Vec<u32>, Memory>

@@ -1,5 +1,6 @@
 pub mod AskedLemmas
 pub mod FedLemmas
+pub mod HereLemmas
 pub mod LinkLemmas
 pub mod LoginLemmas
 pub mod OverLemmas

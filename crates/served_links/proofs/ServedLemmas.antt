@@ -206,6 +206,25 @@ none_put ss = ap (λ n. min n (2 ^ 64 - 1)) (none ss)
     none [] = refl
     none (s ∷ ss) = let first = sum_by-cons put_of (counted s) (map counted ss) in let rest = none ss in omega (arith, first, rest)
 
+-- nor do some of them count then
+pub none_put_of : (p : worker.LinkSeen → Bool) (ss : List worker.LinkSeen) → put_in (filter p (map counted ss)) ≡ 0
+none_put_of p ss = ap (λ n. min n (2 ^ 64 - 1)) (none ss)
+  where
+    none : (ss : List worker.LinkSeen) → sum_by put_of (filter p (map counted ss)) ≡ 0
+    none [] = refl
+    none (s ∷ ss) =
+        let rest = none ss in
+        ⊎_elim
+        (λ (stays : p (counted s) ≡ true). rw stays (let first = sum_by-cons put_of (counted s) (filter p (map counted ss)) in omega (arith, first, rest)))
+        (λ (leaves : p (counted s) ≡ false). rw leaves rest)
+        (cases_Bool (p (counted s)))
+
+pub capped_put : (ss : List worker.LinkSeen) → min (put_in ss + 0) (2 ^ 64 - 1) ≡ put_in ss
+capped_put ss = capped (sum_by put_of ss) 0 (2 ^ 64 - 1) ∙ ap (λ n. min n (2 ^ 64 - 1)) (let same : sum_by put_of ss + 0 ≡ sum_by put_of ss = omega arith in same)
+
+pub put_alone : (ss : List worker.LinkSeen) → more (put_in ss) 0 ≡ put_in ss
+put_alone ss = ap (λ n. min n (2 ^ 64 - 1)) (let same : 0 + put_in ss ≡ put_in ss + 0 = omega arith in same) ∙ capped_put ss
+
 -- a step that puts no packet line
 pub put_kept : (g : worker.LinkSeen → worker.LinkSeen) → ((h : LinkSeen) (s : worker.LinkSeen) → Matches h s → (g s).put ≡ s.put) → (hs : List LinkSeen) (ss : List worker.LinkSeen) → AllMatch hs ss → put_in (map g ss) ≡ put_in ss
 put_kept g same hs ss all = ap (λ n. min n (2 ^ 64 - 1)) (sums hs ss all)

@@ -6,7 +6,7 @@ use Rattle.std.proofs.Math.Seq.{map-set_same}
 use Rattle.std.proofs.Math.Bool.{and-false}
 use Rattle.std.proofs.lemmas.Bool.{cases_Bool, true≢false}
 use Rattle.std.proofs.lemmas.List.{length-map}
-use Rattle.std.proofs.lemmas.Option.{get_or_from_slice_get}
+use Rattle.std.proofs.lemmas.Option.{get_or_from_slice_get, slice_get-get_or}
 use Rattle.aprs_base.specs.PacketSeen.{PacketSeen}
 use Rattle.aprs_base.specs.declared.packets.Source.{Source}
 use Rattle.aprs_history.specs.declared.verdicts.Session.{Session}
@@ -15,7 +15,7 @@ use Rattle.aprs_history.specs.Stands.{LinkSeen}
 use Rattle.aprs_history.specs.Trace.{is_from}
 use Rattle.filter_eval.specs.Passes.{fresh}
 use Rattle.filter_eval.specs.declared.seen.Seen.{Seen}
-use Rattle.link_feeds.specs.Feeds.{FeedsSeen, counted, forgotten, is_other, met_by, new_feed, put_in, told, with_login, with_taken, with_terms}
+use Rattle.link_feeds.specs.Feeds.{FeedsSeen, counted, forgotten, is_other, is_served, met_by, new_feed, put_in, told, with_login, with_taken, with_terms}
 use Rattle.filter_lang.specs.Terms.{TermSeen}
 use Rattle.heard_routing.specs.Heard.{is_among}
 use Rattle.link_queue.specs.Queues as queue
@@ -24,8 +24,8 @@ use Rattle.worker_match.specs.Seen.{Came, ToldAll}
 use Rattle.worker_match.specs.Seen as worker
 use Rattle.worker_match.specs.Walk.{after}
 use Rattle.served_links.specs.Fed.{AllMatch, Matches, feed_of, joined, joined_all, new_half, offer_of, opening_feed, refused_of, shows_kept}
-use Rattle.served_links.specs.Halves.{AreHalves, ServedSeen, served_seen}
-use Rattle.served_links.specs.Links.{Rises, has_that, is_none_of, number_of, numbers, pending_at, pending_of}
+use Rattle.served_links.specs.Halves.{AreHalves, AtRest, ServedSeen, served_seen}
+use Rattle.served_links.specs.Links.{Rises, has_that, here, is_at, is_here, is_none_of, is_whole, named_of, number_of, numbers, pending_at, pending_of, when_left}
 use Rattle.served_links.specs.Changes.{at_link, at_moment, has_room, is_asked_at, is_shown_at, takes_packet, takes_shown, with_date, with_packet, with_shown, with_text}
 use Rattle.served_links.specs.Halves.{more}
 use Rattle.served_links.specs.declared.link.SourcePlace.{SourcePlace}
@@ -33,8 +33,9 @@ use Rattle.served_links.specs.declared.served.Served.TheInside.{Inside}
 use Rattle.aprs_history.proofs.NumberLemmas.{rises_higher}
 use Rattle.served_links.proofs.AskedLemmas.{listed_at}
 use Rattle.served_links.proofs.FedLemmas.{date_same, date_uncounted, heard_counted, heard_same, shown_counted, shown_same, told_matches, told_same, told_uncounted}
-use Rattle.served_links.proofs.LinkLemmas.{changed_by, changed_nowhere, picked_found, picked_none, position_some, rises_filter, rises_push, rises_at}
-use Rattle.served_links.proofs.ServedLemmas.{any_half, as_many, counted_all, counted_match, joined_at, joined_left, joined_push, match_at, match_left, match_push, match_set, none_put, numbers_same, position_same, put_changed, put_kept, put_left, put_push, put_set, rises_same, state_at, state_set, states_changed, states_match, halves_changed, halves_match}
+use Rattle.served_links.proofs.HereLemmas.{here_filter, here_left, none_left_here, here_push, here_stepped, joined_here, joined_whole, swept_joined, swept_match, match_here, named_all, named_at, named_set, present, same_whole}
+use Rattle.served_links.proofs.LinkLemmas.{position_none, changed_by, changed_nowhere, picked_found, picked_none, position_some, rises_filter, rises_push, rises_at}
+use Rattle.served_links.proofs.ServedLemmas.{any_same, any_half, as_many, counted_all, counted_match, joined_at, joined_left, joined_push, match_at, match_left, match_push, match_set, capped_put, none_put, none_put_of, numbers_same, position_same, put_changed, put_kept, put_left, put_push, put_set, rises_same, state_at, state_set, states_changed, states_match, halves_changed, halves_match}
 
 abbrev pub links_of : ServedSeen → List LinkSeen
 links_of served = served.links
@@ -46,22 +47,36 @@ abbrev pub rests_of : ServedSeen → Bool
 rests_of served = served.rests
 
 -- what is found of the sessions that are kept is found of the links as they are seen
-pub asked : {X : Type 0} (inside : Inside) {now : ServedSeen} {searched : List LinkSeen} → served_seen inside.halves.items inside.feeds inside.queued inside.rests ≡ now → searched ≡ inside.halves.items
-    → (f : List LinkSeen → X) → f (joined_all inside.halves.items inside.feeds.links) ≡ f inside.halves.items → f searched ≡ f now.links
-asked inside view same f alike = ap f same ∙ sym alike ∙ ap (λ (served : ServedSeen). f served.links) view
+pub asked : {X : Type 0} (inside : Inside) {now : ServedSeen} {searched : List LinkSeen} → served_seen inside.halves inside.feeds inside.queued inside.rests ≡ now → AllMatch inside.halves inside.feeds.links
+    → searched ≡ inside.halves → (f : List LinkSeen → X) → ((hs : List LinkSeen) (ss : List worker.LinkSeen) → AllMatch hs ss → f (joined_all hs ss) ≡ f hs) → f (here searched) ≡ f now.links
+asked inside view all same f alike =
+    let hs = inside.halves in
+    let ss = inside.feeds.links in
+    ap (λ links. f (here links)) same ∙ sym (alike (here hs) (present hs ss) (match_here hs ss all)) ∙ ap f (joined_here hs ss all) ∙ ap (λ (served : ServedSeen). f served.links) view
 
 -- no link is left
 none_left : (hs : List LinkSeen) (left : FeedsSeen) → (hs ≡ []) × (left ≡ record { links = []; settled = true }) → AreHalves hs left
 none_left hs left gone = subst (λ ls. AreHalves ls left) (sym gone.0) (subst (AreHalves []) (sym gone.1) (record { match = tt; rising = omega arith }))
 
+none_rests : (rests : Bool) (hs : List LinkSeen) (left : FeedsSeen) → (hs ≡ []) × (left ≡ record { links = []; settled = true }) → AtRest rests hs left
+none_rests rests hs left gone = (λ rest. ap (λ (f : FeedsSeen). f.settled) gone.1, λ rest. ap is_whole gone.0)
+
 -- a step of what the links are, which puts no packet line
 pub seen_changed : (hs new_hs : List LinkSeen) (feeds new : FeedsSeen) (queued : ℕ) (rests : Bool) (now : ServedSeen) (links : List LinkSeen) → served_seen hs feeds queued rests ≡ now
-    → joined_all new_hs new.links ≡ links → put_in new.links ≡ put_in feeds.links → new.settled ≡ feeds.settled → served_seen new_hs new queued rests ≡ record now { links = links }
+    → here (joined_all new_hs new.links) ≡ links → put_in new.links ≡ put_in feeds.links → new.settled ≡ feeds.settled → served_seen new_hs new queued rests ≡ record now { links = links }
 seen_changed hs new_hs feeds new queued rests now links is changed put settled =
     ap (λ (ls : List LinkSeen). record { links = ls; queued = more (put_in new.links) queued; settled = new.settled; rests = rests }) changed
     ∙ ap (λ n. record { links = links; queued = more n queued; settled = new.settled; rests = rests }) put
     ∙ ap (λ b. record { links = links; queued = more (put_in feeds.links) queued; settled = b; rests = rests }) settled
     ∙ ap (λ (s : ServedSeen). record s { links = links }) is
+
+-- the same of a step at each link, which keeps its number and its opening
+pub seen_stepped : (hs new_hs : List LinkSeen) (feeds new : FeedsSeen) (queued : ℕ) (rests : Bool) (now : ServedSeen) (step : LinkSeen → LinkSeen) → ((link : LinkSeen) → named_of (step link) ≡ named_of link)
+    → served_seen hs feeds queued rests ≡ now → joined_all new_hs new.links ≡ map step (joined_all hs feeds.links) → put_in new.links ≡ put_in feeds.links → new.settled ≡ feeds.settled
+    → served_seen new_hs new queued rests ≡ record now { links = map step now.links }
+seen_stepped hs new_hs feeds new queued rests now step same is changed put settled =
+    seen_changed hs new_hs feeds new queued rests now (map step now.links) is
+    (ap here changed ∙ here_stepped step same (joined_all hs feeds.links) ∙ ap (map step) (ap links_of is)) put settled
 
 -- ---- something comes to all links
 
@@ -77,55 +92,64 @@ none_more hs feeds queued rests now view =
     let is = ap (λ (s : ServedSeen). s.queued) view in ap (more 0) (sym is) ∙ none_later queued (put_in feeds.links) ∙ is
 
 -- after want of memory no link is left
-pub met_are : {E : Type 0} (r : Result ⊤ E) (inside : Inside) (left_hs : List LinkSeen) (left : FeedsSeen) (item : worker.ItemSeen) → AreHalves inside.halves.items inside.feeds
-    → ((h : LinkSeen) (s : worker.LinkSeen) → Matches h s → Matches h (after s item)) → OnOk r (left_hs ≡ inside.halves.items) → OnOk r (left.links ≡ met_by item inside.feeds.links)
-    → OnOk r (left.settled ≡ inside.rests) → OnErr r ((left_hs ≡ []) × (left ≡ record { links = []; settled = true })) → AreHalves left_hs left × (inside.rests ≡ true → left.settled ≡ true)
-met_are (Ok done) inside left_hs left item are kept same met settled gone = (
+pub met_are : {E : Type 0} (r : Result ⊤ E) (inside : Inside) (left_hs : List LinkSeen) (left : FeedsSeen) (item : worker.ItemSeen) → AreHalves inside.halves inside.feeds
+    → ((h : LinkSeen) (s : worker.LinkSeen) → Matches h s → Matches h (after s item)) → OnOk r (left_hs ≡ inside.halves) → OnOk r (left.links ≡ met_by item inside.feeds.links)
+    → OnOk r (left.settled ≡ inside.rests) → OnErr r ((left_hs ≡ []) × (left ≡ record { links = []; settled = true })) → AtRest inside.rests inside.halves inside.feeds → AreHalves left_hs left × AtRest inside.rests left_hs left
+met_are (Ok done) inside left_hs left item are kept same met settled gone resting = (
   subst (λ ls. AreHalves ls left) (sym same) (record {
-    match = subst (AllMatch inside.halves.items) (sym met) (states_match (λ s. after s item) kept inside.halves.items inside.feeds.links are.match);
+    match = subst (AllMatch inside.halves) (sym met) (states_match (λ s. after s item) kept inside.halves inside.feeds.links are.match);
     rising = are.rising;
   }),
-  λ rest. settled ∙ rest,
+  (λ rest. settled ∙ rest, λ rest. ap is_whole same ∙ resting.1 rest),
 )
-met_are (Err e) inside left_hs left item are kept same met settled gone = (none_left left_hs left gone, λ rest. ap (λ (f : FeedsSeen). f.settled) gone.1)
+met_are (Err e) inside left_hs left item are kept same met settled gone resting = (none_left left_hs left gone, none_rests inside.rests left_hs left gone)
 
-pub met_rises : {E : Type 0} (r : Result ⊤ E) (inside : Inside) (left_hs : List LinkSeen) (left : FeedsSeen) {now : ServedSeen} → served_seen inside.halves.items inside.feeds inside.queued inside.rests ≡ now
-    → AreHalves inside.halves.items inside.feeds → AreHalves left_hs left → OnOk r (left_hs ≡ inside.halves.items) → OnErr r ((left_hs ≡ []) × (left ≡ record { links = []; settled = true }))
-    → (high : ℕ) → Rises 0 (numbers now.links) high → Rises 0 (numbers (joined_all left_hs left.links)) high
+-- the numbers of those that are here, as they are kept
+pub numbers_here : (hs : List LinkSeen) (ss : List worker.LinkSeen) → AllMatch hs ss → numbers (here (joined_all hs ss)) ≡ numbers (here hs)
+numbers_here hs ss all = ap numbers (sym (joined_here hs ss all)) ∙ numbers_same (here hs) (present hs ss) (match_here hs ss all)
+
+pub met_rises : {E : Type 0} (r : Result ⊤ E) (inside : Inside) (left_hs : List LinkSeen) (left : FeedsSeen) {now : ServedSeen} → served_seen inside.halves inside.feeds inside.queued inside.rests ≡ now
+    → AreHalves inside.halves inside.feeds → AreHalves left_hs left → OnOk r (left_hs ≡ inside.halves) → OnErr r ((left_hs ≡ []) × (left ≡ record { links = []; settled = true }))
+    → (high : ℕ) → Rises 0 (numbers now.links) high → Rises 0 (numbers (here (joined_all left_hs left.links))) high
 met_rises (Ok done) inside left_hs left view are left_are same gone high rises =
-    subst (λ ns. Rises 0 ns high) (sym (numbers_same left_hs left.links left_are.match ∙ asked inside view same numbers (numbers_same inside.halves.items inside.feeds.links are.match))) rises
-met_rises (Err e) inside left_hs left view are left_are same gone high rises = subst (λ ls. Rises 0 (numbers (joined_all ls left.links)) high) (sym gone.0) (omega arith)
+    let hs = inside.halves in
+    let ss = inside.feeds.links in
+    subst (λ ns. Rises 0 ns high)
+    (sym (numbers_here left_hs left.links left_are.match ∙ ap (λ links. numbers (here links)) same ∙ sym (numbers_here hs ss are.match) ∙ ap (λ (served : ServedSeen). numbers served.links) view)) rises
+met_rises (Err e) inside left_hs left view are left_are same gone high rises = subst (λ ls. Rises 0 (numbers (here (joined_all ls left.links))) high) (sym gone.0) (omega arith)
 
 pub met_seen : {E : Type 0} (r : Result ⊤ E) (step : LinkSeen → LinkSeen) (count : ServedSeen → ℕ) (inside : Inside) (left_hs : List LinkSeen) (left : FeedsSeen) (item : worker.ItemSeen) {now : ServedSeen}
-    → joined_all inside.halves.items (met_by item inside.feeds.links) ≡ map step (joined_all inside.halves.items inside.feeds.links)
-    → more (put_in (met_by item inside.feeds.links)) inside.queued ≡ count (served_seen inside.halves.items inside.feeds inside.queued inside.rests)
-    → OnOk r (left_hs ≡ inside.halves.items) → OnOk r (left.links ≡ met_by item inside.feeds.links) → OnOk r (left.settled ≡ inside.rests)
-    → served_seen inside.halves.items inside.feeds inside.queued inside.rests ≡ now
+    → ((link : LinkSeen) → named_of (step link) ≡ named_of link)
+    → joined_all inside.halves (met_by item inside.feeds.links) ≡ map step (joined_all inside.halves inside.feeds.links)
+    → more (put_in (met_by item inside.feeds.links)) inside.queued ≡ count (served_seen inside.halves inside.feeds inside.queued inside.rests)
+    → OnOk r (left_hs ≡ inside.halves) → OnOk r (left.links ≡ met_by item inside.feeds.links) → OnOk r (left.settled ≡ inside.rests)
+    → served_seen inside.halves inside.feeds inside.queued inside.rests ≡ now
     → OnOk r (served_seen left_hs left inside.queued inside.rests ≡ record now { links = map step now.links; queued = count now; settled = now.rests })
-met_seen (Ok done) step count inside left_hs left item stepped counts same met settled is =
+met_seen (Ok done) step count inside left_hs left item keeps stepped counts same met settled is =
     let met_links = met_by item inside.feeds.links in
+    let links = joined_all inside.halves inside.feeds.links in
     ap (λ ls. served_seen ls left inside.queued inside.rests) same
-    ∙ ap (λ (ls : List worker.LinkSeen). record { links = joined_all inside.halves.items ls; queued = more (put_in ls) inside.queued; settled = left.settled; rests = inside.rests }) met
-    ∙ ap (λ b. record { links = joined_all inside.halves.items met_links; queued = more (put_in met_links) inside.queued; settled = b; rests = inside.rests }) settled
-    ∙ ap (λ (ls : List LinkSeen). record { links = ls; queued = more (put_in met_links) inside.queued; settled = inside.rests; rests = inside.rests }) stepped
-    ∙ ap (λ m. record { links = map step (joined_all inside.halves.items inside.feeds.links); queued = m; settled = inside.rests; rests = inside.rests }) counts
+    ∙ ap (λ (ls : List worker.LinkSeen). record { links = here (joined_all inside.halves ls); queued = more (put_in ls) inside.queued; settled = left.settled; rests = inside.rests }) met
+    ∙ ap (λ b. record { links = here (joined_all inside.halves met_links); queued = more (put_in met_links) inside.queued; settled = b; rests = inside.rests }) settled
+    ∙ ap (λ (ls : List LinkSeen). record { links = ls; queued = more (put_in met_links) inside.queued; settled = inside.rests; rests = inside.rests }) (ap here stepped ∙ here_stepped step keeps links)
+    ∙ ap (λ m. record { links = map step (here links); queued = m; settled = inside.rests; rests = inside.rests }) counts
     ∙ ap (λ (s : ServedSeen). record s { links = map step s.links; queued = count s; settled = s.rests }) is
-met_seen (Err e) step count inside left_hs left item stepped counts same met settled is = tt
+met_seen (Err e) step count inside left_hs left item keeps stepped counts same met settled is = tt
 
 -- all that came is matched
-pub settled_are : {E : Type 0} (r : Result ⊤ E) (inside : Inside) (left_hs : List LinkSeen) (left : FeedsSeen) → AreHalves inside.halves.items inside.feeds → OnOk r (left_hs ≡ inside.halves.items)
-    → OnOk r (left ≡ record inside.feeds { settled = true }) → OnErr r ((left_hs ≡ []) × (left ≡ record { links = []; settled = true })) → AreHalves left_hs left × (inside.rests ≡ true → left.settled ≡ true)
-settled_are (Ok done) inside left_hs left are same is gone = (
-  subst (λ ls. AreHalves ls left) (sym same) (subst (AreHalves inside.halves.items) (sym is) (record { match = are.match; rising = are.rising })),
-  λ rest. ap (λ (f : FeedsSeen). f.settled) is,
+pub settled_are : {E : Type 0} (r : Result ⊤ E) (inside : Inside) (left_hs : List LinkSeen) (left : FeedsSeen) → AreHalves inside.halves inside.feeds → OnOk r (left_hs ≡ inside.halves)
+    → OnOk r (left ≡ record inside.feeds { settled = true }) → OnErr r ((left_hs ≡ []) × (left ≡ record { links = []; settled = true })) → AtRest inside.rests inside.halves inside.feeds → AreHalves left_hs left × AtRest inside.rests left_hs left
+settled_are (Ok done) inside left_hs left are same is gone resting = (
+  subst (λ ls. AreHalves ls left) (sym same) (subst (AreHalves inside.halves) (sym is) (record { match = are.match; rising = are.rising })),
+  (λ rest. ap (λ (f : FeedsSeen). f.settled) is, λ rest. ap is_whole same ∙ resting.1 rest),
 )
-settled_are (Err e) inside left_hs left are same is gone = (none_left left_hs left gone, λ rest. ap (λ (f : FeedsSeen). f.settled) gone.1)
+settled_are (Err e) inside left_hs left are same is gone resting = (none_left left_hs left gone, none_rests inside.rests left_hs left gone)
 
-pub settled_seen : {E : Type 0} (r : Result ⊤ E) (inside : Inside) (left_hs : List LinkSeen) (left : FeedsSeen) {now : ServedSeen} → OnOk r (left_hs ≡ inside.halves.items)
-    → OnOk r (left ≡ record inside.feeds { settled = true }) → served_seen inside.halves.items inside.feeds inside.queued inside.rests ≡ now
+pub settled_seen : {E : Type 0} (r : Result ⊤ E) (inside : Inside) (left_hs : List LinkSeen) (left : FeedsSeen) {now : ServedSeen} → OnOk r (left_hs ≡ inside.halves)
+    → OnOk r (left ≡ record inside.feeds { settled = true }) → served_seen inside.halves inside.feeds inside.queued inside.rests ≡ now
     → OnOk r (served_seen left_hs left inside.queued inside.rests ≡ record now { settled = true })
 settled_seen (Ok done) inside left_hs left same is view =
-    ap (λ ls. served_seen ls left inside.queued inside.rests) same ∙ ap (λ f. served_seen inside.halves.items f inside.queued inside.rests) is ∙ ap (λ (s : ServedSeen). record s { settled = true }) view
+    ap (λ ls. served_seen ls left inside.queued inside.rests) same ∙ ap (λ f. served_seen inside.halves f inside.queued inside.rests) is ∙ ap (λ (s : ServedSeen). record s { settled = true }) view
 settled_seen (Err e) inside left_hs left same is view = tt
 
 -- a duplicate that is shown to nobody
@@ -193,9 +217,10 @@ left_seen ns hs left_hs feeds counts left put queued total rests now are halves 
     ap (λ ls. served_seen ls left total rests) halves
     ∙ ap (λ f. served_seen (filter (is_none_of ns) hs) f total rests) is
     ∙ ap (λ (f : FeedsSeen). served_seen (filter (is_none_of ns) hs) (record f { links = filter (is_other ns) f.links }) total rests) counting
-    ∙ ap (λ (ls : List LinkSeen). record { links = ls; queued = more (put_in (filter (is_other ns) ss)) total; settled = feeds.settled; rests = rests }) (joined_left ns hs ss match ∙ ap (filter (is_none_of ns)) (counted_all hs feeds.links))
-    ∙ ap (λ n. record { links = filter (is_none_of ns) (joined_all hs feeds.links); queued = more n total; settled = feeds.settled; rests = rests }) none
-    ∙ ap (λ n. record { links = filter (is_none_of ns) (joined_all hs feeds.links); queued = n; settled = feeds.settled; rests = rests }) (ap (more 0) is_total ∙ none_later queued (put_in feeds.links))
+    ∙ ap (λ (ls : List LinkSeen). record { links = ls; queued = more (put_in (filter (is_other ns) ss)) total; settled = feeds.settled; rests = rests })
+    (ap here (joined_left ns hs ss match ∙ ap (filter (is_none_of ns)) (counted_all hs feeds.links)) ∙ here_filter (is_none_of ns) (joined_all hs feeds.links))
+    ∙ ap (λ n. record { links = filter (is_none_of ns) (here (joined_all hs feeds.links)); queued = more n total; settled = feeds.settled; rests = rests }) none
+    ∙ ap (λ n. record { links = filter (is_none_of ns) (here (joined_all hs feeds.links)); queued = n; settled = feeds.settled; rests = rests }) (ap (more 0) is_total ∙ none_later queued (put_in feeds.links))
     ∙ ap (λ (s : ServedSeen). record s { links = filter (is_none_of ns) s.links }) view
 
 -- where no number is named none leaves
@@ -204,22 +229,22 @@ none_leaves [] = refl
 none_leaves (l ∷ links) = ap (λ ls. l ∷ ls) (none_leaves links)
 
 -- one more comes
-pub more_are : (hs left_hs : List LinkSeen) (feeds left : FeedsSeen) (h : LinkSeen) (s : worker.LinkSeen) (high : ℕ) → AreHalves hs feeds → Matches h s → Rises 0 (numbers (joined_all hs feeds.links)) high → high < h.link
+pub more_are : (hs left_hs : List LinkSeen) (feeds left : FeedsSeen) (h : LinkSeen) (s : worker.LinkSeen) (high : ℕ) → AreHalves hs feeds → Matches h s → Rises 0 (numbers hs) high → high < h.link
     → h.link < 2 ^ 32 → left_hs ≡ hs ++ h ∷ [] → left ≡ record feeds { links = feeds.links ++ s ∷ [] } → AreHalves left_hs left
 more_are hs left_hs feeds left h s high are new rises above small halves is =
     subst (λ ls. AreHalves ls left) (sym halves)
     (subst (AreHalves (hs ++ h ∷ [])) (sym is) (record {
       match = match_push hs feeds.links h s are.match new;
-      rising = rises_higher 0 h.link (2 ^ 32) (numbers (hs ++ h ∷ [])) (omega arith) (rises_push 0 high hs h (subst (λ ns. Rises 0 ns high) (numbers_same hs feeds.links are.match) rises) above);
+      rising = rises_higher 0 h.link (2 ^ 32) (numbers (hs ++ h ∷ [])) (omega arith) (rises_push 0 high hs h rises above);
     }))
 
 pub more_links : (hs left_hs now : List LinkSeen) (feeds left : FeedsSeen) (h link : LinkSeen) (s : worker.LinkSeen) → AreHalves hs feeds → left_hs ≡ hs ++ h ∷ [] → left ≡ record feeds { links = feeds.links ++ s ∷ [] }
-    → joined h s ≡ link → joined_all hs feeds.links ≡ now → joined_all left_hs left.links ≡ now ++ link ∷ []
-more_links hs left_hs now feeds left h link s are halves is new view =
-    ap (λ ls. joined_all ls left.links) halves
-    ∙ ap (λ (f : FeedsSeen). joined_all (hs ++ h ∷ []) f.links) is
-    ∙ joined_push hs feeds.links h s are.match
-    ∙ ap (λ l. joined_all hs feeds.links ++ l ∷ []) new
+    → is_here link ≡ true → joined h s ≡ link → here (joined_all hs feeds.links) ≡ now → here (joined_all left_hs left.links) ≡ now ++ link ∷ []
+more_links hs left_hs now feeds left h link s are halves is stays new view =
+    ap (λ ls. here (joined_all ls left.links)) halves
+    ∙ ap (λ (f : FeedsSeen). here (joined_all (hs ++ h ∷ []) f.links)) is
+    ∙ ap here (joined_push hs feeds.links h s are.match ∙ ap (λ l. joined_all hs feeds.links ++ l ∷ []) new)
+    ∙ here_push (joined_all hs feeds.links) link stays
     ∙ ap (λ ls. ls ++ link ∷ []) view
 
 pub more_put : (feeds left : FeedsSeen) (s : worker.LinkSeen) → s.put ≡ 0 → left ≡ record feeds { links = feeds.links ++ s ∷ [] } → put_in left.links ≡ put_in feeds.links
@@ -267,16 +292,19 @@ module _ (hs : List LinkSeen) (feeds left : FeedsSeen) (are : AreHalves hs feeds
       same_there (x ∷ ss) zero d e lt = refl
       same_there (x ∷ ss) (suc i) d e lt = same_there ss i d e (omega arith)
 
-  pub changed_links : (number : ℕ) (step : LinkSeen → LinkSeen) (now : List LinkSeen) → Some place ≡ position (has_that number) hs → joined new t ≡ step (joined h s) → joined_all hs feeds.links ≡ now
-      → joined_all (slice_set hs place new) left.links ≡ map (at_link number step) now
-  changed_links number step now found stepped view =
+  pub changed_links : (number : ℕ) (step : LinkSeen → LinkSeen) → Some place ≡ position (has_that number) hs → joined new t ≡ step (joined h s)
+      → joined_all (slice_set hs place new) left.links ≡ map (at_link number step) (joined_all hs feeds.links)
+  changed_links number step found stepped =
       let ss = feeds.links in
       let links = joined_all hs ss in
       ap (λ (f : FeedsSeen). joined_all (slice_set hs place new) f.links) is
       ∙ state_set hs ss place h new s t within are.match
       ∙ changed_by number step (2 ^ 32) links place (joined h s) (joined new t) (rises_same (2 ^ 32) hs ss are.match are.rising)
       (found ∙ sym (position_same (has_that number) (λ h s. refl) hs ss are.match)) (joined_at hs ss place h s are.match within at there) stepped
-      ∙ ap (map (at_link number step)) view
+
+  pub changed_rests : {rests : Bool} → named_of new ≡ named_of h → AtRest rests hs feeds → AtRest rests (slice_set hs place new) left
+  changed_rests named resting =
+      (λ rest. changed_settled ∙ resting.0 rest, λ rest. same_whole (slice_set hs place new) hs (named_set hs place new h at named) ∙ resting.1 rest)
 
 -- a line for it alone, and what changes with it of what it is fed
 module _ (number : ℕ) (hs searched : List LinkSeen) (feeds left : FeedsSeen) (are : AreHalves hs feeds) (place : ℕ) (same : searched ≡ hs) (found : Some place ≡ position (has_that number) searched)
@@ -303,79 +331,129 @@ module _ (number : ℕ) (hs searched : List LinkSeen) (feeds left : FeedsSeen) (
   told_settled : left.settled ≡ feeds.settled
   told_settled = changed_settled hs feeds left are place half.0 half.0 state.0 (told line (f state.0)) within half.1 state.2 (is state.0 state.1)
 
-  pub told_are : {rests : Bool} → (rests ≡ true → feeds.settled ≡ true) → AreHalves hs left × (rests ≡ true → left.settled ≡ true)
-  told_are settled = (halves_are, λ rest. told_settled ∙ settled rest)
+  pub told_are : {rests : Bool} → AtRest rests hs feeds → AreHalves hs left × AtRest rests hs left
+  told_are resting = (halves_are, (λ rest. told_settled ∙ resting.0 rest, resting.1))
 
-  told_links : (step : LinkSeen → LinkSeen) (now : List LinkSeen) → ((h : LinkSeen) (s : worker.LinkSeen) → with_text line (joined h (f s)) ≡ step (joined h s)) → joined_all hs feeds.links ≡ now
-      → joined_all hs left.links ≡ map (at_link number step) now
-  told_links step now stepped view =
+  told_links : (step : LinkSeen → LinkSeen) → ((h : LinkSeen) (s : worker.LinkSeen) → with_text line (joined h (f s)) ≡ step (joined h s))
+      → joined_all hs left.links ≡ map (at_link number step) (joined_all hs feeds.links)
+  told_links step stepped =
       ap (λ ls. joined_all ls left.links) (sym (half_kept hs place half.0 half.1))
       ∙ changed_links hs feeds left are place half.0 half.0 state.0 (told line (f state.0)) within half.1 state.2 (is state.0 state.1)
-      number step now (found ∙ ap (position (has_that number)) same) (told_same half.0 (f state.0) fed line ∙ stepped half.0 state.0) view
+      number step (found ∙ ap (position (has_that number)) same) (told_same half.0 (f state.0) fed line ∙ stepped half.0 state.0)
 
-  pub told_seen : (step : LinkSeen → LinkSeen) → ((h : LinkSeen) (s : worker.LinkSeen) → with_text line (joined h (f s)) ≡ step (joined h s)) → ((s : worker.LinkSeen) → (f s).put ≡ s.put)
+  pub told_seen : (step : LinkSeen → LinkSeen) → ((link : LinkSeen) → named_of (step link) ≡ named_of link) → ((h : LinkSeen) (s : worker.LinkSeen) → with_text line (joined h (f s)) ≡ step (joined h s)) → ((s : worker.LinkSeen) → (f s).put ≡ s.put)
       → (queued : ℕ) (rests : Bool) (now : ServedSeen) → served_seen hs feeds queued rests ≡ now → served_seen hs left queued rests ≡ record now { links = map (at_link number step) now.links }
-  told_seen step stepped put queued rests now view =
-      seen_changed hs hs feeds left queued rests now (map (at_link number step) now.links) view (told_links step now.links stepped (ap links_of view))
+  told_seen step named stepped put queued rests now view =
+      seen_stepped hs hs feeds left queued rests now (at_link number step) (named_at number step named) view (told_links step stepped)
       (changed_put hs feeds left are place half.0 half.0 state.0 (told line (f state.0)) within half.1 state.2 (is state.0 state.1) (told_uncounted half.0 (f state.0) fed (f state.0).link line ∙ put state.0))
       told_settled
 
 -- what is kept of the session of that number changes
 module _ (number : ℕ) (step : LinkSeen → LinkSeen) (kept : (h : LinkSeen) (s : worker.LinkSeen) → Matches h s → Matches (step h) s) (same : (h : LinkSeen) (s : worker.LinkSeen) → joined (step h) s ≡ step (joined h s))
-    (numbered : (h : LinkSeen) → (step h).link ≡ h.link) (inside : Inside) (new : List LinkSeen) (is : new ≡ map (at_link number step) inside.halves.items) where
-  pub stepped_are : AreHalves inside.halves.items inside.feeds → AreHalves new inside.feeds
+    (named : (h : LinkSeen) → named_of (step h) ≡ named_of h) (inside : Inside) (new : List LinkSeen) (is : new ≡ map (at_link number step) inside.halves) where
+  pub stepped_are : AreHalves inside.halves inside.feeds → AreHalves new inside.feeds
   stepped_are are = record {
-    match = subst (λ hs. AllMatch hs inside.feeds.links) (sym is) (halves_match step kept number inside.halves.items inside.feeds.links are.match);
-    rising = rises_at number step numbered (2 ^ 32) inside.halves.items new is are.rising;
+    match = subst (λ hs. AllMatch hs inside.feeds.links) (sym is) (halves_match step kept number inside.halves inside.feeds.links are.match);
+    rising = rises_at number step (λ h. ap (λ (name : ℕ × Option Opening). name.0) (named h)) (2 ^ 32) inside.halves new is are.rising;
   }
 
-  pub stepped_seen : {now : ServedSeen} → served_seen inside.halves.items inside.feeds inside.queued inside.rests ≡ now
+  pub stepped_rests : AtRest inside.rests inside.halves inside.feeds → AtRest inside.rests new inside.feeds
+  stepped_rests resting = (resting.0, λ rest. same_whole new inside.halves (ap (map named_of) is ∙ named_all (at_link number step) (named_at number step named) inside.halves) ∙ resting.1 rest)
+
+  pub stepped_seen : {now : ServedSeen} → served_seen inside.halves inside.feeds inside.queued inside.rests ≡ now
       → served_seen new inside.feeds inside.queued inside.rests ≡ record now { links = map (at_link number step) now.links }
-  stepped_seen view =
-      ap (λ hs. served_seen hs inside.feeds inside.queued inside.rests) is
-      ∙ ap (λ (links : List LinkSeen). record (served_seen inside.halves.items inside.feeds inside.queued inside.rests) { links = links }) (halves_changed step same number inside.halves.items inside.feeds.links)
-      ∙ ap (λ (served : ServedSeen). record served { links = map (at_link number step) served.links }) view
+  stepped_seen {now} view =
+      seen_stepped inside.halves new inside.feeds inside.feeds inside.queued inside.rests now (at_link number step) (named_at number step named) view
+      (ap (λ hs. joined_all hs inside.feeds.links) is ∙ halves_changed step same number inside.halves inside.feeds.links) refl refl
+
+-- what is kept of a session is there
+pub half_there : (hs : List LinkSeen) (i : ℕ) → i < length hs → (h : LinkSeen) × (slice_get hs i ≡ Some h) × (h ≡ get_or hs i h)
+half_there [] i lt = absurd (omega arith)
+half_there (h ∷ hs) i lt =
+    let there = slice_get-get_or (h ∷ hs) i h lt in
+    let found = get_or (h ∷ hs) i h in (found, there, sym (get_or_from_slice_get (h ∷ hs) i found found there))
 
 -- both halves of the link of that number change
-module _ (number : ℕ) (hs searched : List LinkSeen) (feeds left : FeedsSeen) (are : AreHalves hs feeds) (place : ℕ) (same : searched ≡ hs) (found : Some place ≡ position (has_that number) searched)
-    (h new half : LinkSeen) (at : h ≡ get_or hs place h) (link : new.link ≡ h.link) (becomes : half ≡ new)
-    (f : worker.LinkSeen → worker.LinkSeen) (kept : (s : worker.LinkSeen) → Matches h s → Matches new (f s))
+module _ (number : ℕ) (hs searched : List LinkSeen) (feeds left : FeedsSeen) (are : AreHalves hs feeds) (place : ℕ) (same : searched ≡ hs) (within : place < length hs)
+    (g : LinkSeen → LinkSeen) (new_hs : List LinkSeen) (set : (h : LinkSeen) → slice_get hs place ≡ Some h → new_hs ≡ slice_set hs place (g h)) (numbered : (h : LinkSeen) → (g h).link ≡ h.link)
+    (f : worker.LinkSeen → worker.LinkSeen) (kept : (h : LinkSeen) (s : worker.LinkSeen) → slice_get hs place ≡ Some h → Matches h s → Matches (g h) (f s))
     (is : (s : worker.LinkSeen) → slice_get feeds.links place ≡ Some s → left ≡ record feeds { links = slice_set feeds.links place (f s) }) where
-  here : place < length hs
-  here = within_halves number place hs searched same found
+  half_is : (h : LinkSeen) × (slice_get hs place ≡ Some h) × (h ≡ get_or hs place h)
+  half_is = half_there hs place within
 
-  fed_there : (s : worker.LinkSeen) × (slice_get feeds.links place ≡ Some s) × (s ≡ get_or feeds.links place s)
-  fed_there = state_at feeds.links place (within_feeds place hs feeds are here)
+  fed_is : (s : worker.LinkSeen) × (slice_get feeds.links place ≡ Some s) × (s ≡ get_or feeds.links place s)
+  fed_is = state_at feeds.links place (within_feeds place hs feeds are within)
 
-  matches : Matches h fed_there.0
-  matches = match_at hs feeds.links place h fed_there.0 are.match here at fed_there.2
+  abbrev h : LinkSeen
+  h = half_is.0
 
-  changed_halves : AreHalves (slice_set hs place half) left
+  abbrev s : worker.LinkSeen
+  s = fed_is.0
+
+  matches : Matches h s
+  matches = match_at hs feeds.links place h s are.match within half_is.2 fed_is.2
+
+  put_there : new_hs ≡ slice_set hs place (g h)
+  put_there = set h half_is.1
+
+  changed_halves : AreHalves new_hs left
   changed_halves =
-      subst (λ (x : LinkSeen). AreHalves (slice_set hs place x) left) (sym becomes)
-      (changed_are hs feeds left are place h new fed_there.0 (f fed_there.0) here at fed_there.2 (is fed_there.0 fed_there.1) (kept fed_there.0 matches) link)
+      subst (λ ls. AreHalves ls left) (sym put_there) (changed_are hs feeds left are place h (g h) s (f s) within half_is.2 fed_is.2 (is s fed_is.1) (kept h s half_is.1 matches) (numbered h))
 
   both_settled : left.settled ≡ feeds.settled
-  both_settled = changed_settled hs feeds left are place h new fed_there.0 (f fed_there.0) here at fed_there.2 (is fed_there.0 fed_there.1)
+  both_settled = changed_settled hs feeds left are place h (g h) s (f s) within half_is.2 fed_is.2 (is s fed_is.1)
 
-  pub both_are : {rests : Bool} → (rests ≡ true → feeds.settled ≡ true) → AreHalves (slice_set hs place half) left × (rests ≡ true → left.settled ≡ true)
-  both_are settled = (changed_halves, λ rest. both_settled ∙ settled rest)
+  both_links : (step : LinkSeen → LinkSeen) → Some place ≡ position (has_that number) searched → ((h : LinkSeen) (s : worker.LinkSeen) → slice_get hs place ≡ Some h → Matches h s → joined (g h) (f s) ≡ step (joined h s))
+      → joined_all new_hs left.links ≡ map (at_link number step) (joined_all hs feeds.links)
+  both_links step found stepped =
+      ap (λ ls. joined_all ls left.links) put_there
+      ∙ changed_links hs feeds left are place h (g h) s (f s) within half_is.2 fed_is.2 (is s fed_is.1) number step (found ∙ ap (position (has_that number)) same) (stepped h s half_is.1 matches)
 
-  pub both_seen : (step : LinkSeen → LinkSeen) → ((s : worker.LinkSeen) → Matches h s → joined new (f s) ≡ step (joined h s)) → ((s : worker.LinkSeen) → Matches h s → (f s).put ≡ s.put)
-      → (queued : ℕ) (rests : Bool) (now : ServedSeen) → served_seen hs feeds queued rests ≡ now → served_seen (slice_set hs place half) left queued rests ≡ record now { links = map (at_link number step) now.links }
-  both_seen step stepped put queued rests now view =
-      let s = fed_there.0 in
-      ap (λ (x : LinkSeen). served_seen (slice_set hs place x) left queued rests) becomes
-      ∙ seen_changed hs (slice_set hs place new) feeds left queued rests now (map (at_link number step) now.links) view
-      (changed_links hs feeds left are place h new s (f s) here at fed_there.2 (is s fed_there.1) number step now.links (found ∙ ap (position (has_that number)) same) (stepped s matches) (ap links_of view))
-      (changed_put hs feeds left are place h new s (f s) here at fed_there.2 (is s fed_there.1) (put s matches))
-      both_settled
+  both_put : ((h : LinkSeen) (s : worker.LinkSeen) → slice_get hs place ≡ Some h → Matches h s → (f s).put ≡ s.put) → put_in left.links ≡ put_in feeds.links
+  both_put put = changed_put hs feeds left are place h (g h) s (f s) within half_is.2 fed_is.2 (is s fed_is.1) (put h s half_is.1 matches)
+
+  pub both_are : {rests : Bool} → ((h : LinkSeen) → named_of (g h) ≡ named_of h) → AtRest rests hs feeds → AreHalves new_hs left × AtRest rests new_hs left
+  both_are named resting = (
+    changed_halves,
+    (λ rest. both_settled ∙ resting.0 rest, λ rest. same_whole new_hs hs (ap (map named_of) put_there ∙ named_set hs place (g h) h half_is.2 (named h)) ∙ resting.1 rest),
+  )
+
+  pub both_seen : (step : LinkSeen → LinkSeen) → Some place ≡ position (has_that number) searched → ((link : LinkSeen) → named_of (step link) ≡ named_of link)
+      → ((h : LinkSeen) (s : worker.LinkSeen) → slice_get hs place ≡ Some h → Matches h s → joined (g h) (f s) ≡ step (joined h s))
+      → ((h : LinkSeen) (s : worker.LinkSeen) → slice_get hs place ≡ Some h → Matches h s → (f s).put ≡ s.put) → (queued : ℕ) (rests : Bool) (now : ServedSeen) → served_seen hs feeds queued rests ≡ now
+      → served_seen new_hs left queued rests ≡ record now { links = map (at_link number step) now.links }
+  both_seen step found named stepped put queued rests now view =
+      seen_stepped hs new_hs feeds left queued rests now (at_link number step) (named_at number step named) view (both_links step found stepped) (both_put put) both_settled
+
+  -- the link leaves
+  pub gone_are : {rests : Bool} → rests ≡ false → AreHalves new_hs left × AtRest rests new_hs left
+  gone_are wakes = (changed_halves, (λ rest. absurd (true≢false (sym rest ∙ wakes)), λ rest. absurd (true≢false (sym rest ∙ wakes))))
+
+  pub gone_seen : Some place ≡ position (has_that number) searched → ((h : LinkSeen) (s : worker.LinkSeen) → slice_get hs place ≡ Some h → Matches h s → joined (g h) (f s) ≡ when_left (joined h s))
+      → ((h : LinkSeen) (s : worker.LinkSeen) → slice_get hs place ≡ Some h → Matches h s → (f s).put ≡ s.put) → (queued : ℕ) (rests : Bool) (now : ServedSeen) → served_seen hs feeds queued rests ≡ now
+      → served_seen new_hs left queued rests ≡ record now { links = filter (is_none_of (number ∷ [])) now.links }
+  gone_seen found leaves put queued rests now view =
+      seen_changed hs new_hs feeds left queued rests now (filter (is_none_of (number ∷ [])) now.links) view
+      (ap here (both_links when_left found leaves) ∙ here_left number (joined_all hs feeds.links) ∙ ap (filter (is_none_of (number ∷ []))) (ap links_of view)) (both_put put) both_settled
+
+-- nobody leaves, where none that is here has the number
+pub nobody_left : (number : ℕ) (hs searched : List LinkSeen) (feeds : FeedsSeen) (now : List LinkSeen) → AreHalves hs feeds → searched ≡ hs → None ≡ position (is_at number) searched → here (joined_all hs feeds.links) ≡ now
+    → now ≡ filter (is_none_of (number ∷ [])) now
+nobody_left number hs searched feeds now are same none view =
+    let ss = feeds.links in
+    let links = joined_all hs ss in
+    let nowhere : list_any (is_at number) links ≡ false = any_same (is_at number) (λ h s. refl) hs ss are.match ∙ ap (list_any (is_at number)) (sym same) ∙ position_none (is_at number) searched none in
+    sym view ∙ none_left_here number links nowhere ∙ ap (filter (is_none_of (number ∷ []))) view
 
 -- or none, where there is none of that number
-pub changed_nobody : (number : ℕ) (step : LinkSeen → LinkSeen) (hs now : List LinkSeen) (feeds : FeedsSeen) → AreHalves hs feeds → None ≡ position (has_that number) hs → joined_all hs feeds.links ≡ now
-    → now ≡ map (at_link number step) now
-changed_nobody number step hs now feeds are none view =
-    changed_nowhere number step now (none ∙ sym (position_same (has_that number) (λ h s. refl) hs feeds.links are.match) ∙ ap (position (has_that number)) view)
+pub changed_nobody : (number : ℕ) (step : LinkSeen → LinkSeen) (hs now : List LinkSeen) (feeds : FeedsSeen) → AreHalves hs feeds → None ≡ position (has_that number) hs → here (joined_all hs feeds.links) ≡ now
+    → ((link : LinkSeen) → named_of (step link) ≡ named_of link) → now ≡ map (at_link number step) now
+changed_nobody number step hs now feeds are none view named =
+    let links = joined_all hs feeds.links in
+    sym view
+    ∙ ap here (changed_nowhere number step links (none ∙ sym (position_same (has_that number) (λ h s. refl) hs feeds.links are.match)))
+    ∙ here_stepped (at_link number step) (named_at number step named) links
+    ∙ ap (map (at_link number step)) view
 
 -- a link that has logged in
 pub login_matches : (h : LinkSeen) (s : worker.LinkSeen) (session : Session) (feed : Feed) (call : List ℕ) (mine : Option Seen) → Matches h s → feed ≡ opening_feed h.opening (Some session) → call ≡ session.call
@@ -401,30 +479,30 @@ opened_matches number opening feed inbound first fed comes =
 
 -- the bytes that the link of a number has still to take
 pub pending_there : (number : ℕ) (hs : List LinkSeen) (feeds : FeedsSeen) → AreHalves hs feeds → (place : ℕ) (h : LinkSeen) (s : worker.LinkSeen) → place < length hs → h ≡ get_or hs place h
-    → slice_get feeds.links place ≡ Some s → Some place ≡ position (has_that number) hs → (now : List LinkSeen) → joined_all hs feeds.links ≡ now → pending_at number now ≡ queue.pending_bytes s.queue
-pending_there number hs feeds are place h s within at there found now view =
+    → slice_get feeds.links place ≡ Some s → Some place ≡ position (has_that number) hs → is_whole hs ≡ true → (now : List LinkSeen) → here (joined_all hs feeds.links) ≡ now → pending_at number now ≡ queue.pending_bytes s.queue
+pending_there number hs feeds are place h s within at there found whole now view =
     let ss = feeds.links in
     let at_place = sym (get_or_from_slice_get ss place s s there) in
-    ap (pending_at number) (sym view)
+    ap (pending_at number) (sym view ∙ joined_whole hs ss are.match whole)
     ∙ picked_found pending_of [] number (joined_all hs ss) place (joined h s) (found ∙ sym (position_same (has_that number) (λ h s. refl) hs ss are.match))
     (joined_at hs ss place h s are.match within at at_place)
 
-pub pending_found : (number place : ℕ) (inside : Inside) (searched : List LinkSeen) {now : ServedSeen} → served_seen inside.halves.items inside.feeds inside.queued inside.rests ≡ now
-    → AreHalves inside.halves.items inside.feeds → searched ≡ inside.halves.items → Some place ≡ position (has_that number) searched
+pub pending_found : (number place : ℕ) (inside : Inside) (searched : List LinkSeen) {now : ServedSeen} → served_seen inside.halves inside.feeds inside.queued inside.rests ≡ now
+    → AreHalves inside.halves inside.feeds → is_whole inside.halves ≡ true → searched ≡ inside.halves → Some place ≡ position (has_that number) searched
     → (s : worker.LinkSeen) × (slice_get inside.feeds.links place ≡ Some s) × (queue.pending_bytes s.queue ≡ pending_at number now.links)
-pending_found number place inside searched {now} view are same found =
-    let hs = inside.halves.items in
+pending_found number place inside searched {now} view are whole same found =
+    let hs = inside.halves in
     let within = within_halves number place hs searched same found in
     let there = state_at inside.feeds.links place (within_feeds place hs inside.feeds are within) in
     let half = half_at hs place within in (
       there.0,
       there.1,
-      sym (pending_there number hs inside.feeds are place half.0 there.0 within half.1 there.1 (found ∙ ap (position (has_that number)) same) now.links (ap links_of view)),
+      sym (pending_there number hs inside.feeds are place half.0 there.0 within half.1 there.1 (found ∙ ap (position (has_that number)) same) whole now.links (ap links_of view)),
     )
 
-pub pending_nowhere : (number : ℕ) (hs : List LinkSeen) (feeds : FeedsSeen) → AreHalves hs feeds → None ≡ position (has_that number) hs → (now : List LinkSeen) → joined_all hs feeds.links ≡ now → pending_at number now ≡ []
-pending_nowhere number hs feeds are none now view =
-    ap (pending_at number) (sym view)
+pub pending_nowhere : (number : ℕ) (hs : List LinkSeen) (feeds : FeedsSeen) → AreHalves hs feeds → None ≡ position (has_that number) hs → is_whole hs ≡ true → (now : List LinkSeen) → here (joined_all hs feeds.links) ≡ now → pending_at number now ≡ []
+pending_nowhere number hs feeds are none whole now view =
+    ap (pending_at number) (sym view ∙ joined_whole hs feeds.links are.match whole)
     ∙ picked_none pending_of [] number (joined_all hs feeds.links) (none ∙ sym (position_same (has_that number) (λ h s. refl) hs feeds.links are.match))
 
 -- ---- an accepted packet comes
@@ -467,3 +545,38 @@ dated_links line hs ss all = states_changed (λ s. after s (ToldAll line)) (λ h
 
 pub dated_put : (line : List ℕ) (hs : List LinkSeen) (ss : List worker.LinkSeen) → AllMatch hs ss → put_in (met_by (ToldAll line) ss) ≡ put_in ss
 dated_put line hs ss all = put_kept (λ s. after s (ToldAll line)) (λ h s m. date_uncounted h s m line) hs ss all
+
+-- ---- those that left are let go
+
+module _ (hs new_hs : List LinkSeen) (feeds counts left : FeedsSeen) (halves : new_hs ≡ here hs) (counting : counts ≡ record feeds { links = map counted feeds.links })
+    (is : left ≡ record counts { links = filter is_served counts.links }) where
+  swept_links : left.links ≡ filter is_served (map counted feeds.links)
+  swept_links = ap (λ (f : FeedsSeen). f.links) is ∙ ap (λ (f : FeedsSeen). filter is_served f.links) counting
+
+  pub swept_are : AreHalves hs feeds → AreHalves new_hs left
+  swept_are are = record {
+    match = subst (λ ls. AllMatch ls left.links) (sym halves) (subst (AllMatch (here hs)) (sym swept_links) (swept_match hs (map counted feeds.links) (states_match counted counted_match hs feeds.links are.match)));
+    rising = subst (λ ls. Rises 0 (numbers ls) (2 ^ 32)) (sym halves) (rises_filter is_here 0 (2 ^ 32) hs are.rising);
+  }
+
+  pub swept_seen : AllMatch hs feeds.links → joined_all new_hs left.links ≡ here (joined_all hs feeds.links)
+  swept_seen all =
+      ap (λ ls. joined_all ls left.links) halves ∙ ap (joined_all (here hs)) swept_links ∙ swept_joined hs (map counted feeds.links) (states_match counted counted_match hs feeds.links all) ∙ ap here (counted_all hs feeds.links)
+
+  pub swept_put : (put : ℕ) → put ≡ put_in feeds.links → more (put_in left.links) put ≡ put_in feeds.links
+  swept_put put is_put =
+      let none : put_in left.links ≡ 0 = ap put_in swept_links ∙ none_put_of is_served feeds.links in
+      ap (λ n. more n put) none ∙ ap (more 0) is_put ∙ capped_put feeds.links
+
+-- what was counted once more counts the same
+pub recounted : (put left queued before : ℕ) → more left put ≡ before → more left (min (queued + put) (2 ^ 64 - 1)) ≡ more before queued
+recounted put left queued before is = omega (arith, is)
+
+-- and nothing else changes
+pub swept_same : (hs new_hs : List LinkSeen) (feeds left : FeedsSeen) (put queued total : ℕ) (rests : Bool) → here (joined_all new_hs left.links) ≡ here (joined_all hs feeds.links) → more (put_in left.links) put ≡ put_in feeds.links
+    → total ≡ min (queued + put) (2 ^ 64 - 1) → left.settled ≡ feeds.settled → served_seen new_hs left total rests ≡ served_seen hs feeds queued rests
+swept_same hs new_hs feeds left put queued total rests links counts sum settled =
+    ap (λ (ls : List LinkSeen). record { links = ls; queued = more (put_in left.links) total; settled = left.settled; rests = rests }) links
+    ∙ ap (λ n. record { links = here (joined_all hs feeds.links); queued = n; settled = left.settled; rests = rests })
+    (ap (more (put_in left.links)) sum ∙ recounted put (put_in left.links) queued (put_in feeds.links) counts)
+    ∙ ap (λ b. record { links = here (joined_all hs feeds.links); queued = more (put_in feeds.links) queued; settled = b; rests = rests }) settled

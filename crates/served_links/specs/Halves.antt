@@ -1,9 +1,9 @@
 -- The links that are served, whose halves are kept side by side.
-use Rattle.std.specs.Prelude.{ℕ, ◌+◌, ◌-◌, ◌^◌, Bool, List, min}
+use Rattle.std.specs.Prelude.{◌≡◌, true, ℕ, ◌+◌, ◌-◌, ◌^◌, Bool, List, min}
 use Rattle.aprs_history.specs.Stands.{LinkSeen}
 use Rattle.link_feeds.specs.Feeds.{FeedsSeen, put_in}
 use Rattle.served_links.specs.Fed.{AllMatch, joined_all}
-use Rattle.served_links.specs.Links.{Rises, numbers}
+use Rattle.served_links.specs.Links.{Rises, here, is_whole, numbers}
 
 -- the links as what came leaves them, matched or not; how many packet lines were ever put into queues; whether all that came is
 -- matched; and whether they rest, since no round is walked
@@ -17,10 +17,10 @@ pub record ServedSeen : Type 0 where
 abbrev pub more : ℕ → ℕ → ℕ
 more n count = min (count + n) (2 ^ 64 - 1)
 
--- what was counted so far, and what wasn't yet
+-- what was counted so far, and what wasn't yet; those that left aren't seen any more
 abbrev pub served_seen : List LinkSeen → FeedsSeen → ℕ → Bool → ServedSeen
 served_seen halves feeds queued rests = record {
-  links = joined_all halves feeds.links;
+  links = here (joined_all halves feeds.links);
   queued = more (put_in feeds.links) queued;
   settled = feeds.settled;
   rests = rests;
@@ -30,3 +30,15 @@ served_seen halves feeds queued rests = record {
 pub record AreHalves (halves : List LinkSeen) (feeds : FeedsSeen) : Type 0 where
   pub match : AllMatch halves feeds.links
   pub rising : Rises 0 (numbers halves) (2 ^ 32)
+
+-- where they rest all that came is matched, and none of those that left is kept
+abbrev pub AtRest : Bool → List LinkSeen → FeedsSeen → Type 0
+AtRest rests halves feeds = (rests ≡ true → feeds.settled ≡ true) × (rests ≡ true → is_whole halves ≡ true)
+
+-- some that left are let go, and so many packet lines counted before: the links are seen as before
+pub record IsSwept (before : List LinkSeen) (feeds : FeedsSeen) (kept : List LinkSeen) (left : FeedsSeen) (count : ℕ) : Type 0 where
+  pub halves : AreHalves kept left
+  pub settled : left.settled ≡ true
+  pub links : here (joined_all kept left.links) ≡ here (joined_all before feeds.links)
+  pub put : more (put_in left.links) count ≡ put_in feeds.links
+  pub whole : is_whole before ≡ true → is_whole kept ≡ true

@@ -1,13 +1,13 @@
 -- Links by their numbers, and what is asked of them.
-use Rattle.std.specs.Prelude.{ℕ, ◌==◌, ◌-◌, Bool, true, false, is_none, nat_le, nat_lt, List, [], ◌∷◌, length, map, filter, not, ◌&&◌, ◌||◌, Option, Some, None, if◌then◌else◌}
-use Rattle.std.specs.List.{list_any, flat_map}
+use Rattle.std.specs.Prelude.{ℕ, ◌==◌, ◌-◌, Bool, true, false, is_none, is_some, nat_le, nat_lt, List, [], ◌∷◌, length, map, filter, not, ◌&&◌, ◌||◌, Option, Some, None, if◌then◌else◌}
+use Rattle.std.specs.List.{list_all, list_any, flat_map}
 use Rattle.aprs_base.specs.Bytes.{is_station}
 use Rattle.aprs_base.specs.Held.{Held}
 use Rattle.aprs_history.specs.declared.verdicts.Session.{Session}
 use Rattle.aprs_history.specs.Stands.{LinkSeen}
 use Rattle.aprs_history.specs.Trace.{is_member}
 pub use Rattle.aprs_history.specs.Trace.{Rises}
-use Rattle.aprs_history.specs.Links.{has_filters, is_client_link, login_seconds, opened_at}
+use Rattle.aprs_history.specs.Links.{Opening, has_filters, is_client_link, login_seconds, opened_at}
 use Rattle.aprs_history.specs.Scenes.{speaker_of, verified_login}
 use Rattle.aprs_history.specs.Verdicts.{Speaker, Visitor}
 use Rattle.aprs_base.specs.declared.packets.PortKind.TheVariants as port
@@ -16,11 +16,33 @@ use Rattle.aprs_base.specs.declared.packets.Source.TheVariants as source
 use Rattle.served_links.specs.declared.link.Timeouts.{Timeouts}
 use Rattle.served_links.specs.Pending.{pending_bytes}
 
+-- what is kept of a link that has left has no opening any more: it keeps its place until all such are let go
+abbrev pub is_here : LinkSeen → Bool
+is_here link = is_some link.opening
+
+abbrev pub here : List LinkSeen → List LinkSeen
+here links = filter is_here links
+
+-- none of them has left
+abbrev pub is_whole : List LinkSeen → Bool
+is_whole links = list_all is_here links
+
+abbrev pub when_left : LinkSeen → LinkSeen
+when_left link = record link { opening = None }
+
 abbrev pub has_that : ℕ → LinkSeen → Bool
 has_that number link = link.link == number
 
+-- the same where it hasn't left
+abbrev pub is_at : ℕ → LinkSeen → Bool
+is_at number link = has_that number link && is_here link
+
 abbrev pub number_of : LinkSeen → ℕ
 number_of link = link.link
+
+-- a link's number, and whether and how it was opened
+abbrev pub named_of : LinkSeen → ℕ × Option Opening
+named_of link = (link.link, link.opening)
 
 abbrev pub numbers : List LinkSeen → List ℕ
 numbers links = map number_of links
@@ -51,6 +73,9 @@ held_at number links = picked_at held_kept None number links
 abbrev pub is_lost : LinkSeen → Bool
 is_lost link = link.gone
 
+abbrev pub is_lost_here : LinkSeen → Bool
+is_lost_here link = is_here link && is_lost link
+
 -- it isn't blocked, and has bytes to take
 abbrev pub is_ready : LinkSeen → Bool
 is_ready link = not link.blocked && nat_lt 0 (length (pending_bytes link.queue))
@@ -69,6 +94,9 @@ timeout_for timeouts link = if is_client_link link.opening then timeouts.client 
 
 abbrev pub is_late_link : Timeouts → ℕ → LinkSeen → Bool
 is_late_link timeouts now link = is_nameless_link now link || nat_le (timeout_for timeouts link) (now - link.last)
+
+abbrev pub is_late_here : Timeouts → ℕ → LinkSeen → Bool
+is_late_here timeouts now link = is_here link && is_late_link timeouts now link
 
 -- it is none of these
 abbrev pub is_none_of : List ℕ → LinkSeen → Bool
@@ -130,6 +158,13 @@ login_kept link = verified_login link.session
 
 abbrev pub logins_at : List LinkSeen → List (List ℕ)
 logins_at links = flat_map login_kept links
+
+-- the same of what is kept, where some have left
+abbrev pub login_here : LinkSeen → List (List ℕ)
+login_here link = if is_here link then login_kept link else []
+
+abbrev pub other_here : ℕ → LinkSeen → List (List ℕ)
+other_here number link = if is_another number link then login_here link else []
 
 -- the logins of the verified links, but of the one that a line came from
 abbrev pub others_from : Source → List LinkSeen → List (List ℕ)

@@ -6,6 +6,7 @@ mod links;
 mod logins;
 mod messages;
 mod served;
+mod sessions;
 mod telling;
 
 pub use link::{SourcePlace, Timeouts, has_member, is_from};

@@ -6,7 +6,6 @@ ghost use Rattle.aprs_base.specs.Cuts.{cuts_by};
 ghost use Rattle.aprs_base.specs.Held.{held_after};
 ghost use Rattle.aprs_history.specs.Links.{has_filters, is_client_of};
 ghost use Rattle.aprs_history.specs.Messages.{is_to_login};
-ghost use Rattle.aprs_history.specs.Scenes.{verified_login};
 ghost use Rattle.aprs_history.specs.Setting.{is_filter_kind, is_only_kind};
 ghost use Rattle.aprs_history.specs.Texts.{shows_duplicates};
 ghost use Rattle.aprs_history.specs.Trace.{is_from, is_member};
@@ -14,7 +13,7 @@ ghost use Rattle.aprs_history.specs.Verdicts.{client_origin};
 ghost use Rattle.line_verdict.specs.Voices.{HasStation, visitor_voice, voice_of};
 ghost use Rattle.q_construct.specs.Rule.{has_station};
 ghost use Rattle.served_links.specs.Fed.{feed_of, new_half, opening_feed, port_feed};
-ghost use Rattle.served_links.specs.Links.{client_kept, is_late_link, is_login, is_lost, is_nameless_link, is_none_of, list_of, number_of, speaker_kept, timeout_for};
+ghost use Rattle.served_links.specs.Links.{client_kept, is_here, is_late_here, is_late_link, is_login, is_lost_here, is_nameless_link, is_none_of, login_here, number_of, list_of, speaker_kept, timeout_for, when_left};
 ghost use Rattle.served_links.specs.Changes.{is_asked_at, when_gone, with_bytes, with_room};
 ghost use Rattle.served_links.specs.EndLines.{late_reason_kept};
 
@@ -50,7 +49,8 @@ pub struct Timeouts {
 #[derive(Drop)]
 pub struct Link {
     pub number: u32,
-    kind: LinkKind,
+    /// `None` once it has left: then it keeps its place until all such are let go.
+    kind: Option<LinkKind>,
     from: Addr,
     /// When it was opened, and when its last bytes came.
     opened: u64,
@@ -62,7 +62,7 @@ pub struct Link {
 }
 
 impl Model for Link {
-    ghost use Rattle.std.specs.Prelude.{Some, None, [], false, IsTrue};
+    ghost use Rattle.std.specs.Prelude.{Some, None, [], false, option_map, IsTrue};
     ghost use Rattle.aprs_history.specs.Stands.{LinkSeen};
     ghost use Rattle.served_links.specs.Links.{is_login};
 
@@ -70,7 +70,7 @@ impl Model for Link {
 
     ghost view = { λ l. record {
       link = l.number;
-      opening = Some (record { kind = l.kind; from = l.from; moment = l.opened });
+      opening = option_map (λ kind. record { kind = kind; from = l.from; moment = l.opened }) l.kind;
       last = l.last;
       held = l.cutter;
       session = l.session;
@@ -126,7 +126,7 @@ impl Link {
     {
         Link {
             number,
-            kind,
+            kind: Some(kind),
             from,
             opened: moment,
             last: moment,
@@ -168,7 +168,10 @@ impl Link {
         ensures feed { result ≡ opening_feed self.old.opening (Some session) }
     {
         self.session = Some(session);
-        feed_of(self.kind, &self.session)
+        match self.kind {
+            Some(kind) => feed_of(kind, &self.session),
+            None => Feed::Nothing,
+        }
     }
 
     /// Whether its port has filters.
@@ -176,8 +179,8 @@ impl Link {
         ensures { result ≡ has_filters self.now.opening }
     {
         match self.kind {
-            LinkKind::Client(kind) => is_filter_kind(kind),
-            LinkKind::Uplink(_) => false,
+            Some(LinkKind::Client(kind)) => is_filter_kind(kind),
+            Some(LinkKind::Uplink(_)) | None => false,
         }
     }
 
@@ -185,7 +188,10 @@ impl Link {
     pub fn is_client(&self) -> bool
         ensures { result ≡ client_kept self.now }
     {
-        is_inbound(self.kind)
+        match self.kind {
+            Some(kind) => is_inbound(kind),
+            None => false,
+        }
     }
 
     /// Who speaks on it.
@@ -194,8 +200,9 @@ impl Link {
         ensures station { HasStation result }
     {
         match self.kind {
-            LinkKind::Client(kind) => visitor_voice(kind, &self.session),
-            LinkKind::Uplink(_) => Voice::Carrier(Origin::Uplink(self.from)),
+            Some(LinkKind::Client(kind)) => visitor_voice(kind, &self.session),
+            Some(LinkKind::Uplink(_)) => Voice::Carrier(Origin::Uplink(self.from)),
+            None => visitor_voice(PortKind::Full, &self.session),
         }
     }
 
@@ -204,17 +211,17 @@ impl Link {
         ensures { result ≡ shows_duplicates self.now.opening self.now.session }
     {
         match self.kind {
-            LinkKind::Client(PortKind::Dupe) => self.session.is_some(),
-            LinkKind::Client(_) | LinkKind::Uplink(_) => false,
+            Some(LinkKind::Client(PortKind::Dupe)) => self.session.is_some(),
+            Some(LinkKind::Client(_) | LinkKind::Uplink(_)) | None => false,
         }
     }
 
-    /// Its login, where it is verified.
+    /// Its login, where it is verified and hasn't left.
     pub fn verified_call(&self) -> Option<Call>
-        ensures { list_of result ≡ verified_login self.now.session }
+        ensures { list_of result ≡ login_here self.now }
     {
         match &self.session {
-            Some(session) if session.verified => Some(copy_call(&session.call)),
+            Some(session) if session.verified && self.is_here() => Some(copy_call(&session.call)),
             _ => None,
         }
     }
@@ -244,8 +251,21 @@ impl Link {
         self.number
     }
 
-    /// Whether it has not logged in for half a minute, or has brought no bytes for too long.
+    /// Whether it hasn't left.
+    pub fn is_here(&self) -> bool
+        ensures { result ≡ is_here self.now }
+    {
+        self.kind.is_some()
+    }
+
+    /// Whether it is here, and has not logged in for half a minute, or has brought no bytes for too long.
     pub fn is_late(&self, timeouts: Timeouts, now: u64) -> bool
+        ensures { result ≡ is_late_here timeouts now self.now }
+    {
+        self.is_here() && self.is_over_time(timeouts, now)
+    }
+
+    fn is_over_time(&self, timeouts: Timeouts, now: u64) -> bool
         ensures { result ≡ is_late_link timeouts now self.now }
     {
         self.is_nameless(now) || u64::from(self.timeout(timeouts)) <= now.saturating_sub(self.last)
@@ -307,11 +327,18 @@ impl Link {
         self.blocked = count < offered;
     }
 
-    /// Whether a send found it gone.
-    pub fn is_lost(&self) -> bool
-        ensures { result ≡ is_lost self.now }
+    /// It leaves.
+    pub fn leave(&mut self)
+        ensures { self.new ≡ when_left self.old }
     {
-        self.gone
+        self.kind = None;
+    }
+
+    /// Whether it is here, and a send found it gone.
+    pub fn is_lost(&self) -> bool
+        ensures { result ≡ is_lost_here self.now }
+    {
+        self.is_here() && self.gone
     }
 
     /// Whether it has no room for more bytes.

@@ -8,7 +8,7 @@ ghost use Rattle.aprs_base.specs.Held.{held_after};
 ghost use Rattle.aprs_history.specs.Stands.{LinkSeen};
 ghost use Rattle.line_verdict.specs.Voices.{HasStation, voice_of};
 ghost use Rattle.served_links.specs.Fed.{AllMatch, offer_of, shows_kept};
-ghost use Rattle.served_links.specs.Links.{Rises, client_at, clients_in, filters_at, has_number, has_that, held_at, is_late_link, is_lost, is_none_of, numbers, speaker_at, submitted_from};
+ghost use Rattle.served_links.specs.Links.{Rises, client_at, clients_in, filters_at, has_number, has_that, held_at, here, is_at, is_late_here, is_lost_here, is_none_of, named_of, numbers, speaker_at, submitted_from};
 ghost use Rattle.served_links.specs.Changes.{at_link, is_asked_at, when_gone, with_bytes, with_room};
 ghost use Rattle.uplinks_peers.specs.Sides.{is_passed_on};
 ghost use Rattle.uplinks_peers.specs.declared.sides.Side.TheVariants as side;
@@ -33,12 +33,23 @@ pub(crate) fn place_of(links: &[Link], number: u32) -> Option<usize>
     links.binary_search_by_key(&number, |link| link.number).ok()
 }
 
+/// The same where it hasn't left.
+pub(crate) fn place_here(links: &[Link], number: u32) -> Option<usize>
+    requires { Rises 0 (numbers links.now) (2 ^ 32) }
+    ensures { result ≡ position (is_at number) links.now }
+{
+    match place_of(links, number) {
+        Some(place) if links[place].is_here() => Some(place),
+        _ => None,
+    }
+}
+
 /// A copy of that link's cutter.
 pub(crate) fn cutter_at(links: &[Link], number: u32) -> Option<Cutter>
     requires { Rises 0 (numbers links.now) (2 ^ 32) }
-    ensures { result ≡ held_at number links.now }
+    ensures { result ≡ held_at number (here links.now) }
 {
-    match place_of(links, number) {
+    match place_here(links, number) {
         Some(place) => Some(links[place].cutter()),
         None => None,
     }
@@ -137,7 +148,7 @@ pub(crate) fn shows_any(links: &[Link]) -> bool
 
 /// The numbers of the links that a send found gone.
 pub(crate) fn lost(alloc: Global, links: &[Link]) -> Result<Vec<u32>, Memory>
-    ensures { IfOk result (λ v. v.items ≡ numbers (filter is_lost links.now)) }
+    ensures { IfOk result (λ v. v.items ≡ numbers (filter is_lost_here links.now)) }
 {
     let mut numbers = Vec::new(alloc);
     for link in links {
@@ -155,7 +166,7 @@ pub(crate) fn late(
     timeouts: Timeouts,
     now: u64,
 ) -> Result<Vec<u32>, Memory>
-    ensures { IfOk result (λ v. v.items ≡ numbers (filter (is_late_link timeouts now) links.now)) }
+    ensures { IfOk result (λ v. v.items ≡ numbers (filter (is_late_here timeouts now) links.now)) }
 {
     let mut numbers = Vec::new(alloc);
     for link in links {
@@ -173,13 +184,22 @@ pub(crate) fn drop_these(links: &mut Vec<Link>, numbers: &[u32])
     links.retain(|link| link.is_none_of(numbers));
 }
 
+/// Those that left are let go.
+pub(crate) fn sweep(links: &mut Vec<Link>)
+    ensures { links.new.items ≡ here links.old.items }
+{
+    links.retain(|link| link.is_here());
+}
+
 /// The numbers of all links.
 pub(crate) fn all(alloc: Global, links: &[Link]) -> Result<Vec<u32>, Memory>
-    ensures { IfOk result (λ v. v.items ≡ numbers links.now) }
+    ensures { IfOk result (λ v. v.items ≡ numbers (here links.now)) }
 {
     let mut numbers = Vec::new(alloc);
     for link in links {
-        numbers.push(link.number())?;
+        if link.is_here() {
+            numbers.push(link.number())?;
+        }
     }
     Ok(numbers)
 }
@@ -187,18 +207,18 @@ pub(crate) fn all(alloc: Global, links: &[Link]) -> Result<Vec<u32>, Memory>
 /// Whether there is a link of that number.
 pub(crate) fn has_link(links: &[Link], number: u32) -> bool
     requires { Rises 0 (numbers links.now) (2 ^ 32) }
-    ensures { result ≡ has_number number links.now }
+    ensures { result ≡ has_number number (here links.now) }
 {
-    place_of(links, number).is_some()
+    place_here(links, number).is_some()
 }
 
 /// Who speaks on that link.
 pub(crate) fn voice_at(links: &[Link], number: u32) -> Voice
     requires { Rises 0 (numbers links.now) (2 ^ 32) }
-    ensures value { result ≡ voice_of (speaker_at number links.now) }
+    ensures value { result ≡ voice_of (speaker_at number (here links.now)) }
     ensures station { HasStation result }
 {
-    match place_of(links, number) {
+    match place_here(links, number) {
         Some(place) => links[place].voice(),
         None => Voice::Nameless { filters: false },
     }
@@ -207,9 +227,9 @@ pub(crate) fn voice_at(links: &[Link], number: u32) -> Voice
 /// Whether that link is a client.
 pub(crate) fn is_client_at(links: &[Link], number: u32) -> bool
     requires { Rises 0 (numbers links.now) (2 ^ 32) }
-    ensures { result ≡ client_at number links.now }
+    ensures { result ≡ client_at number (here links.now) }
 {
-    match place_of(links, number) {
+    match place_here(links, number) {
         Some(place) => links[place].is_client(),
         None => false,
     }
@@ -218,7 +238,7 @@ pub(crate) fn is_client_at(links: &[Link], number: u32) -> bool
 /// The side at the other end of that link.
 fn side_at(links: &[Link], number: u32) -> Side
     requires { Rises 0 (numbers links.now) (2 ^ 32) }
-    ensures { is_passed_on result side.Peer ≡ client_at number links.now }
+    ensures { is_passed_on result side.Peer ≡ client_at number (here links.now) }
 {
     if is_client_at(links, number) {
         Side::Client
@@ -230,7 +250,7 @@ fn side_at(links: &[Link], number: u32) -> Side
 /// The side that sends what comes from there. A link that is no client is an uplink.
 fn side_of(links: &[Link], from: &Source) -> Side
     requires { Rises 0 (numbers links.now) (2 ^ 32) }
-    ensures { is_passed_on result side.Peer ≡ submitted_from from.now links.now }
+    ensures { is_passed_on result side.Peer ≡ submitted_from from.now (here links.now) }
 {
     match from {
         Source::Link(number) => side_at(links, *number),
@@ -242,7 +262,7 @@ fn side_of(links: &[Link], from: &Source) -> Side
 /// Whether what comes from there was submitted here: that alone goes on to peers and uplinks.
 pub(crate) fn is_submitted(links: &[Link], from: &Source) -> bool
     requires { Rises 0 (numbers links.now) (2 ^ 32) }
-    ensures { result ≡ submitted_from from.now links.now }
+    ensures { result ≡ submitted_from from.now (here links.now) }
 {
     goes_to(side_of(links, from), Side::Peer)
 }
@@ -263,9 +283,9 @@ pub(crate) fn count_clients(links: &[Link]) -> usize
 /// Whether the port of that link has filters.
 pub(crate) fn has_filters_at(links: &[Link], number: u32) -> bool
     requires { Rises 0 (numbers links.now) (2 ^ 32) }
-    ensures { result ≡ filters_at number links.now }
+    ensures { result ≡ filters_at number (here links.now) }
 {
-    match place_of(links, number) {
+    match place_here(links, number) {
         Some(place) => links[place].has_filters(),
         None => false,
     }
@@ -280,15 +300,15 @@ pub(crate) fn bring(
     bytes: &[u8],
 ) -> Result<Vec<Cut>, Memory>
     requires { Rises 0 (numbers links.old.items) (2 ^ 32) }
-    ensures numbers { numbers links.new.items ≡ numbers links.old.items }
+    ensures named { map named_of links.new.items ≡ map named_of links.old.items }
     ensures halves { (states : List worker.LinkSeen) → AllMatch links.old.items states → AllMatch links.new.items states }
-    ensures links { (before : List ℕ) → held_at number links.old.items ≡ Some (held_after before)
+    ensures links { (before : List ℕ) → held_at number (here links.old.items) ≡ Some (held_after before)
         → OnOk result (links.new.items ≡ map (at_link number (with_bytes moment (held_after (before ++ bytes.now)))) links.old.items) }
-    ensures cuts { (before : List ℕ) → held_at number links.old.items ≡ Some (held_after before) → IfOk result (λ cuts. cuts.items ≡ cuts_by before bytes.now) }
-    ensures nowhere { held_at number links.old.items ≡ None → IfOk result (λ cuts. (cuts.items ≡ []) × (links.new.items ≡ links.old.items)) }
+    ensures cuts { (before : List ℕ) → held_at number (here links.old.items) ≡ Some (held_after before) → IfOk result (λ cuts. cuts.items ≡ cuts_by before bytes.now) }
+    ensures nowhere { held_at number (here links.old.items) ≡ None → IfOk result (λ cuts. (cuts.items ≡ []) × (links.new.items ≡ links.old.items)) }
 {
     let mut cuts = Vec::new(alloc);
-    match place_of(links.as_slice(), number) {
+    match place_here(links.as_slice(), number) {
         Some(place) => {
             links[place].bring(alloc, moment, bytes, &mut cuts)?;
             Ok(cuts)

@@ -2,7 +2,7 @@
 ghost use Rattle.std.specs.Prelude.{◌≡◌};
 ghost use Rattle.std.specs.List.{list_any};
 ghost use Rattle.q_construct.specs.Rule.{among};
-ghost use Rattle.served_links.specs.Links.{login_kept, logins_at, other_login, others_at};
+ghost use Rattle.served_links.specs.Links.{here, login_here, logins_at, other_here, others_at};
 
 use crate::link::Link;
 use aprs_base::{Call, Source};
@@ -15,9 +15,9 @@ pub struct Logins<'a> {
     pub from: Source,
 }
 
-/// Whether the link is verified and has logged in with this call.
+/// Whether the link is here, is verified and has logged in with this call.
 fn has_login(link: &Link, call: &Call) -> bool
-    ensures { result ≡ among call.now (login_kept link.now) }
+    ensures { result ≡ among call.now (login_here link.now) }
 {
     match link.verified_call() {
         Some(login) => *call == login,
@@ -27,42 +27,42 @@ fn has_login(link: &Link, call: &Call) -> bool
 
 /// The same where the link's number is another.
 fn has_other_login(link: &Link, number: u32, call: &Call) -> bool
-    ensures { result ≡ among call.now (other_login number link.now) }
+    ensures { result ≡ among call.now (other_here number link.now) }
 {
     link.number() != number && has_login(link, call)
 }
 
 /// Whether one of the links has, link by link.
 fn any_has_login(links: &[Link], call: &Call) -> bool
-    ensures { result ≡ list_any (λ link. among call.now (login_kept link)) links.now }
+    ensures { result ≡ list_any (λ link. among call.now (login_here link)) links.now }
 {
     links.iter().any(|link| has_login(link, call))
 }
 
 fn any_other_has_login(links: &[Link], number: u32, call: &Call) -> bool
-    ensures { result ≡ list_any (λ link. among call.now (other_login number link)) links.now }
+    ensures { result ≡ list_any (λ link. among call.now (other_here number link)) links.now }
 {
     links.iter().any(|link| has_other_login(link, number, call))
 }
 
 /// Whether a verified link has logged in with this call.
 fn have_login(links: &[Link], call: &Call) -> bool
-    ensures { result ≡ among call.now (logins_at links.now) }
+    ensures { result ≡ among call.now (logins_at (here links.now)) }
 {
     any_has_login(links, call)
 }
 
 /// Whether a verified link of another number has.
 fn have_other_login(links: &[Link], number: u32, call: &Call) -> bool
-    ensures { result ≡ among call.now (others_at number links.now) }
+    ensures { result ≡ among call.now (others_at number (here links.now)) }
 {
     any_other_has_login(links, number, call)
 }
 
 impl<'a> Calls for Logins<'a> {
-    ghost use Rattle.served_links.specs.Links.{others_from};
+    ghost use Rattle.served_links.specs.Links.{here, others_from};
 
-    ghost calls = { λ l. others_from l.from l.links.now };
+    ghost calls = { λ l. others_from l.from (here l.links.now) };
 
     fn have(&self, call: &Call) -> bool {
         match self.from {

@@ -1,5 +1,5 @@
 //! The links that are served, in the order of their numbers: what is kept of their sessions, and what they are fed.
-ghost use Rattle.std.specs.Prelude.{◌≡◌, ◌==◌, ◌≤◌, ◌<◌, ◌∷◌, ◌++◌, ℕ, [], IfOk, IfSome, IsTrue, List, None, OnErr, OnOk, Some, false, filter, length, map, min, slice_get, take, true};
+ghost use Rattle.std.specs.Prelude.{◌≡◌, ◌==◌, ◌≤◌, ◌<◌, ◌∷◌, ◌++◌, ℕ, [], IfOk, IfSome, IsTrue, List, None, OnErr, OnOk, Some, drop, false, filter, length, map, min, slice_get, take, true};
 ghost use Rattle.std.specs.Arc.{arc_value};
 ghost use Rattle.std.specs.List.Sorted.{IsStrictlyIncreasing};
 ghost use Rattle.aprs_base.specs.Bytes.{is_station};
@@ -9,9 +9,9 @@ ghost use Rattle.aprs_base.specs.PacketSeen.{PacketSeen};
 ghost use Rattle.line_verdict.specs.Voices.{HasStation, voice_of};
 ghost use Rattle.link_feeds.specs.Feeds.{met_by};
 ghost use Rattle.served_links.specs.Fed.{AllMatch, joined, joined_all, refused_of};
-ghost use Rattle.served_links.specs.Links.{Rises, client_at, clients_in, filters_at, has_number, held_at, is_late_link, is_lost, is_none_of, is_overfull, is_ready, numbers, others_from, pending_at, speaker_at, submitted_from};
+ghost use Rattle.served_links.specs.Links.{Rises, client_at, clients_in, filters_at, has_number, held_at, here, is_late_link, is_lost, is_none_of, is_overfull, is_ready, numbers, others_from, pending_at, speaker_at, submitted_from};
 ghost use Rattle.served_links.specs.Changes.{at_link, at_moment, new_link_seen, takes_packet, takes_shown, when_gone, with_bytes, with_date, with_filter, with_packet, with_room, with_session, with_shown, with_taken, with_text};
-ghost use Rattle.served_links.specs.Halves.{more};
+ghost use Rattle.served_links.specs.Halves.{AreHalves, IsSwept, more};
 ghost use Rattle.served_links.specs.EndLines.{late_line, lost_line, stop_line};
 ghost use Rattle.worker_match.specs.Items.{item_seen};
 ghost use Rattle.worker_match.specs.Seen.{Came};
@@ -20,10 +20,11 @@ ghost use Rattle.worker_match.specs.Walk.{IsOrdered};
 
 use crate::link::{Link, SourcePlace, Timeouts, feed_of, is_inbound};
 use crate::links::{
-    all, bring, count_clients, cutter_at, drop_these, give_room, has_filters_at, has_link,
-    is_client_at, is_submitted, late, lose, lost, offered, place_of, shows_any, voice_at,
+    all, cutter_at, has_filters_at, has_link, is_client_at, is_submitted, late, lost, offered,
+    place_here, place_of, shows_any, voice_at,
 };
 use crate::logins::Logins;
+use crate::sessions::Sessions;
 use crate::telling::{tell_late, tell_lost, tell_stopped};
 use aprs_base::{
     Addr, Body, Call, Cut, Cutter, Gate, JournalLine, Line, Memory, Packet, Parts, Shared, Source,
@@ -42,7 +43,7 @@ use worker_match::Item;
 
 #[derive(Drop)]
 pub struct Served {
-    halves: Vec<Link>,
+    halves: Sessions,
     feeds: Feeds,
     /// How many packet lines were put into queues, as far as they are counted.
     queued: u64,
@@ -51,14 +52,13 @@ pub struct Served {
 }
 
 impl Model for Served {
-    ghost use Rattle.std.specs.Prelude.{◌≡◌, true};
-    ghost use Rattle.served_links.specs.Halves.{AreHalves, ServedSeen, served_seen};
+    ghost use Rattle.served_links.specs.Halves.{AreHalves, AtRest, ServedSeen, served_seen};
 
     ghost Value = { ServedSeen };
 
-    ghost view = { λ s. served_seen s.halves.items s.feeds s.queued s.rests };
+    ghost view = { λ s. served_seen s.halves s.feeds s.queued s.rests };
 
-    ghost invariant = { λ s. AreHalves s.halves.items s.feeds × (s.rests ≡ true → s.feeds.settled ≡ true) };
+    ghost invariant = { λ s. AreHalves s.halves s.feeds × AtRest s.rests s.halves s.feeds };
 }
 
 impl Served {
@@ -67,7 +67,7 @@ impl Served {
         ensures { result ≡ record { links = []; queued = 0; settled = true; rests = true } }
     {
         Served {
-            halves: Vec::new(alloc),
+            halves: Sessions::new(alloc),
             feeds: Feeds::new(alloc),
             queued: 0,
             rests: true,
@@ -108,11 +108,13 @@ impl Served {
         settle_alone(&mut self.halves, &mut self.feeds)
     }
 
-    /// A round has been walked, and all that came is matched.
+    /// A round has been walked, and all that came is matched: the links that left in it are let go.
     pub fn rest(&mut self)
         requires { self.old.settled ≡ true }
         ensures { self.new ≡ record self.old { rests = true } }
     {
+        let put = sweep(&mut self.halves, &mut self.feeds);
+        self.queued = self.queued.saturating_add(put);
         self.rests = true;
     }
 
@@ -169,14 +171,16 @@ impl Served {
     {
         let first = Arc::new(alloc, first)?;
         let feed = feed_of(kind, &None);
-        self.halves.push(Link::open(number, kind, from, moment))?;
+        let put = make_way(&mut self.halves, &mut self.feeds, number);
+        self.queued = self.queued.saturating_add(put);
+        self.halves.open(number, kind, from, moment)?;
         match self
             .feeds
             .open(alloc, number, feed, is_inbound(kind), first)
         {
             Ok(()) => Ok(()),
             Err(memory) => {
-                self.halves.pop();
+                self.halves.take_back();
                 Err(memory)
             }
         }
@@ -229,12 +233,12 @@ impl Served {
     pub fn count_clients(&self) -> usize
         ensures { result ≡ clients_in self.now.links }
     {
-        count_clients(self.halves.as_slice())
+        self.halves.count_clients()
     }
 
     /// The logins of the verified links, but of the one that a line came from.
     pub fn logins(&self, from: Source) -> Logins<'_>
-        ensures { others_from result.from result.links.now ≡ others_from from self.now.links }
+        ensures { others_from result.from (here result.links.now) ≡ others_from from self.now.links }
     {
         Logins {
             links: self.halves.as_slice(),
@@ -309,14 +313,14 @@ impl Served {
     pub fn give_room(&mut self, number: u32)
         ensures { self.new ≡ record self.old { links = map (at_link number with_room) self.old.links } }
     {
-        give_room(&mut self.halves, number);
+        self.halves.give_room(number);
     }
 
     /// A send found the link gone.
     pub fn lose(&mut self, number: u32)
         ensures { self.new ≡ record self.old { links = map (at_link number when_gone) self.old.links } }
     {
-        lose(&mut self.halves, number);
+        self.halves.lose(number);
     }
 
     /// The link of that number brought bytes: what they cut.
@@ -333,7 +337,7 @@ impl Served {
         ensures cuts { (before : List ℕ) → held_at number self.old.links ≡ Some (held_after before) → IfOk result (λ cuts. cuts.items ≡ cuts_by before bytes.now) }
         ensures nowhere { held_at number self.old.links ≡ None → IfOk result (λ cuts. (cuts.items ≡ []) × (self.new ≡ self.old)) }
     {
-        bring(alloc, &mut self.halves, number, moment, bytes)
+        self.halves.bring(alloc, number, moment, bytes)
     }
 
     /// The link of that number has logged in, and is told so. Its login was last seen there. After `Memory` no link is left.
@@ -362,7 +366,7 @@ impl Served {
         let call = copy_call(&session.call);
         match place_of(self.halves.as_slice(), number) {
             Some(place) => {
-                let feed = self.halves[place].log_in(session);
+                let feed = self.halves.log_in(place, session);
                 self.feeds.log_in(place, feed, call, mine, reply);
             }
             None => {}
@@ -553,15 +557,45 @@ impl Served {
         }
         let put = self.feeds.count_put();
         self.queued = self.queued.saturating_add(put);
-        drop_these(&mut self.halves, ends);
+        self.halves.drop_these(ends);
         self.feeds.drop_these(ends);
     }
 
-    /// Writes the next bytes of the link, as many as there are and as fit.
+    /// The link of that number leaves. After `Memory` no link is left.
+    pub fn leave(&mut self, number: u32) -> Result<(), Memory>
+        ensures rises { OnErr result ((high : ℕ) → Rises 0 (numbers self.old.links) high → Rises 0 (numbers self.new.links) high) }
+        ensures ok { OnOk result (self.new ≡ record self.old { links = filter (is_none_of (number ∷ [])) self.old.links; settled = true }) }
+    {
+        self.settle_alone()?;
+        if self.rests {
+            self.part_from(&[number]);
+        } else {
+            self.part_later(number);
+        }
+        Ok(())
+    }
+
+    /// The same where all that came is matched, and a round is walked: the link keeps its place until it has been.
+    fn part_later(&mut self, number: u32)
+        requires settled { self.old.settled ≡ true }
+        requires wakes { self.old.rests ≡ false }
+        ensures { self.new ≡ record self.old { links = filter (is_none_of (number ∷ [])) self.old.links } }
+    {
+        match place_here(self.halves.as_slice(), number) {
+            Some(place) => {
+                self.halves.leave(place);
+                self.feeds.leave(place);
+            }
+            None => {}
+        }
+    }
+
+    /// Writes the next bytes of the link, as many as there are and as fit. The buffer stays as it was behind them.
     pub fn offer(&self, number: u32, out: &mut [u8]) -> usize
         requires { self.now.rests ≡ true }
         ensures count { result ≡ min (length out.old) (length (pending_at number self.now.links)) }
         ensures bytes { take result out.new ≡ take (length out.old) (pending_at number self.now.links) }
+        ensures rest { drop result out.new ≡ drop result out.old }
     {
         match place_of(self.halves.as_slice(), number) {
             Some(place) => self.feeds.front_bytes(place, out),
@@ -588,7 +622,7 @@ impl Served {
     {
         match place_of(self.halves.as_slice(), number) {
             Some(place) => {
-                self.halves[place].take(offered, count);
+                self.halves.take(place, offered, count);
                 self.feeds.taken(place, count);
             }
             None => {}
@@ -598,14 +632,14 @@ impl Served {
 
 /// All that came is matched by the crew. After `Memory` no link is left.
 fn settle<R: Threads + Sync, G: Gate + Sync>(
-    halves: &mut Vec<Link>,
+    halves: &mut Sessions,
     feeds: &mut Feeds,
     crew: &Crew<R, G>,
 ) -> Result<(), Memory>
     requires { (1 ≤ crew.now.workers) × (crew.now.workers ≤ 64) }
-    ensures halves { OnOk result (halves.new.items ≡ halves.old.items) }
+    ensures halves { OnOk result (halves.new ≡ halves.old) }
     ensures feeds { OnOk result (feeds.new ≡ record feeds.old { settled = true }) }
-    ensures cleared { OnErr result ((halves.new.items ≡ []) × (feeds.new ≡ record { links = []; settled = true })) }
+    ensures cleared { OnErr result ((halves.new ≡ []) × (feeds.new ≡ record { links = []; settled = true })) }
 {
     let done = feeds.settle(crew);
     if done.is_err() {
@@ -616,10 +650,10 @@ fn settle<R: Threads + Sync, G: Gate + Sync>(
 }
 
 /// The same by this thread alone.
-fn settle_alone(halves: &mut Vec<Link>, feeds: &mut Feeds) -> Result<(), Memory>
-    ensures halves { OnOk result (halves.new.items ≡ halves.old.items) }
+fn settle_alone(halves: &mut Sessions, feeds: &mut Feeds) -> Result<(), Memory>
+    ensures halves { OnOk result (halves.new ≡ halves.old) }
     ensures feeds { OnOk result (feeds.new ≡ record feeds.old { settled = true }) }
-    ensures cleared { OnErr result ((halves.new.items ≡ []) × (feeds.new ≡ record { links = []; settled = true })) }
+    ensures cleared { OnErr result ((halves.new ≡ []) × (feeds.new ≡ record { links = []; settled = true })) }
 {
     let done = feeds.settle_alone();
     if done.is_err() {
@@ -629,13 +663,42 @@ fn settle_alone(halves: &mut Vec<Link>, feeds: &mut Feeds) -> Result<(), Memory>
     done
 }
 
+/// The links that left are let go, once what was put is counted: how many lines that is.
+fn sweep(halves: &mut Sessions, feeds: &mut Feeds) -> u64
+    requires settled { feeds.old.settled ≡ true }
+    requires halves { AreHalves halves.old feeds.old }
+    ensures swept { IsSwept halves.old feeds.old halves.new feeds.new result }
+    ensures here { halves.new ≡ here halves.old }
+{
+    if halves.is_whole() {
+        return 0;
+    }
+    let put = feeds.count_put();
+    halves.sweep();
+    feeds.sweep();
+    put
+}
+
+/// The same where a link of that number can't come after those that are kept.
+fn make_way(halves: &mut Sessions, feeds: &mut Feeds, number: u32) -> u64
+    requires settled { feeds.old.settled ≡ true }
+    requires halves { AreHalves halves.old feeds.old }
+    ensures swept { IsSwept halves.old feeds.old halves.new feeds.new result }
+    ensures below { (high : ℕ) → Rises 0 (numbers (here halves.old)) high → high < number → (last : ℕ) × Rises 0 (numbers halves.new) last × (last < number) }
+{
+    if halves.is_below(number) {
+        return 0;
+    }
+    sweep(halves, feeds)
+}
+
 /// Something comes to the links, and is matched at once where they rest. After `Memory` no link is left.
-fn come(halves: &mut Vec<Link>, feeds: &mut Feeds, rests: bool, item: Item) -> Result<(), Memory>
+fn come(halves: &mut Sessions, feeds: &mut Feeds, rests: bool, item: Item) -> Result<(), Memory>
     requires { IsOrdered (item_seen item) }
-    ensures halves { OnOk result (halves.new.items ≡ halves.old.items) }
+    ensures halves { OnOk result (halves.new ≡ halves.old) }
     ensures links { OnOk result (feeds.new.links ≡ met_by (item_seen item) feeds.old.links) }
     ensures settled { OnOk result (feeds.new.settled ≡ rests) }
-    ensures cleared { OnErr result ((halves.new.items ≡ []) × (feeds.new ≡ record { links = []; settled = true })) }
+    ensures cleared { OnErr result ((halves.new ≡ []) × (feeds.new ≡ record { links = []; settled = true })) }
 {
     let done = bring_to(feeds, rests, item);
     if done.is_err() {

@@ -1,7 +1,7 @@
 //! What is told to the journals of links that end: each function puts its lines after those that are there.
 ghost use Rattle.std.specs.Prelude.{◌≡◌, ◌++◌, OnOk, filter, map};
 ghost use Rattle.served_links.specs.EndLines.{late_line, lost_line, stop_line};
-ghost use Rattle.served_links.specs.Links.{is_late_link, is_lost};
+ghost use Rattle.served_links.specs.Links.{here, is_late_here, is_lost_here};
 
 use crate::link::{Link, Timeouts};
 use aprs_base::{JournalLine, Memory};
@@ -14,7 +14,7 @@ pub(crate) fn tell_lost(
     now: u64,
     lines: &mut Vec<JournalLine>,
 ) -> Result<(), Memory>
-    ensures { OnOk result (lines.new.items ≡ lines.old.items ++ map (lost_line now) (filter is_lost links.now)) }
+    ensures { OnOk result (lines.new.items ≡ lines.old.items ++ map (lost_line now) (filter is_lost_here links.now)) }
 {
     for link in links {
         if link.is_lost() {
@@ -31,7 +31,7 @@ pub(crate) fn tell_late(
     now: u64,
     lines: &mut Vec<JournalLine>,
 ) -> Result<(), Memory>
-    ensures { OnOk result (lines.new.items ≡ lines.old.items ++ map (late_line now) (filter (is_late_link timeouts now) links.now)) }
+    ensures { OnOk result (lines.new.items ≡ lines.old.items ++ map (late_line now) (filter (is_late_here timeouts now) links.now)) }
 {
     for link in links {
         if link.is_late(timeouts, now) {
@@ -47,10 +47,12 @@ pub(crate) fn tell_stopped(
     now: u64,
     lines: &mut Vec<JournalLine>,
 ) -> Result<(), Memory>
-    ensures { OnOk result (lines.new.items ≡ lines.old.items ++ map (stop_line now) links.now) }
+    ensures { OnOk result (lines.new.items ≡ lines.old.items ++ map (stop_line now) (here links.now)) }
 {
     for link in links {
-        lines.push(end_line(now, link.number(), EndReason::ByStop))?;
+        if link.is_here() {
+            lines.push(end_line(now, link.number(), EndReason::ByStop))?;
+        }
     }
     Ok(())
 }

@@ -27,7 +27,7 @@ impl Walker {
     {
         self.reach.end_at(&self.links, number, self.moment);
         self.heard.forget(number);
-        self.links.drop_these(&[number])
+        self.links.leave(number)
     }
 
     /// The links that are late end.

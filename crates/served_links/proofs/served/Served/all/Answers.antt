@@ -6,5 +6,5 @@ use Rattle.served_links.proofs.served.Served.all.Goals as goal
 
 pub returns : goal.returns
 returns c =
-    subst (λ (all : List ℕ). IfOk c.all.result (λ v. v.items ≡ all)) (asked c.self.inside c.self.view_is c.as_slice.ensures.value numbers (numbers_same c.self.inside.halves.items c.self.inside.feeds.links c.self.invariant.0.match))
+    subst (λ (all : List ℕ). IfOk c.all.result (λ v. v.items ≡ all)) (asked c.self.inside c.self.view_is c.self.invariant.0.match c.as_slice.ensures.value numbers (numbers_same))
     c.all.ensures

@@ -1,7 +1,12 @@
-use Rattle.std.proofs.Common.{Some, ap, refl, ◌∙◌, List}
+use Rattle.std.proofs.Common.{◌≡◌, ℕ, Option, Some, ap, refl, slice_get, ◌∙◌, List}
 use Rattle.std.specs.List.{position}
 use Rattle.std.specs.Arc.{arc_value}
-use Rattle.aprs_history.specs.Stands.{LinkSeen}
+use Rattle.aprs_history.specs.declared.verdicts.Session.{Session}
+use Rattle.aprs_history.specs.Stands.{LinkSeen, place_kept}
+use Rattle.filter_eval.specs.declared.seen.Seen.{Seen}
+use Rattle.worker_match.specs.declared.links.Feed.{Feed}
+use Rattle.served_links.specs.Fed.{Matches}
+use Rattle.served_links.proofs.HereLemmas.{named_text}
 use Rattle.link_feeds.specs.Feeds.{told, with_login}
 use Rattle.worker_match.specs.Seen as worker
 use Rattle.served_links.specs.Links.{has_that}
@@ -15,24 +20,45 @@ log_in-requires-clause-settled c = ap settled_of c.self.view_is ∙ c.requires.s
 
 pub log_in-requires-clause-within : goal.log_in-requires-clause-within
 log_in-requires-clause-within c =
-    let hs = c.self.inside.halves.items in
+    let hs = c.self.inside.halves in
     within_feeds c.in-Some.place hs c.self.inside.feeds c.self.invariant.0 (within_halves c.args.number c.in-Some.place hs c.as_slice.result.now c.as_slice.ensures.value c.in-Some.ensures)
+
+pub log_in-feed-requires-clause-within : goal.log_in-feed-requires-clause-within
+log_in-feed-requires-clause-within c = within_halves c.args.number c.in-Some.place c.self.inside.halves c.as_slice.result.now c.as_slice.ensures.value c.in-Some.ensures
+
+abbrev begun : Session → LinkSeen → LinkSeen
+begun session half = record half { session = Some session }
+
+-- what the link is fed then, and told
+abbrev fed : Feed → List ℕ → Option Seen → List ℕ → worker.LinkSeen → worker.LinkSeen
+fed feed call mine reply state = told reply (with_login feed call mine state)
 
 pub invariant_of-self : goal.invariant_of-self
 invariant_of-self c =
-    both_are c.args.number c.self.inside.halves.items c.as_slice.result.now c.self.inside.feeds c.log_in.new.self c.self.invariant.0 c.in-Some.place c.as_slice.ensures.value c.in-Some.ensures
-    c.index_mut.result.now (record c.index_mut.result.now { session = Some c.args.session }) c.log_in-feed.new.self c.index_mut.ensures.value refl c.log_in-feed.ensures.exact
-    (λ (s : worker.LinkSeen). told (arc_value c.args.reply) (with_login c.log_in-feed.result c.copy_call-call.result c.args.mine s)) (λ s m. told_matches (record c.index_mut.result.now { session = Some c.args.session }) s.link (arc_value c.args.reply) (with_login c.log_in-feed.result c.copy_call-call.result c.args.mine s) (login_matches c.index_mut.result.now s c.args.session c.log_in-feed.result c.copy_call-call.result c.args.mine m c.log_in-feed.ensures.feed c.copy_call-call.ensures)) c.log_in.ensures
-    c.self.invariant.1
+    both_are c.args.number c.self.inside.halves c.as_slice.result.now c.self.inside.feeds c.log_in.new.self c.self.invariant.0 c.in-Some.place c.as_slice.ensures.value
+    (within_halves c.args.number c.in-Some.place c.self.inside.halves c.as_slice.result.now c.as_slice.ensures.value c.in-Some.ensures)
+    (begun c.args.session) c.log_in-feed.new.self c.log_in-feed.ensures.session (λ h. refl)
+    (fed c.log_in-feed.result c.copy_call-call.result c.args.mine (arc_value c.args.reply)) (λ h s got m. told_matches (begun c.args.session h) s.link (arc_value c.args.reply) (with_login c.log_in-feed.result c.copy_call-call.result c.args.mine s)
+    (login_matches h s c.args.session c.log_in-feed.result c.copy_call-call.result c.args.mine m (c.log_in-feed.ensures.feed h got) c.copy_call-call.ensures)) c.log_in.ensures
+    (λ h. refl) c.self.invariant.1
 
 pub returns-in-Some : goal.returns-in-Some
 returns-in-Some c =
-    both_seen c.args.number c.self.inside.halves.items c.as_slice.result.now c.self.inside.feeds c.log_in.new.self c.self.invariant.0 c.in-Some.place c.as_slice.ensures.value c.in-Some.ensures
-    c.index_mut.result.now (record c.index_mut.result.now { session = Some c.args.session }) c.log_in-feed.new.self c.index_mut.ensures.value refl c.log_in-feed.ensures.exact
-    (λ (s : worker.LinkSeen). told (arc_value c.args.reply) (with_login c.log_in-feed.result c.copy_call-call.result c.args.mine s)) (λ s m. told_matches (record c.index_mut.result.now { session = Some c.args.session }) s.link (arc_value c.args.reply) (with_login c.log_in-feed.result c.copy_call-call.result c.args.mine s) (login_matches c.index_mut.result.now s c.args.session c.log_in-feed.result c.copy_call-call.result c.args.mine m c.log_in-feed.ensures.feed c.copy_call-call.ensures)) c.log_in.ensures
-    (with_session c.args.session c.args.mine (arc_value c.args.reply)) (λ s m. told_same (record c.index_mut.result.now { session = Some c.args.session }) (with_login c.log_in-feed.result c.copy_call-call.result c.args.mine s) (login_matches c.index_mut.result.now s c.args.session c.log_in-feed.result c.copy_call-call.result c.args.mine m c.log_in-feed.ensures.feed c.copy_call-call.ensures) (arc_value c.args.reply)) (λ s m. told_uncounted (record c.index_mut.result.now { session = Some c.args.session }) (with_login c.log_in-feed.result c.copy_call-call.result c.args.mine s) (login_matches c.index_mut.result.now s c.args.session c.log_in-feed.result c.copy_call-call.result c.args.mine m c.log_in-feed.ensures.feed c.copy_call-call.ensures) s.link (arc_value c.args.reply)) c.self.inside.queued c.self.inside.rests c.args.self.now c.self.view_is
+    let reply = arc_value c.args.reply in
+    let logged = with_login c.log_in-feed.result c.copy_call-call.result c.args.mine in
+    let match = λ (h : LinkSeen) (s : worker.LinkSeen) (got : slice_get c.self.inside.halves c.in-Some.place ≡ Some h) (m : Matches h s).
+    login_matches h s c.args.session c.log_in-feed.result c.copy_call-call.result c.args.mine m (c.log_in-feed.ensures.feed h got) c.copy_call-call.ensures in
+    both_seen c.args.number c.self.inside.halves c.as_slice.result.now c.self.inside.feeds c.log_in.new.self c.self.invariant.0 c.in-Some.place c.as_slice.ensures.value
+    (within_halves c.args.number c.in-Some.place c.self.inside.halves c.as_slice.result.now c.as_slice.ensures.value c.in-Some.ensures)
+    (begun c.args.session) c.log_in-feed.new.self c.log_in-feed.ensures.session (λ h. refl)
+    (fed c.log_in-feed.result c.copy_call-call.result c.args.mine reply) (λ h s got m. told_matches (begun c.args.session h) s.link reply (logged s) (match h s got m)) c.log_in.ensures
+    (with_session c.args.session c.args.mine reply) c.in-Some.ensures (λ link. named_text reply (record link { session = Some c.args.session; mine = place_kept link.over c.args.mine }))
+    (λ h s got m. told_same (begun c.args.session h) (logged s) (match h s got m) reply) (λ h s got m. told_uncounted (begun c.args.session h) (logged s) (match h s got m) s.link reply)
+    c.self.inside.queued c.self.inside.rests c.args.self.now c.self.view_is
 
 pub returns-in-None : goal.returns-in-None
 returns-in-None c =
-    ap (λ (links : List LinkSeen). record c.args.self.now { links = links }) (changed_nobody c.args.number (with_session c.args.session c.args.mine (arc_value c.args.reply)) c.self.inside.halves.items c.args.self.now.links c.self.inside.feeds c.self.invariant.0
-    (c.in-None.ensures ∙ ap (position (has_that c.args.number)) c.as_slice.ensures.value) (ap links_of c.self.view_is))
+    let reply = arc_value c.args.reply in
+    ap (λ (links : List LinkSeen). record c.args.self.now { links = links }) (changed_nobody c.args.number (with_session c.args.session c.args.mine reply) c.self.inside.halves c.args.self.now.links c.self.inside.feeds c.self.invariant.0
+    (c.in-None.ensures ∙ ap (position (has_that c.args.number)) c.as_slice.ensures.value) (ap links_of c.self.view_is)
+    (λ link. named_text reply (record link { session = Some c.args.session; mine = place_kept link.over c.args.mine })))

@@ -6,5 +6,5 @@ use Rattle.served_links.proofs.served.Served.cutter_at.Goals as goal
 
 pub returns : goal.returns
 returns c =
-    c.cutter_at.ensures ∙ asked c.self.inside c.self.view_is c.as_slice.ensures.value (held_at c.args.number)
-    (picked_same held_kept (λ h s. refl) None c.args.number c.self.inside.halves.items c.self.inside.feeds.links c.self.invariant.0.match)
+    c.cutter_at.ensures ∙ asked c.self.inside c.self.view_is c.self.invariant.0.match c.as_slice.ensures.value (held_at c.args.number)
+    (picked_same held_kept (λ h s. refl) None c.args.number)

@@ -1,16 +1,17 @@
 use Rattle.std.proofs.Common.{refl}
 use Rattle.served_links.specs.Changes.{with_room}
-use Rattle.served_links.proofs.ServedSteps.{stepped_are, stepped_seen}
+use Rattle.served_links.proofs.ServedSteps.{stepped_are, stepped_rests, stepped_seen}
 use Rattle.served_links.proofs.served.Served.give_room.Goals as goal
 
 pub invariant_of-self : goal.invariant_of-self
 invariant_of-self c = (
   stepped_are c.args.number with_room (λ h s m. record { link = m.link; inbound = m.inbound; alive = m.alive; limit = m.limit; feed = m.feed; me = m.me; many = m.many }) (λ h s. refl) (λ h. refl)
-      c.self.inside c.give_room.new.links.items c.give_room.ensures c.self.invariant.0,
-  c.self.invariant.1,
+      c.self.inside c.give_room.new.self c.give_room.ensures c.self.invariant.0,
+  stepped_rests c.args.number with_room (λ h s m. record { link = m.link; inbound = m.inbound; alive = m.alive; limit = m.limit; feed = m.feed; me = m.me; many = m.many }) (λ h s. refl) (λ h. refl)
+      c.self.inside c.give_room.new.self c.give_room.ensures c.self.invariant.1,
 )
 
 pub returns : goal.returns
 returns c =
     stepped_seen c.args.number with_room (λ h s m. record { link = m.link; inbound = m.inbound; alive = m.alive; limit = m.limit; feed = m.feed; me = m.me; many = m.many }) (λ h s. refl) (λ h. refl)
-    c.self.inside c.give_room.new.links.items c.give_room.ensures c.self.view_is
+    c.self.inside c.give_room.new.self c.give_room.ensures c.self.view_is

@@ -6,5 +6,5 @@ use Rattle.served_links.proofs.served.Served.has_link.Goals as goal
 
 pub returns : goal.returns
 returns c =
-    c.has_link.ensures ∙ asked c.self.inside c.self.view_is c.as_slice.ensures.value (has_number c.args.number)
-    (any_same (has_that c.args.number) (λ h s. refl) c.self.inside.halves.items c.self.inside.feeds.links c.self.invariant.0.match)
+    c.has_link.ensures ∙ asked c.self.inside c.self.view_is c.self.invariant.0.match c.as_slice.ensures.value (has_number c.args.number)
+    (any_same (has_that c.args.number) (λ h s. refl))

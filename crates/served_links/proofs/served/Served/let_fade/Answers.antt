@@ -1,9 +1,9 @@
-use Rattle.std.proofs.Common.{◌≡◌, ap, map, refl, ◌∙◌}
+use Rattle.std.proofs.Common.{◌≡◌, ap, refl, ◌∙◌}
 use Rattle.link_feeds.specs.Feeds.{FeedsSeen, forgotten, put_in}
 use Rattle.served_links.specs.Fed.{joined_all}
 use Rattle.served_links.specs.Changes.{at_moment}
 use Rattle.served_links.proofs.ServedLemmas.{any_half, put_kept, states_changed}
-use Rattle.served_links.proofs.ServedSteps.{fed_on, forgotten_matches, forgotten_same, links_of, seen_changed, settled_of}
+use Rattle.served_links.proofs.ServedSteps.{fed_on, forgotten_matches, forgotten_same, seen_stepped, settled_of}
 use Rattle.served_links.proofs.served.Served.let_fade.Goals as goal
 
 pub forget-requires : goal.forget-requires
@@ -11,15 +11,16 @@ forget-requires c = ap settled_of c.self.view_is ∙ c.requires
 
 pub invariant_of-self : goal.invariant_of-self
 invariant_of-self c = (
-  fed_on (forgotten c.args.now) (forgotten_matches c.args.now) c.self.inside.halves.items c.self.inside.feeds c.forget.new.self c.self.invariant.0 c.forget.ensures,
-  λ rests. ap (λ (f : FeedsSeen). f.settled) c.forget.ensures ∙ c.self.invariant.1 rests,
+  fed_on (forgotten c.args.now) (forgotten_matches c.args.now) c.self.inside.halves c.self.inside.feeds c.forget.new.self c.self.invariant.0 c.forget.ensures,
+  (λ rests. ap (λ (f : FeedsSeen). f.settled) c.forget.ensures ∙ c.self.invariant.1.0 rests, c.self.invariant.1.1),
 )
 
 pub returns : goal.returns
 returns c =
-    seen_changed c.self.inside.halves.items c.self.inside.halves.items c.self.inside.feeds c.forget.new.self c.self.inside.queued c.self.inside.rests c.args.self.now (map (at_moment c.args.now) c.args.self.now.links) c.self.view_is
-    (ap (λ (f : FeedsSeen). joined_all c.self.inside.halves.items f.links) c.forget.ensures
-    ∙ states_changed (forgotten c.args.now) (λ h. h ≡ h) (at_moment c.args.now) (λ h s same m. forgotten_same c.args.now h s) c.self.inside.halves.items c.self.inside.feeds.links (any_half c.self.inside.halves.items) c.self.invariant.0.match
-    ∙ ap (map (at_moment c.args.now)) (ap links_of c.self.view_is))
-    (ap (λ (f : FeedsSeen). put_in f.links) c.forget.ensures ∙ put_kept (forgotten c.args.now) (λ h s m. refl) c.self.inside.halves.items c.self.inside.feeds.links c.self.invariant.0.match)
+    let hs = c.self.inside.halves in
+    let ss = c.self.inside.feeds.links in
+    seen_stepped hs hs c.self.inside.feeds c.forget.new.self c.self.inside.queued c.self.inside.rests c.args.self.now (at_moment c.args.now) (λ link. refl) c.self.view_is
+    (ap (λ (f : FeedsSeen). joined_all hs f.links) c.forget.ensures
+    ∙ states_changed (forgotten c.args.now) (λ h. h ≡ h) (at_moment c.args.now) (λ h s same m. forgotten_same c.args.now h s) hs ss (any_half hs) c.self.invariant.0.match)
+    (ap (λ (f : FeedsSeen). put_in f.links) c.forget.ensures ∙ put_kept (forgotten c.args.now) (λ h s m. refl) hs ss c.self.invariant.0.match)
     (ap (λ (f : FeedsSeen). f.settled) c.forget.ensures)

@@ -4,4 +4,4 @@ use Rattle.served_links.proofs.ServedSteps.{asked}
 use Rattle.served_links.proofs.served.Served.logins.Goals as goal
 
 pub returns : goal.returns
-returns c = asked c.self.inside c.self.view_is c.as_slice.ensures.value (others_from c.args.from) (others_same c.args.from c.self.inside.halves.items c.self.inside.feeds.links c.self.invariant.0.match)
+returns c = asked c.self.inside c.self.view_is c.self.invariant.0.match c.as_slice.ensures.value (others_from c.args.from) (others_same c.args.from)

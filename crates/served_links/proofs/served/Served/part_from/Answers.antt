@@ -2,8 +2,9 @@ use Rattle.std.proofs.lemmas.List.{nil_from_length}
 use Rattle.std.proofs.lemmas.Bool.{eqb-true}
 use Rattle.std.proofs.Common.{ap, filter, sym, ◌∙◌, List, length}
 use Rattle.aprs_history.specs.Stands.{LinkSeen}
-use Rattle.served_links.specs.Links.{is_none_of}
+use Rattle.served_links.specs.Links.{is_none_of, is_whole}
 use Rattle.link_feeds.specs.Feeds.{FeedsSeen}
+use Rattle.served_links.proofs.HereLemmas.{whole_filter}
 use Rattle.served_links.proofs.ServedSteps.{left_are, left_seen, none_leaves, settled_of}
 use Rattle.served_links.proofs.served.Served.part_from.Goals as goal
 
@@ -20,11 +21,14 @@ drop_these-requires-2 c = ap (λ (f : FeedsSeen). f.settled) c.count_put-put.ens
 
 pub invariant_of-self : goal.invariant_of-self
 invariant_of-self c = (
-  left_are c.args.ends.now c.self.inside.halves.items c.drop_these.new.links.items c.self.inside.feeds c.count_put-put.new.self c.drop_these-2.new.self c.self.invariant.0 c.drop_these.ensures c.count_put-put.ensures.counted c.drop_these-2.ensures,
-  λ rests. ap (λ (f : FeedsSeen). f.settled) c.drop_these-2.ensures ∙ ap (λ (f : FeedsSeen). f.settled) c.count_put-put.ensures.counted ∙ c.self.invariant.1 rests,
+  left_are c.args.ends.now c.self.inside.halves c.drop_these.new.self c.self.inside.feeds c.count_put-put.new.self c.drop_these-2.new.self c.self.invariant.0 c.drop_these.ensures c.count_put-put.ensures.counted c.drop_these-2.ensures,
+  (
+    λ rests. ap (λ (f : FeedsSeen). f.settled) c.drop_these-2.ensures ∙ ap (λ (f : FeedsSeen). f.settled) c.count_put-put.ensures.counted ∙ c.self.invariant.1.0 rests,
+    λ rests. ap is_whole c.drop_these.ensures ∙ whole_filter (is_none_of c.args.ends.now) c.self.inside.halves (c.self.invariant.1.1 rests),
+  ),
 )
 
 pub returns : goal.returns
 returns c =
-    left_seen c.args.ends.now c.self.inside.halves.items c.drop_these.new.links.items c.self.inside.feeds c.count_put-put.new.self c.drop_these-2.new.self c.count_put-put.result c.self.inside.queued c.saturating_add-self-inside.result c.self.inside.rests c.args.self.now
+    left_seen c.args.ends.now c.self.inside.halves c.drop_these.new.self c.self.inside.feeds c.count_put-put.new.self c.drop_these-2.new.self c.count_put-put.result c.self.inside.queued c.saturating_add-self-inside.result c.self.inside.rests c.args.self.now
     c.self.invariant.0 c.drop_these.ensures c.count_put-put.ensures.count c.count_put-put.ensures.counted c.drop_these-2.ensures c.saturating_add-self-inside.ensures c.self.view_is

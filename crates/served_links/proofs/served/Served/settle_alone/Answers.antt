@@ -2,11 +2,11 @@ use Rattle.served_links.proofs.ServedSteps.{met_rises, settled_are, settled_seen
 use Rattle.served_links.proofs.served.Served.settle_alone.Goals as goal
 
 pub invariant_of-self : goal.invariant_of-self
-invariant_of-self c = settled_are c.settle_alone.result c.self.inside c.settle_alone.new.halves.items c.settle_alone.new.feeds c.self.invariant.0 c.settle_alone.ensures.halves c.settle_alone.ensures.feeds c.settle_alone.ensures.cleared
+invariant_of-self c = settled_are c.settle_alone.result c.self.inside c.settle_alone.new.halves c.settle_alone.new.feeds c.self.invariant.0 c.settle_alone.ensures.halves c.settle_alone.ensures.feeds c.settle_alone.ensures.cleared c.self.invariant.1
 
 pub returns-clause-rises : goal.returns-clause-rises
 returns-clause-rises c =
-    met_rises c.settle_alone.result c.self.inside c.settle_alone.new.halves.items c.settle_alone.new.feeds c.self.view_is c.self.invariant.0 (invariant_of-self c).0 c.settle_alone.ensures.halves c.settle_alone.ensures.cleared
+    met_rises c.settle_alone.result c.self.inside c.settle_alone.new.halves c.settle_alone.new.feeds c.self.view_is c.self.invariant.0 (invariant_of-self c).0 c.settle_alone.ensures.halves c.settle_alone.ensures.cleared
 
 pub returns-clause-ok : goal.returns-clause-ok
-returns-clause-ok c = settled_seen c.settle_alone.result c.self.inside c.settle_alone.new.halves.items c.settle_alone.new.feeds c.settle_alone.ensures.halves c.settle_alone.ensures.feeds c.self.view_is
+returns-clause-ok c = settled_seen c.settle_alone.result c.self.inside c.settle_alone.new.halves c.settle_alone.new.feeds c.settle_alone.ensures.halves c.settle_alone.ensures.feeds c.self.view_is

@@ -9,6 +9,6 @@ pub returns : goal.returns
 returns c =
     on_ok_weaker c.tell_stopped.result
     (λ is. is ∙ ap (λ more. c.args.lines.now.items ++ more)
-    (asked c.self.inside c.self.view_is c.as_slice.ensures.value (map (stop_line c.args.now))
-    (map_same (stop_line c.args.now) (λ h s. refl) c.self.inside.halves.items c.self.inside.feeds.links c.self.invariant.0.match)))
+    (asked c.self.inside c.self.view_is c.self.invariant.0.match c.as_slice.ensures.value (map (stop_line c.args.now))
+    (map_same (stop_line c.args.now) (λ h s. refl))))
     c.tell_stopped.ensures

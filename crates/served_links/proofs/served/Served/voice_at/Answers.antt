@@ -10,5 +10,5 @@ use Rattle.served_links.proofs.served.Served.voice_at.Goals as goal
 pub returns-clause-value : goal.returns-clause-value
 returns-clause-value c =
     c.voice_at.ensures.value
-    ∙ asked c.self.inside c.self.view_is c.as_slice.ensures.value (λ links. voice_of (speaker_at c.args.number links))
-    (ap voice_of (picked_same speaker_kept (λ h s. refl) (Visitor port.Full None) c.args.number c.self.inside.halves.items c.self.inside.feeds.links c.self.invariant.0.match))
+    ∙ asked c.self.inside c.self.view_is c.self.invariant.0.match c.as_slice.ensures.value (λ links. voice_of (speaker_at c.args.number links))
+    (λ hs ss all. ap voice_of (picked_same speaker_kept (λ h s. refl) (Visitor port.Full None) c.args.number hs ss all))
