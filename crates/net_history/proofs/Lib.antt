@@ -1,0 +1,26 @@
+pub mod AcceptanceLemmas
+pub mod BetweenLemmas
+pub mod CastLineLemmas
+pub mod ConstructLemmas
+pub mod DescentLemmas
+mod DescentRows
+pub mod EventLemmas
+pub mod FinishLemmas
+pub mod GrowthLemmas
+pub mod KindLemmas
+pub mod MailLemmas
+pub mod OpeningLemmas
+pub mod PacketLineLemmas
+pub mod PairLineLemmas
+pub mod PassingLemmas
+pub mod PlaceLemmas
+pub mod Rows
+pub mod RunLemmas
+pub mod SaidLemmas
+pub mod SessionLemmas
+pub mod SettingLemmas
+pub mod StreamLemmas
+pub mod TieLemmas
+pub mod ToldLemmas
+pub mod TrailLemmas
+pub mod ZipLemmas

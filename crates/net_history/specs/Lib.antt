@@ -1,0 +1,12 @@
+pub mod Acceptances
+pub mod Constructs
+pub mod DescentLaws
+pub mod Descents
+pub mod Laws
+pub mod Network
+pub mod Premises
+pub mod Report
+pub mod Serving
+pub mod Steps
+pub mod Streams
+pub mod Trails
