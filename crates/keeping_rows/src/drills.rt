@@ -1,7 +1,7 @@
 //! Drills, event by event.
 ghost use Rattle.std.specs.Prelude.{◌≤◌};
 
-use crate::fields::{Answer, Fault, Fields, UNKNOWN, not_allowed, said, yes_or_no};
+use crate::fields::{Answer, Fault, Fields, not_allowed, said, shown, yes_or_no};
 use aprs_base::Event;
 use drill_plan::{Events, Plan, copy_events};
 use row_texts::write_bytes;
@@ -38,6 +38,16 @@ fn event_text(alloc: Global, event: Option<&Event>) -> Answer {
     }
 }
 
+/// What is asked of the events that are left.
+fn asked(alloc: Global, left: &[Event], word: &str, place: usize) -> Answer {
+    match word {
+        "at" => event_text(alloc, left.get(place)),
+        "length" => shown(alloc, left.len()),
+        "last" => event_text(alloc, left.last()),
+        _ => Err(Fault::Unknown),
+    }
+}
+
 impl Drill {
     pub fn new(alloc: Global) -> Drill {
         let plan = Plan {
@@ -51,7 +61,12 @@ impl Drill {
         }
     }
 
-    fn begin(&mut self, plan: Plan) -> Answer {
+    fn begin(&mut self, fields: &mut Fields) -> Answer {
+        let plan = Plan {
+            seed: fields.number(),
+            lines: fields.number(),
+            links: fields.number(),
+        };
         if plan.links > 1000 {
             return not_allowed(self.alloc);
         }
@@ -59,28 +74,21 @@ impl Drill {
         said(self.alloc, "done")
     }
 
-    /// The events that are left.
-    fn left(&self) -> Result<Vec<Event>, Fault> {
-        Ok(copy_events(&self.events).collect(self.alloc)?)
-    }
-
     pub fn answer(&mut self, fields: &mut Fields) -> Answer {
         match fields.word() {
-            "new" => self.begin(Plan {
-                seed: fields.number()?,
-                lines: fields.number()?,
-                links: fields.number()?,
-            }),
+            "new" => self.begin(fields),
             "next" => event_text(self.alloc, self.events.next().as_ref()),
             "copied" => event_text(self.alloc, copy_events(&self.events).next().as_ref()),
-            "at" => {
-                let place: usize = fields.number()?;
-                event_text(self.alloc, self.left()?.get(place))
-            }
-            "length" => Ok(self.left()?.len().to_string(self.alloc)?),
-            "last" => event_text(self.alloc, self.left()?.last()),
             "over" => yes_or_no(self.alloc, self.events.is_over()),
-            _ => Err(UNKNOWN),
+            word => {
+                let left: Vec<Event> = copy_events(&self.events).collect(self.alloc)?;
+                asked(
+                    self.alloc,
+                    left.as_slice(),
+                    word,
+                    fields.perhaps().unwrap_or(0),
+                )
+            }
         }
     }
 }

@@ -1,6 +1,6 @@
 //! The lines of the journal, as operators read them.
 
-use crate::fields::{Answer, Fault, Fields, UNKNOWN};
+use crate::fields::{Answer, Fault, Fields};
 use crate::refusals::read_refusal;
 use aprs_base::{JournalLine, Kind, Source};
 use aprs_history::{EndReason, Session};
@@ -11,16 +11,25 @@ use journal_lines::{
 use row_texts::write_bytes;
 use std::alloc::Global;
 
-fn kind_name(kind: Kind) -> &'static str {
-    match kind {
+const VERIFIED: [(&str, bool); 2] = [("verified", true), ("unverified", false)];
+
+const REASONS: [(&str, EndReason); 8] = [
+    ("by-peer", EndReason::ByPeer),
+    ("found-gone", EndReason::FoundGone),
+    ("no-login", EndReason::NoLogin),
+    ("silent", EndReason::Silent),
+    ("overfull", EndReason::Overfull),
+    ("full", EndReason::Full),
+    ("unasked", EndReason::Unasked),
+    ("by-stop", EndReason::ByStop),
+];
+
+fn line_text(alloc: Global, line: &JournalLine) -> Answer {
+    let kind = match line.kind {
         Kind::Refusal => "refusal",
         Kind::Loop => "loop",
         Kind::Session => "session",
-    }
-}
-
-fn line_text(alloc: Global, line: &JournalLine) -> Answer {
-    let kind = kind_name(line.kind);
+    };
     let moment = line.moment;
     let text = write_bytes(alloc, line.text.as_slice())?;
     Ok(format!(in alloc; "{kind} {moment} {text}")?)
@@ -28,67 +37,55 @@ fn line_text(alloc: Global, line: &JournalLine) -> Answer {
 
 fn read_source(fields: &mut Fields) -> Result<Source, Fault> {
     match fields.word() {
-        "link" => Ok(Source::Link(fields.number()?)),
-        "submit" => Ok(Source::Submit(fields.number()?)),
-        "peer" => Ok(Source::Peer(fields.number()?)),
-        _ => Err(UNKNOWN),
+        "link" => Ok(Source::Link(fields.number())),
+        "submit" => Ok(Source::Submit(fields.number())),
+        "peer" => Ok(Source::Peer(fields.number())),
+        _ => Err(Fault::Unknown),
     }
 }
 
 fn read_session(fields: &mut Fields) -> Result<Session, Fault> {
-    let call = fields.call()?;
-    match fields.word() {
-        "verified" => Ok(Session {
-            call,
-            verified: true,
-        }),
-        "unverified" => Ok(Session {
-            call,
-            verified: false,
-        }),
-        _ => Err(UNKNOWN),
-    }
+    Ok(Session {
+        call: fields.call(),
+        verified: fields.named(VERIFIED.as_slice())?,
+    })
 }
 
-fn read_reason(word: &str) -> Result<EndReason, Fault> {
-    match word {
-        "by-peer" => Ok(EndReason::ByPeer),
-        "found-gone" => Ok(EndReason::FoundGone),
-        "no-login" => Ok(EndReason::NoLogin),
-        "silent" => Ok(EndReason::Silent),
-        "overfull" => Ok(EndReason::Overfull),
-        "full" => Ok(EndReason::Full),
-        "unasked" => Ok(EndReason::Unasked),
-        "by-stop" => Ok(EndReason::ByStop),
-        _ => Err(UNKNOWN),
-    }
+fn refused(from: &Source, moment: u64, fields: &mut Fields) -> Result<JournalLine, Fault> {
+    let refusal = read_refusal(fields)?;
+    Ok(refusal_line(3, from, moment, &refusal))
+}
+
+fn logged_in(from: &Source, moment: u64, fields: &mut Fields) -> Result<JournalLine, Fault> {
+    let session = read_session(fields)?;
+    Ok(login_line(3, from, moment, &session))
 }
 
 /// The line of what a session or a datagram is refused or does, where 3 is the listener of the group.
 fn line_from(word: &str, moment: u64, fields: &mut Fields) -> Result<JournalLine, Fault> {
     let from = read_source(fields)?;
     match word {
-        "refused" => Ok(refusal_line(3, &from, moment, &read_refusal(fields)?)),
+        "refused" => refused(&from, moment, fields),
         "duplicate" => Ok(duplicate_line(3, &from, moment)),
-        "login" => Ok(login_line(3, &from, moment, &read_session(fields)?)),
+        "login" => logged_in(&from, moment, fields),
         "filter" => Ok(filter_line(3, &from, moment)),
-        _ => Err(UNKNOWN),
+        _ => Err(Fault::Unknown),
     }
 }
 
 fn line(word: &str, moment: u64, fields: &mut Fields) -> Result<JournalLine, Fault> {
     match word {
-        "open" => Ok(open_line(moment, fields.number()?, fields.number()?)),
-        "join" => Ok(join_line(moment, fields.number()?, fields.number()?)),
-        "unjoined" => Ok(unjoined_line(moment, fields.number()?)),
-        "end" => Ok(end_line(moment, fields.number()?, read_reason(fields.word())?)),
+        "open" => Ok(open_line(moment, fields.number(), fields.number())),
+        "join" => Ok(join_line(moment, fields.number(), fields.number())),
+        "unjoined" => Ok(unjoined_line(moment, fields.number())),
+        "end" => Ok(end_line(moment, fields.number(), fields.named(REASONS.as_slice())?)),
         _ => line_from(word, moment, fields),
     }
 }
 
 pub fn answer(fields: &mut Fields) -> Answer {
     let word = fields.word();
-    let moment = fields.number()?;
+    let moment = fields.number();
     let line = line(word, moment, fields)?;
     line_text(fields.alloc, &line)
 }

@@ -1,14 +1,13 @@
 //! Links that are fed.
 ghost use Rattle.std.specs.Prelude.{◌≡◌, ◌≤◌, true};
 
-use crate::fields::{Answer, Fault, Fields, UNKNOWN, all_of, not_allowed, said};
-use crate::items::{read_feed, read_item};
-use aprs_base::{Line, OpenGate};
+use crate::fields::{Answer, Fault, Fields, all_of, not_allowed, said, shown};
+use crate::items::{FEEDS, read_item};
+use aprs_base::OpenGate;
 use link_feeds::{Crew, Feeds};
 use row_texts::write_bytes;
 use std::alloc::Global;
 use std::marker::Sync;
-use std::sync::Arc;
 use std::thread::Threads;
 
 /// The links that rows speak of.
@@ -19,28 +18,26 @@ pub struct Fed<'a, R> {
     feeds: Feeds,
 }
 
+const SIDES: [(&str, bool); 2] = [("in", true), ("out", false)];
+
 /// A link comes.
 fn open(feeds: &mut Feeds, fields: &mut Fields) -> Answer
     requires { feeds.old.settled ≡ true }
 {
-    let link = fields.number()?;
-    let feed = read_feed(fields.word())?;
-    let inbound = match fields.word() {
-        "in" => true,
-        "out" => false,
-        _ => return Err(UNKNOWN),
-    };
-    let first = Arc::new(fields.alloc, fields.line()?)?;
-    feeds.open(fields.alloc, link, feed, inbound, first)?;
+    let link = fields.number();
+    let feed = fields.named(FEEDS.as_slice())?;
+    let inbound = fields.named(SIDES.as_slice())?;
+    feeds.open(fields.alloc, link, feed, inbound, fields.shared_line()?)?;
     said(fields.alloc, "done")
 }
 
 /// Something comes so many times.
 fn bring(feeds: &mut Feeds, fields: &mut Fields) -> Answer {
-    let count: u32 = fields.number()?;
-    let rest = fields.rest();
+    let count: u32 = fields.number();
+    let rest = fields.rest;
     for _ in 0..count {
-        feeds.bring(read_item(&mut Fields::new(fields.alloc, rest))?)?;
+        fields.rest = rest;
+        feeds.bring(read_item(fields)?)?;
     }
     said(fields.alloc, "done")
 }
@@ -67,12 +64,13 @@ fn take(alloc: Global, feeds: &mut Feeds, place: usize, count: usize) -> Answer 
 }
 
 /// A line for the link at that place alone.
-fn tell(alloc: Global, feeds: &mut Feeds, place: usize, line: Line) -> Answer {
-    if feeds.waiting() == 0 && place < feeds.len() {
-        feeds.tell(place, Arc::new(alloc, line)?);
-        return said(alloc, "done");
+fn tell(feeds: &mut Feeds, fields: &mut Fields) -> Answer {
+    let place = fields.number();
+    if feeds.waiting() != 0 || place >= feeds.len() {
+        return not_allowed(fields.alloc);
     }
-    not_allowed(alloc)
+    feeds.tell(place, fields.shared_line()?);
+    said(fields.alloc, "done")
 }
 
 /// These links leave.
@@ -93,8 +91,8 @@ fn settled(feeds: &mut Feeds, word: &str, fields: &mut Fields) -> Answer {
         "open" => open(feeds, fields),
         "leave" => leave(feeds, fields),
         "overfull" => all_of(alloc, feeds.overfull(alloc)?.as_slice()),
-        "put" => Ok(feeds.count_put().to_string(alloc)?),
-        _ => Err(UNKNOWN),
+        "put" => shown(alloc, feeds.count_put()),
+        _ => Err(Fault::Unknown),
     }
 }
 
@@ -136,12 +134,12 @@ impl<'a, R: Threads + Sync> Fed<'a, R> {
         match fields.word() {
             "new" => self.clear(),
             "bring" => bring(feeds, fields),
-            "settle" => self.settle(fields.number()?),
+            "settle" => self.settle(fields.number()),
             "alone" => self.settle_alone(),
-            "front" => front(alloc, feeds, fields.number()?),
-            "take" => take(alloc, feeds, fields.number()?, fields.number()?),
-            "tell" => tell(alloc, feeds, fields.number()?, fields.line()?),
-            "length" => Ok(feeds.len().to_string(alloc)?),
+            "front" => front(alloc, feeds, fields.number()),
+            "take" => take(alloc, feeds, fields.number(), fields.number()),
+            "tell" => tell(feeds, fields),
+            "length" => shown(alloc, feeds.len()),
             word => settled(feeds, word, fields),
         }
     }

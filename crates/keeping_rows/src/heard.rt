@@ -1,6 +1,6 @@
 //! Links that hear stations and are promised positions.
 
-use crate::fields::{Answer, Fault, Fields, UNKNOWN, all_of, said};
+use crate::fields::{Answer, Fault, Fields, all_of, said};
 use heard_routing::Heard;
 use std::alloc::Global;
 use std::hash::RandomState;
@@ -22,54 +22,40 @@ impl Hearers {
         })
     }
 
-    /// The links that heard a call, after those that stand in the row.
-    fn receivers(&mut self, fields: &mut Fields) -> Answer {
-        let to = fields.call()?;
-        let now = fields.number()?;
+    /// The links that heard a call, or that were promised its position, after those that stand in the row.
+    fn routes(&mut self, word: &str, fields: &mut Fields) -> Answer {
+        let call = fields.call();
+        let now = fields.number();
         let mut links = fields.numbers()?;
-        self.heard.receivers(self.alloc, &to, now, &mut links)?;
-        all_of(self.alloc, links.as_slice())
-    }
-
-    /// The links that were promised a sender's position, after those that stand in the row.
-    fn courtesy(&mut self, fields: &mut Fields) -> Answer {
-        let sender = fields.call()?;
-        let now = fields.number()?;
-        let mut links = fields.numbers()?;
-        self.heard.courtesy(self.alloc, &sender, now, &mut links)?;
-        all_of(self.alloc, links.as_slice())
-    }
-
-    /// Changes the table.
-    fn change(&mut self, word: &str, fields: &mut Fields) -> Result<(), Fault> {
         match word {
-            "new" => self.heard = Heard::new(self.alloc, &self.hasher)?,
-            "note" => {
-                let link = fields.number()?;
-                let call = fields.call()?;
-                self.heard.note(self.alloc, link, &call, fields.number()?)?;
-            }
-            "promise" => {
-                let link = fields.number()?;
-                let call = fields.call()?;
-                self.heard
-                    .promise(self.alloc, link, &call, fields.number()?)?;
-            }
-            "forget" => self.heard.forget(fields.number()?),
-            "expire" => self.heard.expire(fields.number()?),
-            _ => return Err(UNKNOWN),
+            "receivers" => self.heard.receivers(self.alloc, &call, now, &mut links)?,
+            "courtesy" => self.heard.courtesy(self.alloc, &call, now, &mut links)?,
+            _ => return Err(Fault::Unknown),
         }
-        Ok(())
+        all_of(self.alloc, links.as_slice())
+    }
+
+    /// A link hears a call, or is promised its position.
+    fn keep(&mut self, word: &str, fields: &mut Fields) -> Answer {
+        let link = fields.number();
+        let call = fields.call();
+        let now = fields.number();
+        match word {
+            "note" => self.heard.note(self.alloc, link, &call, now)?,
+            _ => self.heard.promise(self.alloc, link, &call, now)?,
+        }
+        said(self.alloc, "done")
     }
 
     pub fn answer(&mut self, fields: &mut Fields) -> Answer {
-        match fields.word() {
-            "receivers" => self.receivers(fields),
-            "courtesy" => self.courtesy(fields),
-            word => {
-                self.change(word, fields)?;
-                said(self.alloc, "done")
-            }
+        let word = fields.word();
+        match word {
+            "new" => self.heard = Heard::new(self.alloc, &self.hasher)?,
+            "note" | "promise" => return self.keep(word, fields),
+            "forget" => self.heard.forget(fields.number()),
+            "expire" => self.heard.expire(fields.number()),
+            _ => return self.routes(word, fields),
         }
+        said(self.alloc, "done")
     }
 }

@@ -4,7 +4,7 @@ ghost use Rattle.std.specs.List.Sorted.{IsStrictlyIncreasing};
 ghost use Rattle.worker_match.specs.Items.{item_seen};
 ghost use Rattle.worker_match.specs.Walk.{IsOrdered};
 
-use crate::fields::{Fault, Fields, UNKNOWN};
+use crate::fields::{Fault, Fields};
 use aprs_base::{Body, Call, Line, Memory, Packet, Parts, Place, Source};
 use arrayvec::ArrayVec;
 use filter_eval::Friends;
@@ -23,16 +23,17 @@ pub fn nowhere(terms: usize) -> Friends {
     Friends { at }
 }
 
-pub fn read_feed(word: &str) -> Result<Feed, Fault> {
-    match word {
-        "nothing" => Ok(Feed::Nothing),
-        "full" => Ok(Feed::Full),
-        "up" => Ok(Feed::Up),
-        "dupe" => Ok(Feed::Dupe),
-        "filter" => Ok(Feed::Filter),
-        _ => Err(UNKNOWN),
-    }
-}
+pub const FEEDS: [(&str, Feed); 5] = [
+    ("nothing", Feed::Nothing),
+    ("full", Feed::Full),
+    ("up", Feed::Up),
+    ("dupe", Feed::Dupe),
+    ("filter", Feed::Filter),
+];
+
+const COPIES: [(&str, bool); 2] = [("copy", true), ("new", false)];
+
+const PLACES: [(&str, bool); 2] = [("here", true), ("elsewhere", false)];
 
 /// A position that came from that link.
 fn position(from: u32, source: Call, line: Arc<Line>) -> Result<Packet, Fault> {
@@ -48,7 +49,7 @@ fn position(from: u32, source: Call, line: Arc<Line>) -> Result<Packet, Fault> {
         moment: 1000,
         parts: Parts {
             source,
-            dest: Call::read(b"APRS").ok_or(UNKNOWN)?,
+            dest: Call::read(b"APRS").ok_or(Fault::Unknown)?,
             vias: ArrayVec::new(),
             body: ArrayVec::new(),
         },
@@ -73,33 +74,18 @@ fn numbers(alloc: Global, number: Option<u32>) -> Result<Vec<u32>, Memory>
     Ok(numbers)
 }
 
-fn flag(fields: &mut Fields, yes: &str, no: &str) -> Result<bool, Fault> {
-    let word = fields.word();
-    if word == yes {
-        Ok(true)
-    } else if word == no {
-        Ok(false)
-    } else {
-        Err(UNKNOWN)
-    }
-}
-
-fn line(fields: &mut Fields) -> Result<Arc<Line>, Fault> {
-    Ok(Arc::new(fields.alloc, fields.line()?)?)
-}
-
 /// A packet: its link and its source, whether it is a refused duplicate, whether it was submitted here, which link the message
 /// rule names, and its line.
 fn read_packet(fields: &mut Fields) -> Result<Item, Fault>
     ensures { IfOk result (λ item. IsOrdered (item_seen item)) }
 {
-    let alloc = fields.alloc;
-    let from = fields.number()?;
-    let source = fields.call()?;
-    let dupe = flag(fields, "copy", "new")?;
-    let submitted = flag(fields, "here", "elsewhere")?;
-    let extra = numbers(alloc, fields.perhaps()?)?;
-    let packet = Arc::new(alloc, position(from, source, line(fields)?)?)?;
+    let from = fields.number();
+    let source = fields.call();
+    let dupe = fields.named(COPIES.as_slice())?;
+    let submitted = fields.named(PLACES.as_slice())?;
+    let extra = numbers(fields.alloc, fields.perhaps())?;
+    let packet = position(from, source, fields.shared_line()?)?;
+    let packet = Arc::new(fields.alloc, packet)?;
     Ok(Item::Packet {
         packet,
         dupe,
@@ -130,17 +116,17 @@ pub fn read_item(fields: &mut Fields) -> Result<Item, Fault>
 {
     match fields.word() {
         "text" => Ok(Item::Text {
-            link: fields.number()?,
-            line: line(fields)?,
+            link: fields.number(),
+            line: fields.shared_line()?,
         }),
         "all" => Ok(Item::All {
-            line: line(fields)?,
+            line: fields.shared_line()?,
         }),
         "end" => Ok(Item::End {
-            link: fields.number()?,
+            link: fields.number(),
         }),
-        "quiet" => quiet(fields.alloc, fields.number()?),
+        "quiet" => quiet(fields.alloc, fields.number()),
         "packet" => read_packet(fields),
-        _ => Err(UNKNOWN),
+        _ => Err(Fault::Unknown),
     }
 }

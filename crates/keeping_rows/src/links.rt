@@ -3,9 +3,9 @@ ghost use Rattle.std.specs.Prelude.{◌≤◌};
 ghost use Rattle.worker_match.specs.Items.{item_seen};
 ghost use Rattle.worker_match.specs.Walk.{IsOrdered};
 
-use crate::fields::{Answer, Fault, Fields, UNKNOWN, not_allowed, said};
-use crate::items::{nowhere, read_feed, read_item};
-use aprs_base::{Call, Gate, Memory, OpenGate};
+use crate::fields::{Answer, Fault, Fields, not_allowed, said};
+use crate::items::{FEEDS, nowhere, read_item};
+use aprs_base::{Gate, Memory, OpenGate};
 use filter_lang::FilterSet;
 use link_queue::Queue;
 use meeting_gate::Meeting;
@@ -15,7 +15,7 @@ use std::marker::{Model, Sync};
 use std::sync::Arc;
 use std::sync::atomic::Ordering;
 use std::thread::Threads;
-use worker_match::{Feed, Item, LinkState, spread};
+use worker_match::{Item, LinkState, spread};
 
 /// What came to links since they were last walked, each in order.
 #[derive(Drop)]
@@ -60,62 +60,40 @@ impl Block {
     }
 }
 
-/// What a link is to be: its feed, its room, its login and its filter.
-#[derive(Drop)]
-struct Taker {
-    feed: Feed,
-    room: usize,
-    me: Option<Call>,
-    filter: Option<Arc<FilterSet>>,
-    terms: usize,
-}
-
-fn read_login(word: &str) -> Result<Option<Call>, Fault> {
-    match word {
-        "none" => Ok(None),
-        _ => Ok(Some(Call::read(word.as_bytes()).ok_or(UNKNOWN)?)),
+/// A filter by its text, unless that is `none`.
+fn read_filter(fields: &Fields) -> Result<Option<Arc<FilterSet>>, Fault> {
+    if fields.rest == "none" {
+        return Ok(None);
+    }
+    match filter_lang::read(fields.alloc, fields.rest_bytes()?.as_slice()) {
+        Ok(filter) => Ok(Some(Arc::new(fields.alloc, filter)?)),
+        Err(_) => Err(Fault::Unknown),
     }
 }
 
-fn read_taker(fields: &mut Fields) -> Result<Taker, Fault> {
-    let feed = read_feed(fields.word())?;
-    let room = fields.number()?;
-    let me = read_login(fields.word())?;
-    let text = fields.rest_bytes()?;
-    if text.as_slice() == b"none".as_slice() {
-        return Ok(Taker {
-            feed,
-            room,
-            me,
-            filter: None,
-            terms: 0,
-        });
-    }
-    let Ok(filter) = filter_lang::read(fields.alloc, text.as_slice()) else {
-        return Err(UNKNOWN);
+/// An inbound link by its feed, its room, its login and its filter.
+fn read_link(number: u32, fields: &mut Fields) -> Result<LinkState, Fault> {
+    let feed = fields.named(FEEDS.as_slice())?;
+    let room: usize = fields.number();
+    let me = fields.perhaps_call();
+    let filter = read_filter(fields)?;
+    let terms = match &filter {
+        Some(filter) => filter.terms.len(),
+        None => 0,
     };
-    Ok(Taker {
-        feed,
-        room,
-        me,
-        terms: filter.terms.len(),
-        filter: Some(Arc::new(fields.alloc, filter)?),
-    })
-}
-
-/// An inbound link.
-fn link(alloc: Global, number: u32, taker: Taker) -> Result<LinkState, Fault> {
+    let friends = Box::new(fields.alloc, nowhere(terms))?;
+    let queue = Queue::with_limit(fields.alloc, room.clamp(1, 1000))?;
     Ok(LinkState {
         link: number,
-        feed: taker.feed,
+        feed,
         inbound: true,
         alive: true,
         over: false,
-        me: taker.me,
-        friends: Box::new(alloc, nowhere(taker.terms))?,
-        filter: taker.filter,
+        me,
+        friends,
+        filter,
         mine: None,
-        queue: Queue::with_limit(alloc, taker.room.clamp(1, 1000))?,
+        queue,
         put: 0,
     })
 }
@@ -166,12 +144,12 @@ impl<'a, R: Threads + Sync> Links<'a, R> {
 
     /// So many links of rising numbers.
     fn open(&mut self, fields: &mut Fields) -> Answer {
-        let count: u32 = fields.number()?;
-        let first: u32 = fields.number()?;
-        let rest = fields.rest();
+        let count: u32 = fields.number();
+        let first: u32 = fields.number();
+        let rest = fields.rest;
         for number in first..first.saturating_add(count) {
-            let taker = read_taker(&mut Fields::new(self.alloc, rest))?;
-            self.links.push(link(self.alloc, number, taker)?)?;
+            fields.rest = rest;
+            self.links.push(read_link(number, fields)?)?;
         }
         said(self.alloc, "done")
     }
@@ -216,9 +194,9 @@ impl<'a, R: Threads + Sync> Links<'a, R> {
             "new" => self.begin(),
             "open" => self.open(fields),
             "bring" => self.bring(fields),
-            "walked" => self.walked(fields.number()?),
+            "walked" => self.walked(fields.number()),
             "meet" => self.meet(),
-            _ => Err(UNKNOWN),
+            _ => Err(Fault::Unknown),
         }
     }
 }

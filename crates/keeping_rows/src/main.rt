@@ -18,27 +18,13 @@ mod uplinks;
 mod verdicts;
 mod windows;
 
-use crate::tables::Tables;
-use row_texts::{is_row, print_row, read_rows};
+use crate::tables::print_answers;
+use row_texts::read_rows;
 use std::hash::RandomState;
 use std::io;
 
 fn main(rt: HostRuntime) -> io::Result<()> {
-    let alloc = rt.alloc();
-    let text = read_rows(&rt)?;
     let hasher = RandomState::new(&rt)?;
-    let Ok(mut tables) = Tables::new(&rt, alloc, &hasher) else {
-        return Err(io::Error::from(io::ErrorKind::OutOfMemory));
-    };
-    for line in text.lines() {
-        if is_row(line) {
-            match tables.answer(line) {
-                Ok(answer) => print_row(&rt, line, Ok(answer))?,
-                Err(fault) => print_row(&rt, line, Err(fault.0))?,
-            }
-        } else {
-            println!(rt; "{line}")?;
-        }
-    }
-    Ok(())
+    let text = read_rows(&rt)?;
+    print_answers(&rt, &hasher, text.as_str())
 }

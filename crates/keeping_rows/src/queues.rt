@@ -1,10 +1,10 @@
 //! A queue, and a batch of lines for it.
 ghost use Rattle.std.specs.Prelude.{◌≡◌};
 
-use crate::fields::{Answer, Fault, Fields, UNKNOWN, not_allowed, said};
+use crate::fields::{Answer, Fault, Fields, escaped, not_allowed, said, shown};
 use aprs_base::{Line, Memory};
 use link_queue::{Batch, Queue};
-use row_texts::{read_bytes, write_bytes};
+use row_texts::read_bytes;
 use std::alloc::Global;
 use std::sync::Arc;
 
@@ -30,7 +30,7 @@ fn drained(alloc: Global, queue: &mut Queue, most: usize) -> Result<Vec<u8>, Mem
 
 /// Adds a line to a batch so many times, as far as it takes a thousand.
 fn add(batch: &mut Batch, count: usize, text: &[u8]) -> Result<(), Fault> {
-    let line = Line::new(text).ok_or(UNKNOWN)?;
+    let line = Line::new(text).ok_or(Fault::Unknown)?;
     for _ in 0..count {
         if batch.len() < 1000 {
             batch.push(&line)?;
@@ -46,16 +46,6 @@ fn batch_of(alloc: Global, count: usize, texts: &str) -> Result<Batch, Fault> {
         add(&mut batch, count, read_bytes(alloc, text)?.as_slice())?;
     }
     Ok(batch)
-}
-
-/// Adds lines of a batch, as far as there are so many.
-fn push_run(alloc: Global, queue: &mut Queue, batch: &Arc<Batch>, fields: &mut Fields) -> Answer {
-    let from: usize = fields.number()?;
-    let to: usize = fields.number()?;
-    if from > to || to > batch.len() {
-        return not_allowed(alloc);
-    }
-    Ok(queue.push_run(batch, from, to)?.to_string(alloc)?)
 }
 
 impl Queues {
@@ -76,15 +66,23 @@ impl Queues {
     }
 
     /// Adds a line so many times, and says how often there was room for it.
-    fn push(&mut self, count: usize, line: Line) -> Answer {
-        let line = Arc::new(self.alloc, line)?;
+    fn push(&mut self, count: usize, fields: &Fields) -> Answer {
+        let line = fields.shared_line()?;
         let mut taken = 0usize;
         for _ in 0..count {
             if self.queue.push(line.clone()?).is_ok() {
                 taken = taken.saturating_add(1);
             }
         }
-        Ok(taken.to_string(self.alloc)?)
+        shown(self.alloc, taken)
+    }
+
+    /// Adds lines of the batch, as far as there are so many.
+    fn push_run(&mut self, from: usize, to: usize) -> Answer {
+        if from > to || to > self.batch.len() {
+            return not_allowed(self.alloc);
+        }
+        shown(self.alloc, self.queue.push_run(&self.batch, from, to)?)
     }
 
     /// Takes off bytes, and says how many are left.
@@ -93,47 +91,47 @@ impl Queues {
             return not_allowed(self.alloc);
         }
         self.queue.taken(count);
-        Ok(self.queue.pending().to_string(self.alloc)?)
+        shown(self.alloc, self.queue.pending())
     }
 
     /// The next bytes, as many as a buffer of that size takes.
     fn front(&self, size: usize) -> Answer {
         let mut out = [b'.'; 100];
         let count = self.queue.front_bytes(&mut out[..size.min(100)]);
-        Ok(write_bytes(self.alloc, &out[..count])?)
+        escaped(self.alloc, &out[..count])
     }
 
     fn shared(&self) -> Answer {
         match self.queue.shared_front() {
-            Some(bytes) => Ok(write_bytes(self.alloc, bytes)?),
+            Some(bytes) => escaped(self.alloc, bytes),
             None => said(self.alloc, "none"),
         }
     }
 
     fn fill(&mut self, count: usize, texts: &str) -> Answer {
-        let batch = batch_of(self.alloc, count, texts)?;
-        let size = batch.len();
-        self.batch = Arc::new(self.alloc, batch)?;
-        Ok(size.to_string(self.alloc)?)
+        self.batch = Arc::new(self.alloc, batch_of(self.alloc, count, texts)?)?;
+        shown(self.alloc, self.batch.len())
     }
 
     fn drain(&mut self, most: usize) -> Answer {
         let all = drained(self.alloc, &mut self.queue, most)?;
-        Ok(write_bytes(self.alloc, all.as_slice())?)
+        escaped(self.alloc, all.as_slice())
     }
 
     pub fn answer(&mut self, fields: &mut Fields) -> Answer {
-        match fields.word() {
-            "new" => self.begin(fields.number()?),
-            "push" => self.push(fields.number()?, fields.line()?),
-            "take" => self.take(fields.number()?),
-            "pending" => Ok(self.queue.pending().to_string(self.alloc)?),
-            "front" => self.front(fields.number()?),
+        let word = fields.word();
+        let count = fields.perhaps().unwrap_or(0);
+        match word {
+            "new" => self.begin(count),
+            "push" => self.push(count, fields),
+            "take" => self.take(count),
+            "pending" => shown(self.alloc, self.queue.pending()),
+            "front" => self.front(count),
             "shared" => self.shared(),
-            "batch" => self.fill(fields.number()?, fields.rest()),
-            "run" => push_run(self.alloc, &mut self.queue, &self.batch, fields),
-            "drain" => self.drain(fields.number()?),
-            _ => Err(UNKNOWN),
+            "batch" => self.fill(count, fields.rest),
+            "run" => self.push_run(count, fields.number()),
+            "drain" => self.drain(count),
+            _ => Err(Fault::Unknown),
         }
     }
 }

@@ -1,31 +1,32 @@
 //! Refusals, by their names in a row.
 
-use crate::fields::{Fault, Fields, UNKNOWN};
+use crate::fields::{Fault, Fields};
 use aprs_history::Refusal;
 use login_pass::LoginFault;
 use q_construct::QDrop;
 use tnc2_line::LineFault;
 
-fn login_fault(word: &str) -> Result<LoginFault, Fault> {
-    match word {
-        "no-user" => Ok(LoginFault::NotUser),
-        "bad-call" => Ok(LoginFault::BadCall),
-        "no-pass" => Ok(LoginFault::NoPass),
-        "bad-pass" => Ok(LoginFault::BadPass),
-        _ => Err(UNKNOWN),
-    }
-}
+const LOGIN_FAULTS: [(&str, LoginFault); 4] = [
+    ("no-user", LoginFault::NotUser),
+    ("bad-call", LoginFault::BadCall),
+    ("no-pass", LoginFault::NoPass),
+    ("bad-pass", LoginFault::BadPass),
+];
+
+const LINE_FAULTS: [(&str, LineFault); 7] = [
+    ("no-colon", LineFault::NoColon),
+    ("no-arrow", LineFault::NoArrow),
+    ("bad-source", LineFault::BadSource),
+    ("bad-dest", LineFault::BadDest),
+    ("bad-via", LineFault::BadVia(0)),
+    ("two-constructs", LineFault::TwoConstructs),
+    ("no-body", LineFault::NoBody),
+];
 
 fn line_fault(fields: &mut Fields) -> Result<LineFault, Fault> {
-    match fields.word() {
-        "no-colon" => Ok(LineFault::NoColon),
-        "no-arrow" => Ok(LineFault::NoArrow),
-        "bad-source" => Ok(LineFault::BadSource),
-        "bad-dest" => Ok(LineFault::BadDest),
-        "bad-via" => Ok(LineFault::BadVia(fields.number()?)),
-        "two-constructs" => Ok(LineFault::TwoConstructs),
-        "no-body" => Ok(LineFault::NoBody),
-        _ => Err(UNKNOWN),
+    match fields.named(LINE_FAULTS.as_slice())? {
+        LineFault::BadVia(_) => Ok(LineFault::BadVia(fields.number())),
+        fault => Ok(fault),
     }
 }
 
@@ -37,11 +38,11 @@ fn path_drop(fields: &mut Fields) -> Result<QDrop, Fault> {
         "query" => Ok(QDrop::Query),
         "qaz" => Ok(QDrop::QAZ),
         "names-server" => Ok(QDrop::NamesServer),
-        "twice" => Ok(QDrop::Twice(fields.call()?)),
-        "other-login" => Ok(QDrop::OtherLogin(fields.call()?)),
+        "twice" => Ok(QDrop::Twice(fields.call())),
+        "other-login" => Ok(QDrop::OtherLogin(fields.call())),
         "login-not-last" => Ok(QDrop::LoginNotLast),
         "long" => Ok(QDrop::Long),
-        _ => Err(UNKNOWN),
+        _ => Err(Fault::Unknown),
     }
 }
 
@@ -49,12 +50,12 @@ fn path_drop(fields: &mut Fields) -> Result<QDrop, Fault> {
 pub fn read_refusal(fields: &mut Fields) -> Result<Refusal, Fault> {
     match fields.word() {
         "long" => Ok(Refusal::Long),
-        "login" => Ok(Refusal::Login(login_fault(fields.word())?)),
+        "login" => Ok(Refusal::Login(fields.named(LOGIN_FAULTS.as_slice())?)),
         "own-name" => Ok(Refusal::OwnName),
         "packet" => Ok(Refusal::Packet(line_fault(fields)?)),
         "read-only" => Ok(Refusal::ReadOnly),
         "stranger" => Ok(Refusal::Stranger),
         "path" => Ok(Refusal::Path(path_drop(fields)?)),
-        _ => Err(UNKNOWN),
+        _ => Err(Fault::Unknown),
     }
 }

@@ -1,6 +1,6 @@
 //! Where stations were last seen, and which of them are gates.
 
-use crate::fields::{Answer, Fault, Fields, UNKNOWN, said, yes_or_no};
+use crate::fields::{Answer, Fault, Fields, or_none, said, yes_or_no};
 use aprs_base::{Line, Packet, Source};
 use aprs_body::classify;
 use station_table::Stations;
@@ -18,9 +18,9 @@ pub struct Seen {
 }
 
 /// The packet of a line, which came from link 1.
-pub fn packet_of(alloc: Global, line: Line, moment: u64) -> Result<Packet, Fault> {
+fn packet_of(moment: u64, line: Arc<Line>) -> Result<Packet, Fault> {
     let Ok(parts) = read(&line) else {
-        return Err(UNKNOWN);
+        return Err(Fault::Unknown);
     };
     let body = classify(&parts.dest, parts.body.as_slice());
     Ok(Packet {
@@ -28,7 +28,7 @@ pub fn packet_of(alloc: Global, line: Line, moment: u64) -> Result<Packet, Fault
         moment,
         parts,
         body,
-        line: Arc::new(alloc, line)?,
+        line,
     })
 }
 
@@ -41,35 +41,29 @@ impl Seen {
         })
     }
 
-    fn note(&mut self, moment: u64, line: Line) -> Answer {
-        let packet = packet_of(self.alloc, line, moment)?;
+    fn note(&mut self, fields: &mut Fields) -> Result<(), Fault> {
+        let packet = packet_of(fields.number(), fields.shared_line()?)?;
         self.stations.note(self.alloc, &packet)?;
-        said(self.alloc, "done")
+        Ok(())
     }
 
     /// The latitude at which a call was last seen.
     fn latitude(&self, fields: &mut Fields) -> Answer {
-        let call = fields.call()?;
-        let seen = self.stations.place_of(&call, fields.number()?);
-        match seen {
-            Some(seen) => Ok(seen.place.lat.to_string(self.alloc)?),
-            None => said(self.alloc, "none"),
-        }
-    }
-
-    fn is_gate(&self, fields: &mut Fields) -> Answer {
-        let call = fields.call()?;
-        yes_or_no(self.alloc, self.stations.is_gate(&call, fields.number()?))
+        let seen = self.stations.place_of(&fields.call(), fields.number());
+        or_none(self.alloc, seen.map(|seen| seen.place.lat))
     }
 
     pub fn answer(&mut self, fields: &mut Fields) -> Answer {
         match fields.word() {
             "new" => self.stations = Stations::new(self.alloc, &self.hasher)?,
-            "note" => return self.note(fields.number()?, fields.line()?),
+            "note" => self.note(fields)?,
             "latitude" => return self.latitude(fields),
-            "gate" => return self.is_gate(fields),
-            "expire" => self.stations.expire(fields.number()?),
-            _ => return Err(UNKNOWN),
+            "gate" => {
+                let is_gate = self.stations.is_gate(&fields.call(), fields.number());
+                return yes_or_no(self.alloc, is_gate);
+            }
+            "expire" => self.stations.expire(fields.number()),
+            _ => return Err(Fault::Unknown),
         }
         said(self.alloc, "done")
     }

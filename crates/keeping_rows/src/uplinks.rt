@@ -1,8 +1,14 @@
 //! Uplinks at given moments, and who gets what came from whom.
 
-use crate::fields::{Answer, Fault, Fields, UNKNOWN, said, yes_or_no};
+use crate::fields::{Answer, Fault, Fields, said, yes_or_no};
 use std::alloc::Global;
 use uplinks_peers::{Side, UpActs, UpEvent, Uplinks, goes_to};
+
+const SIDES: [(&str, Side); 3] = [
+    ("client", Side::Client),
+    ("uplink", Side::Uplink),
+    ("peer", Side::Peer),
+];
 
 /// What is to be done.
 fn acts_text(alloc: Global, acts: UpActs) -> Answer {
@@ -15,44 +21,36 @@ fn acts_text(alloc: Global, acts: UpActs) -> Answer {
     }
 }
 
-fn read_side(word: &str) -> Result<Side, Fault> {
-    match word {
-        "client" => Ok(Side::Client),
-        "uplink" => Ok(Side::Uplink),
-        "peer" => Ok(Side::Peer),
-        _ => Err(UNKNOWN),
-    }
-}
-
 fn read_event(word: &str, fields: &mut Fields) -> Result<UpEvent, Fault> {
     match word {
         "tick" => Ok(UpEvent::Tick),
         "joined" => Ok(UpEvent::Joined {
-            uplink: fields.number()?,
-            link: fields.number()?,
+            uplink: fields.number(),
+            link: fields.number(),
         }),
-        "unjoined" => Ok(UpEvent::Unjoined(fields.number()?)),
-        "heard" => Ok(UpEvent::Heard(fields.number()?)),
-        "ended" => Ok(UpEvent::Ended(fields.number()?)),
-        _ => Err(UNKNOWN),
+        "unjoined" => Ok(UpEvent::Unjoined(fields.number())),
+        "heard" => Ok(UpEvent::Heard(fields.number())),
+        "ended" => Ok(UpEvent::Ended(fields.number())),
+        _ => Err(Fault::Unknown),
     }
+}
+
+fn passes(fields: &mut Fields) -> Answer {
+    let from = fields.named(SIDES.as_slice())?;
+    let to = fields.named(SIDES.as_slice())?;
+    yes_or_no(fields.alloc, goes_to(from, to))
 }
 
 pub fn answer(uplinks: &mut Uplinks, fields: &mut Fields) -> Answer {
     match fields.word() {
         "new" => {
-            *uplinks = Uplinks::new(fields.number()?, fields.number()?);
+            *uplinks = Uplinks::new(fields.number(), fields.number());
             said(fields.alloc, "done")
         }
-        "passes" => {
-            let from = read_side(fields.word())?;
-            let to = read_side(fields.word())?;
-            yes_or_no(fields.alloc, goes_to(from, to))
-        }
+        "passes" => passes(fields),
         word => {
             let event = read_event(word, fields)?;
-            let now = fields.number()?;
-            acts_text(fields.alloc, uplinks.step(event, now))
+            acts_text(fields.alloc, uplinks.step(event, fields.number()))
         }
     }
 }

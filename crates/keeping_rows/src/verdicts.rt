@@ -1,23 +1,20 @@
 //! What is answered to lines.
 
-use crate::fields::{Answer, Fault, Fields, UNKNOWN, said};
+use crate::fields::{Answer, Fault, Fields, escaped, said};
 use aprs_base::{Call, Cut, Line, Source};
 use aprs_history::{FilterAnswer, Refusal, Verdict};
 use journal_lines::refusal_line;
 use line_verdict::{Voice, denied_line, judge_comment, judge_login, submitter_of, uplink_line};
 use q_construct::Origin;
-use row_texts::write_bytes;
 use std::alloc::Global;
+
+const FILTERS: [(&str, bool); 2] = [("filters", true), ("none", false)];
 
 /// A client that has logged in, on a port with filters or without.
 fn client(fields: &mut Fields) -> Result<Voice, Fault> {
-    let filters = match fields.word() {
-        "filters" => true,
-        "none" => false,
-        _ => return Err(UNKNOWN),
-    };
+    let filters = fields.named(FILTERS.as_slice())?;
     let origin = Origin::Client {
-        login: Call::read(b"N0CALL").ok_or(UNKNOWN)?,
+        login: Call::read(b"N0CALL").ok_or(Fault::Unknown)?,
         verified: true,
         only: false,
     };
@@ -29,13 +26,13 @@ fn filter_text(alloc: Global, answer: FilterAnswer) -> Answer {
         FilterAnswer::Active(_filter, line) => line,
         FilterAnswer::Denied(fault) => denied_line(alloc, fault)?,
     };
-    Ok(write_bytes(alloc, line.bytes())?)
+    escaped(alloc, line.bytes())
 }
 
 /// A refusal by its name in the journal.
 fn refused_text(alloc: Global, refusal: &Refusal) -> Answer {
     let line = refusal_line(0, &Source::Link(1), 0, refusal);
-    Ok(write_bytes(alloc, line.text.as_slice())?)
+    escaped(alloc, line.text.as_slice())
 }
 
 fn login_text(alloc: Global, verified: bool, answer: Option<FilterAnswer>) -> Answer {
@@ -55,7 +52,7 @@ fn verdict_text(alloc: Global, verdict: Verdict) -> Answer {
         Verdict::Refused(refusal) => refused_text(alloc, &refusal),
         Verdict::LoggedIn(session, answer) => login_text(alloc, session.verified, answer),
         Verdict::Filtered(answer) => filter_text(alloc, answer),
-        Verdict::Accepted(_parts, line) => Ok(write_bytes(alloc, line.bytes())?),
+        Verdict::Accepted(_parts, line) => escaped(alloc, line.bytes()),
     }
 }
 
@@ -66,26 +63,38 @@ fn submitter_text(alloc: Global, server: &Call, bytes: &[u8]) -> Answer {
         None => Cut::Long,
     };
     match submitter_of(server, &cut) {
-        Ok(login) => Ok(write_bytes(alloc, login.bytes())?),
+        Ok(login) => escaped(alloc, login.bytes()),
         Err(refusal) => refused_text(alloc, &refusal),
     }
 }
 
+fn comment(fields: &mut Fields) -> Answer {
+    let voice = client(fields)?;
+    let line = fields.line()?;
+    verdict_text(fields.alloc, judge_comment(fields.alloc, &voice, &line)?)
+}
+
+fn login(fields: &mut Fields) -> Answer {
+    let server = fields.call();
+    let line = fields.line()?;
+    verdict_text(
+        fields.alloc,
+        judge_login(fields.alloc, &server, true, &line)?,
+    )
+}
+
 pub fn answer(fields: &mut Fields) -> Answer {
-    let alloc = fields.alloc;
-    let word = fields.word();
-    if word == "comment" {
-        let voice = client(fields)?;
-        return verdict_text(alloc, judge_comment(alloc, &voice, &fields.line()?)?);
-    }
-    let server = fields.call()?;
-    match word {
-        "login" => verdict_text(alloc, judge_login(alloc, &server, true, &fields.line()?)?),
-        "submits" => submitter_text(alloc, &server, fields.rest_bytes()?.as_slice()),
-        "uplink" => {
-            let line = uplink_line(alloc, &server, fields.number()?)?;
-            Ok(write_bytes(alloc, line.bytes())?)
+    match fields.word() {
+        "comment" => comment(fields),
+        "login" => login(fields),
+        "submits" => {
+            let server = fields.call();
+            submitter_text(fields.alloc, &server, fields.rest_bytes()?.as_slice())
         }
-        _ => Err(UNKNOWN),
+        "uplink" => {
+            let line = uplink_line(fields.alloc, &fields.call(), fields.number())?;
+            escaped(fields.alloc, line.bytes())
+        }
+        _ => Err(Fault::Unknown),
     }
 }

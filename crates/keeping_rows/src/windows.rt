@@ -1,10 +1,11 @@
 //! A window in which packets are told from their copies.
 ghost use Rattle.dupe_window.specs.Windows.{IsUpTo};
 
-use crate::fields::{Answer, Fault, Fields, UNKNOWN, not_allowed, or_none, said, yes_or_no};
+use crate::fields::{Answer, Fault, Fields, not_allowed, or_none, said, yes_or_no};
 use aprs_base::{Line, Memory};
 use arrayvec::ArrayVec;
 use dupe_window::{Key, Window};
+use row_texts::read_bytes;
 use std::alloc::Global;
 use std::hash::RandomState;
 use std::marker::Model;
@@ -35,11 +36,6 @@ impl Lately {
         }
     }
 
-    /// When the packet came, where that is inside the window.
-    pub fn seen(&self, key: &Key, now: u64) -> Option<u64> {
-        self.window.seen(key, now)
-    }
-
     pub fn expire(&mut self, now: u64) {
         self.window.expire(now);
     }
@@ -67,15 +63,24 @@ fn offer(window: &mut Window, key: Key, now: u64) -> Result<Option<u64>, Memory>
 
 /// The key of a packet: its source, destination and path, and then its body.
 fn read_key(fields: &mut Fields) -> Result<Key, Fault> {
-    let alloc = fields.alloc;
-    let head = format!(in alloc; "{}:x", fields.word())?;
-    let line = Line::new(head.as_bytes()).ok_or(UNKNOWN)?;
+    let head = format!(in fields.alloc; "{}:x", fields.word())?;
+    let body = read_bytes(fields.alloc, fields.word())?;
+    let body = ArrayVec::try_from(body.as_slice())
+        .ok()
+        .ok_or(Fault::Unknown)?;
+    let line = Line::new(head.as_bytes()).ok_or(Fault::Unknown)?;
     let Ok(mut parts) = read(&line) else {
-        return Err(UNKNOWN);
+        return Err(Fault::Unknown);
     };
-    let body = fields.bytes()?;
-    parts.body = ArrayVec::try_from(body.as_slice()).ok().ok_or(UNKNOWN)?;
+    parts.body = body;
     Ok(Key::of(&parts))
+}
+
+/// Whether two packets are the same.
+fn same(fields: &mut Fields) -> Answer {
+    let one = read_key(fields)?;
+    let other = read_key(fields)?;
+    yes_or_no(fields.alloc, one == other)
 }
 
 /// The window that rows speak of.
@@ -101,7 +106,9 @@ impl Windows {
     }
 
     /// A packet comes: whether it is new, or else when the same came.
-    fn put(&mut self, now: u64, key: Key) -> Answer {
+    fn put(&mut self, fields: &mut Fields) -> Answer {
+        let now = fields.number();
+        let key = read_key(fields)?;
         if now < self.lately.latest {
             return not_allowed(self.alloc);
         }
@@ -111,6 +118,13 @@ impl Windows {
         }
     }
 
+    /// When a packet came, where that is inside the window.
+    fn seen(&self, fields: &mut Fields) -> Answer {
+        let now = fields.number();
+        let key = read_key(fields)?;
+        or_none(self.alloc, self.lately.window.seen(&key, now))
+    }
+
     fn expire(&mut self, now: u64) -> Answer {
         self.lately.expire(now);
         said(self.alloc, "done")
@@ -118,15 +132,12 @@ impl Windows {
 
     pub fn answer(&mut self, fields: &mut Fields) -> Answer {
         match fields.word() {
-            "new" => self.begin(fields.number()?),
-            "put" => self.put(fields.number()?, read_key(fields)?),
-            "seen" => {
-                let now = fields.number()?;
-                or_none(self.alloc, self.lately.seen(&read_key(fields)?, now))
-            }
-            "same" => yes_or_no(self.alloc, read_key(fields)? == read_key(fields)?),
-            "expire" => self.expire(fields.number()?),
-            _ => Err(UNKNOWN),
+            "new" => self.begin(fields.number()),
+            "put" => self.put(fields),
+            "seen" => self.seen(fields),
+            "same" => same(fields),
+            "expire" => self.expire(fields.number()),
+            _ => Err(Fault::Unknown),
         }
     }
 }
