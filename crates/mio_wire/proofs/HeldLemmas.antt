@@ -50,6 +50,10 @@ unfolding IsHeld
 held_but link b ns true is held left = absurd (omega arith)
 held_but link b ns false is held left = let there = held left in contains_dropped_at link b.link ns there.0 is there.1 there.2
 
+pub held_at : (b : Brought) (ns : List ℕ) → Contains ns b.link → IsHeld b ns
+unfolding IsHeld
+held_at b ns there = λ left. there
+
 -- a link is let go with what it brought
 pub held_without : (link : ℕ) (b : Brought) (ns : List ℕ) → IsHeld b ns → IsHeld (forgotten link b) (dropped link ns)
 unfolding IsHeld
@@ -64,11 +68,6 @@ held_still : (b : Brought) (ns : List ℕ) (same : Bool) → IsHeld b ns → 0 <
 unfolding IsHeld
 held_still b ns true held left = absurd (omega arith)
 held_still b ns false held left = held left
-
--- where none are left
-pub held_none : (b : Brought) (ns : List ℕ) → length b.left ≡ 0 → IsHeld b ns
-unfolding IsHeld
-held_none b ns empty = λ left. absurd (omega arith)
 
 -- of bytes that are let go none are left
 pub held_forgotten : (link : ℕ) (b : Brought) (ns : List ℕ) → IsHeld b ns → IsHeld (forgotten link b) ns

@@ -6,4 +6,4 @@ pub mod FindLemmas
 pub mod NextLemmas
 pub mod HeldLemmas
 pub mod ListenLemmas
-pub mod ArrivalLemmas
+pub mod StepLemmas

@@ -2,14 +2,14 @@
 use Rattle.std.proofs.Common.{◌≡◌, ◌≢◌, ℕ, ◌<◌, Bool, true, false, List, [], ◌∷◌, length, Option, Some, None, IfSome, refl, sym, ap, subst, arith, rules}
 use Rattle.std.specs.Bool.{IsTrue}
 use Rattle.aprs_base.specs.declared.events.Event.{Event}
-use Rattle.aprs_base.specs.declared.events.Event.TheVariants.{Bytes, Stop, Tick}
-use Rattle.mio_wire.specs.Arrivals.{IsArrival, Steps}
+use Rattle.aprs_base.specs.declared.events.Event.TheVariants.{Stop, Tick}
+use Rattle.mio_wire.specs.Arrivals.{IsArrival}
 use Rattle.mio_wire.specs.Coming.{Comes, ComesNext, Passes, Rests, StepGives, TicksAt, dead_at, has_stopped, is_arrival}
 use Rattle.mio_wire.specs.Dialled.{AnswersStep}
-use Rattle.mio_wire.specs.Held.{IsServed, Listening, MovesAt, NamesStep, unread}
-use Rattle.mio_wire.specs.Linked.{TellsStep}
+use Rattle.mio_wire.specs.Held.{IsServed, MovesAt, holding, unread}
 use Rattle.mio_wire.specs.Pacing.{is_due, is_full}
-use Rattle.mio_wire.specs.Unread.{Brought, HandsUp, IsNextOf, Leaves, nothing}
+use Rattle.mio_wire.specs.Seen.{IsStep, Seen}
+use Rattle.mio_wire.specs.Unread.{Brought, HandsUp, IsNextOf, LeavesStep, nothing}
 use Rattle.mio_wire.specs.declared.course.Course.{Course}
 use Rattle.mio_wire.specs.declared.dials.Dial.{Dial}
 use Rattle.mio_wire.specs.declared.sockets.Sockets.{Sockets}
@@ -18,21 +18,6 @@ next_from : (link : ℕ) (left : List ℕ) (now : Brought) (e : Event) → (0 < 
 next_from link [] now e same next = tt
 next_from link (b ∷ bs) now e same next = subst (λ (w : Brought). IsNextOf w.link w.left e) (same (omega arith)) next
 
-abbrev pub is_piece : Event → Bool
-is_piece (Bytes link bytes) = true
-is_piece _ = false
-
--- any event but bytes takes none of those that are left
-pub leaves_same : (before now : Brought) (left : List ℕ) (e : Event) → now ≡ before → is_piece e ≡ false → Leaves before now left e
-unfolding Leaves
-leaves_same before now [] e same other = tt
-leaves_same before now (b ∷ bs) e same other = search rules
-
-pub leaves_from : (link : ℕ) (left : List ℕ) (held after : Brought) (e : Event) → (0 < length left → held ≡ record { link = link; left = left }) → Leaves held after held.left e → Leaves (record { link = link; left = left }) after left e
-unfolding Leaves
-leaves_from link [] held after e same leaves = tt
-leaves_from link (b ∷ bs) held after e same leaves = subst (λ (w : Brought). Leaves w after w.left e) (same (omega arith)) leaves
-
 comes_by : (last : Option ℕ) (stopped full due : Bool) (dead : Option ℕ) (before now : Brought) (e : Event) → (0 < length before.left → now ≡ before) → Comes last stopped full due dead now e → Comes last stopped full due dead before e
 comes_by None stopped full due dead before now e same comes = comes
 comes_by (Some moment) true full due dead before now e same comes = comes
@@ -40,10 +25,15 @@ comes_by (Some moment) false true due dead before now e same comes = comes
 comes_by (Some moment) false false due (Some uplink) before now e same comes = comes
 comes_by (Some moment) false false due None before now e same comes = (comes.0, next_from before.link before.left now e same comes.1)
 
-pub comes_from : (course : Course) (dials : List Dial) (before now : Brought) (e : Event) → (0 < length before.left → now ≡ before) → ComesNext course dials now e → ComesNext course dials before e
+comes_from : (course : Course) (dials : List Dial) (before now : Brought) (e : Event) → (0 < length before.left → now ≡ before) → ComesNext course dials now e → ComesNext course dials before e
 unfolding ComesNext
 comes_from course dials before now e same comes =
     comes_by course.second (has_stopped course.stop_after course.ended) (is_full course.pace) (is_due course.pace) (dead_at course.second dials) before now e same comes
+
+-- what comes next comes next too from where steps began that handed nothing up
+pub comes_after : (course : Course) (start before : Seen) (e : Event) → IsStep start before None → ComesNext course before.dials before.unread e → ComesNext course start.dials start.unread e
+unfolding AnswersStep LeavesStep
+comes_after course start before e first comes = comes_from course start.dials start.unread before.unread e first.rest (rw first.dials at comes)
 
 no_stop : (e : Event) → IsTrue (is_arrival e) → e ≢ Stop
 no_stop e arrives = λ same. let is : is_arrival Stop ≡ true = rw same at arrives in absurd cc
@@ -80,35 +70,9 @@ arrived_moves last sockets (Some e) arrives = no_tick last sockets e arrives
 
 -- where all that came is served, no bytes are left
 pub served_none : (sockets : Option Sockets) → IsServed sockets → length (unread sockets).left ≡ 0
-unfolding IsServed unread
+unfolding IsServed holding
 served_none None served = refl
 served_none (Some sockets) served = served.0
-
--- a tick changes no links, answers no dial, takes no bytes, and tells of nothing that came
-pub tick_steps : (course : Course) (ns : List ℕ) (made : ℕ) (o : Option Event) → TicksAt course o → Steps ns ns made made o
-unfolding Steps TicksAt
-tick_steps course ns made o ticks = search rules
-
-pub tick_answers : (course : Course) (dials : List Dial) (o : Option Event) → TicksAt course o → AnswersStep dials dials o
-unfolding AnswersStep TicksAt
-tick_answers course dials o ticks = search rules
-
-pub tick_tells : (course : Course) (ns : List ℕ) (o : Option Event) → TicksAt course o → TellsStep ns o
-unfolding TellsStep TicksAt
-tick_tells course ns o ticks = search rules
-
-pub tick_names : (course : Course) (heard : Listening) (o : Option Event) → TicksAt course o → NamesStep heard o
-unfolding NamesStep TicksAt
-tick_names course heard o ticks = search rules
-
-none_left : (before now : Brought) (left : List ℕ) (e : Event) → length left ≡ 0 → Leaves before now left e
-unfolding Leaves
-none_left before now [] e empty = tt
-none_left before now (b ∷ bs) e empty = absurd (omega arith)
-
-pub tick_leaves : (before now : Brought) (o : Option Event) → length before.left ≡ 0 → IfSome o (Leaves before now before.left)
-tick_leaves before now None empty = tt
-tick_leaves before now (Some e) empty = none_left before now before.left e empty
 
 none_next : (link : ℕ) (left : List ℕ) (e : Event) → length left ≡ 0 → IsNextOf link left e
 none_next link [] e empty = tt

@@ -6,7 +6,7 @@ use Rattle.aprs_base.specs.declared.events.Sent.{Sent}
 use Rattle.aprs_base.specs.declared.events.Sent.TheVariants as sent
 use Rattle.aprs_base.specs.declared.events.WireError.{WireError}
 use Rattle.aprs_base.specs.declared.events.WireError.TheVariants as wire_error
-use Rattle.mio_wire.specs.Coming.{is_arrival, is_mail, is_unasked}
+use Rattle.mio_wire.specs.Coming.{is_arrival}
 use Rattle.mio_wire.specs.Linked.{dropped, numbers_after}
 
 -- the links' numbers and their count after a step: they change by what arrived alone
@@ -17,14 +17,6 @@ Steps before now made made' (Some e) = (now ≡ numbers_after e before) × Count
 unfoldable pub IsArrival : Option Event → Type 0
 IsArrival None = ⊤
 IsArrival (Some e) = IsTrue (is_arrival e)
-
-unfoldable pub IsMail : Option Event → Type 0
-IsMail None = ⊤
-IsMail (Some e) = IsTrue (is_mail e)
-
-unfoldable pub IsUnasked : Option Event → Type 0
-IsUnasked None = ⊤
-IsUnasked (Some e) = IsTrue (is_unasked e)
 
 -- the links' numbers after an offer: one that is gone is let go
 abbrev pub after_sent : {E : Type 0} → Result Sent E → ℕ → List ℕ → List ℕ

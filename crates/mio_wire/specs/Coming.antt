@@ -43,16 +43,6 @@ is_arrival (event.Tick moment) = false
 is_arrival event.Stop = false
 is_arrival _ = true
 
-abbrev pub is_mail : Event → Bool
-is_mail (event.Datagram listener from bytes) = true
-is_mail _ = false
-
--- what arrives and is no answer to a dial
-abbrev pub is_unasked : Event → Bool
-is_unasked (event.Joined uplink link at) = false
-is_unasked (event.Unjoined uplink) = false
-is_unasked e = is_arrival e
-
 -- where nothing is due and no bytes are left: no stop, and no second tick of a moment where nothing was handed up since the first
 abbrev pub Rests : (due : Bool) (moment : ℕ) → Event → Type 0
 Rests true moment e = e ≢ event.Stop

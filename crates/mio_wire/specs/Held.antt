@@ -13,11 +13,6 @@ use Rattle.mio_wire.specs.Mail.{greater}
 use Rattle.mio_wire.specs.Sources.{reads_link, with_waiting}
 use Rattle.mio_wire.specs.Unread.{Brought, nothing}
 
--- the bytes that were read and are not handed up
-unfoldable pub unread : Option Sockets → Brought
-unread None = nothing
-unread (Some sockets) = sockets.inbox
-
 -- a link has more than one read took, and is to be read on in the next turn
 unfoldable pub reads_on : Option Sockets → Bool
 reads_on None = false
@@ -32,9 +27,23 @@ pub record Listening : Type 0 where
 abbrev pub listening_of : Sockets → Listening
 listening_of sockets = record { links = map (λ ear. ear.number) sockets.ears.items; mail = map (λ mailbox. mailbox.number) sockets.mailboxes.items; caster = sockets.caster }
 
-unfoldable pub listening : Option Sockets → Listening
-listening None = record { links = []; mail = []; caster = None }
-listening (Some sockets) = listening_of sockets
+-- what sockets hold: the bytes that were read and are not handed up, and who listens
+pub record Holding : Type 0 where
+  pub unread : Brought
+  pub heard : Listening
+
+abbrev pub holding_of : Sockets → Holding
+holding_of sockets = record { unread = sockets.inbox; heard = listening_of sockets }
+
+unfoldable pub holding : Option Sockets → Holding
+holding None = record { unread = nothing; heard = record { links = []; mail = []; caster = None } }
+holding (Some sockets) = holding_of sockets
+
+abbrev pub unread : Option Sockets → Brought
+unread sockets = (holding sockets).unread
+
+abbrev pub listening : Option Sockets → Listening
+listening sockets = (holding sockets).heard
 
 -- after one more listener: it is the last of its kind's, and a peer group's may be the one that casts
 abbrev pub listening_after : PortKind → (number : ℕ) → Listening → Listening

@@ -8,3 +8,4 @@ pub mod Arrivals
 pub mod Mail
 pub mod Sources
 pub mod Held
+pub mod Seen

@@ -49,3 +49,8 @@ Leaves before now (b ∷ bs) (event.Ended link) = now ≡ before
 Leaves before now (b ∷ bs) (event.Room link) = now ≡ before
 Leaves before now (b ∷ bs) (event.Datagram listener from bytes) = now ≡ before
 Leaves before now (b ∷ bs) event.Stop = now ≡ before
+
+-- a step takes none of them where it hands nothing up
+unfoldable pub LeavesStep : (before now : Brought) → Option Event → Type 0
+LeavesStep before now None = 0 < length before.left → now ≡ before
+LeavesStep before now (Some e) = Leaves before now before.left e

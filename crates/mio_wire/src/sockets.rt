@@ -4,7 +4,7 @@ ghost use Rattle.aprs_base.specs.Outside.{IsOutcome};
 ghost use Rattle.aprs_base.specs.declared.packets.PortKind.TheVariants.{Core, Submit};
 ghost use Rattle.mio_wire.specs.Arrivals.{after_sent};
 ghost use Rattle.mio_wire.specs.Linked.{TakesBytes, TakesOf, at_place, dropped, numbers, without};
-ghost use Rattle.mio_wire.specs.Held.{listening_after, listening_of, with_deaf, woken};
+ghost use Rattle.mio_wire.specs.Held.{holding_of, listening_after, listening_of, with_deaf, woken};
 ghost use Rattle.mio_wire.specs.Sources.{reads_link};
 ghost use Rattle.mio_wire.specs.Unread.{IsHeld, forgotten, nothing, unread_after};
 ghost use Rattle.std.specs.List.{list_any};
@@ -81,9 +81,8 @@ impl Sockets {
         number: u16,
         spec: &ListenSpec,
     ) -> Result<(), WireError>
-        ensures unread { self.new.inbox ≡ self.old.inbox }
-        ensures ok { OnOk result (listening_of self.new ≡ listening_after spec.now.kind number (listening_of self.old)) }
-        ensures err { OnErr result (listening_of self.new ≡ listening_of self.old) }
+        ensures ok { OnOk result (holding_of self.new ≡ record (holding_of self.old) { heard = listening_after spec.now.kind number (listening_of self.old) }) }
+        ensures err { OnErr result (holding_of self.new ≡ holding_of self.old) }
     {
         match spec.kind {
             PortKind::Full | PortKind::Igate | PortKind::Only | PortKind::Dupe => {
@@ -94,9 +93,8 @@ impl Sockets {
     }
 
     fn listen_for_links<R: Net>(&mut self, rt: &R, number: u16, at: Addr) -> Result<(), WireError>
-        ensures unread { self.new.inbox ≡ self.old.inbox }
-        ensures ok { OnOk result (listening_of self.new ≡ record (listening_of self.old) { links = (listening_of self.old).links ++ number ∷ [] }) }
-        ensures err { OnErr result (listening_of self.new ≡ listening_of self.old) }
+        ensures ok { OnOk result (holding_of self.new ≡ record (holding_of self.old) { heard = record (listening_of self.old) { links = (listening_of self.old).links ++ number ∷ [] } }) }
+        ensures err { OnErr result (holding_of self.new ≡ holding_of self.old) }
     {
         self.ears.reserve(1)?;
         let token = FIRST_EAR.saturating_add(self.ears.len());
@@ -128,9 +126,8 @@ impl Sockets {
         spec: &ListenSpec,
     ) -> Result<(), WireError>
         requires { (spec.now.kind ≡ Submit) ⊎ (spec.now.kind ≡ Core) }
-        ensures unread { self.new.inbox ≡ self.old.inbox }
-        ensures ok { OnOk result (listening_of self.new ≡ listening_after spec.now.kind number (listening_of self.old)) }
-        ensures err { OnErr result (listening_of self.new ≡ listening_of self.old) }
+        ensures ok { OnOk result (holding_of self.new ≡ record (holding_of self.old) { heard = listening_after spec.now.kind number (listening_of self.old) }) }
+        ensures err { OnErr result (holding_of self.new ≡ holding_of self.old) }
     {
         self.mailboxes.reserve(1)?;
         let Ok(socket) = self.bind_mailbox(rt, spec.at) else {
@@ -185,8 +182,7 @@ impl Sockets {
 
     /// Waits until something is ready, but not where something waits for another turn, and begins a turn.
     pub(crate) fn wait(&mut self, most: Duration) -> Result<(), WireError>
-        ensures unread { self.new.inbox ≡ self.old.inbox }
-        ensures listening { listening_of self.new ≡ listening_of self.old }
+        ensures { holding_of self.new ≡ holding_of self.old }
     {
         self.wake_ears()?;
         let most = if self.turns.has_later() {

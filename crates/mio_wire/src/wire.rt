@@ -8,11 +8,12 @@ ghost use Rattle.mio_wire.specs.Coming.{ComesNext, StepGives, TicksAt, after_eve
 ghost use Rattle.std.specs.Net.Grammar.{IsIpv4Text};
 ghost use Rattle.std.specs.declared.net.ipv4_addr.Ipv4Addr.{Ipv4Addr};
 ghost use Rattle.mio_wire.specs.Names.{IsIn};
-ghost use Rattle.mio_wire.specs.Dialled.{Answers, AnswersStep, Begins};
-ghost use Rattle.mio_wire.specs.Linked.{TakesOf, TellsOfOne, TellsStep, numbers, numbers_after, without};
-ghost use Rattle.mio_wire.specs.Arrivals.{IsArrival, Steps, after_sent, counts, failed_with};
+ghost use Rattle.mio_wire.specs.Dialled.{Answers, Begins};
+ghost use Rattle.mio_wire.specs.Linked.{TakesOf, TellsOfOne, numbers, numbers_after, without};
+ghost use Rattle.mio_wire.specs.Arrivals.{IsArrival, after_sent, counts, failed_with};
+ghost use Rattle.mio_wire.specs.Seen.{IsStep, StepsTo, seen};
 ghost use Rattle.mio_wire.specs.Unread.{HandsUp, IsHeld, Leaves, forgotten, nothing, unread_after};
-ghost use Rattle.mio_wire.specs.Held.{IsServed, MovesAt, NamesListener, NamesStep, Retries, listening, listening_after, reads_on, unread};
+ghost use Rattle.mio_wire.specs.Held.{IsServed, MovesAt, NamesListener, holding, listening, listening_after, reads_on, unread};
 
 use crate::course::Course;
 use crate::dials::{Dial, Dials};
@@ -108,12 +109,11 @@ impl<'a, R: Net + Clock> MioWire<'a, R> {
     }
 
     /// The sockets, which are opened at the first call that needs them.
-    #[tactic(auto, unfolding(crate::specs::Held::listening, crate::specs::Held::unread))]
+    #[tactic(auto, unfolding(crate::specs::Held::holding))]
     fn open_sockets(&mut self) -> Result<(), WireError>
         ensures there { OnOk result (is_some self.new.sockets ≡ true) }
         ensures kept { self.new ≡ record self.old { sockets = self.new.sockets } }
-        ensures unread { unread self.new.sockets ≡ unread self.old.sockets }
-        ensures listening { listening self.new.sockets ≡ listening self.old.sockets }
+        ensures holding { holding self.new.sockets ≡ holding self.old.sockets }
     {
         if self.sockets.is_none() {
             self.sockets = Some(Sockets::open(self.rt, self.alloc)?);
@@ -130,13 +130,12 @@ impl<'a, R: Net + Clock> MioWire<'a, R> {
     }
 
     /// The tick of another second than the last one's: listeners that failed to open a link try again.
-    #[tactic(auto, unfolding(crate::specs::Held::IsServed, crate::specs::Held::MovesAt, crate::specs::Held::Retries, crate::specs::Held::listening, crate::specs::Held::unread))]
+    #[tactic(auto, unfolding(crate::specs::Held::IsServed, crate::specs::Held::MovesAt, crate::specs::Held::Retries, crate::specs::Held::holding))]
     fn move_on(&mut self, second: u64) -> Event
         ensures event { result ≡ Tick second }
         ensures moves { (self.old.course.second ≢ None → IsServed self.old.sockets) → MovesAt self.old.course.second self.new.sockets result }
         ensures kept { self.new ≡ record self.old { sockets = self.new.sockets } }
-        ensures unread { unread self.new.sockets ≡ unread self.old.sockets }
-        ensures listening { listening self.new.sockets ≡ listening self.old.sockets }
+        ensures holding { holding self.new.sockets ≡ holding self.old.sockets }
     {
         if let Some(sockets) = &mut self.sockets {
             sockets.retry();
@@ -145,11 +144,10 @@ impl<'a, R: Net + Clock> MioWire<'a, R> {
     }
 
     /// Listens, with sockets that are opened where they are not open.
-    #[tactic(auto, unfolding(crate::specs::Held::listening, crate::specs::Held::unread))]
+    #[tactic(auto, unfolding(crate::specs::Held::holding))]
     fn listen_at(&mut self, n: u16, spec: &ListenSpec) -> Result<(), WireError>
-        ensures listening { OnOk result (listening self.new.sockets ≡ listening_after spec.now.kind n (listening self.old.sockets)) }
-        ensures err { OnErr result (listening self.new.sockets ≡ listening self.old.sockets) }
-        ensures unread { unread self.new.sockets ≡ unread self.old.sockets }
+        ensures ok { OnOk result (holding self.new.sockets ≡ record (holding self.old.sockets) { heard = listening_after spec.now.kind n (listening self.old.sockets) }) }
+        ensures err { OnErr result (holding self.new.sockets ≡ holding self.old.sockets) }
         ensures kept { self.new ≡ record self.old { sockets = self.new.sockets } }
     {
         self.open_sockets()?;
@@ -182,22 +180,12 @@ impl<'a, R: Net + Clock> MioWire<'a, R> {
     }
 
     /// The next thing to hand up of what has come: bytes that were read, or what a socket has.
-    #[tactic(auto, unfolding(crate::specs::Arrivals::IsArrival, crate::specs::Arrivals::Steps, crate::specs::Dialled::AnswersStep, crate::specs::Held::NamesStep, crate::specs::Held::listening, crate::specs::Held::unread, crate::specs::Linked::TellsStep, crate::specs::Unread::HandsUp, crate::specs::Unread::IsHeld, crate::specs::Unread::Leaves))]
+    #[tactic(auto, unfolding(crate::specs::Arrivals::IsArrival, crate::specs::Held::holding, crate::specs::Unread::HandsUp))]
     fn arrived(&mut self) -> Result<Option<Event>, WireError>
-        ensures steps { IfOk result (Steps (numbers self.old.links.list.items) (numbers self.new.links.list.items) self.old.links.made self.new.links.made) }
-        ensures dials { IfOk result (AnswersStep self.old.dials.list.items self.new.dials.list.items) }
+        ensures step { StepsTo (seen self.old) (seen self.new) result }
         ensures arrival { IfOk result IsArrival }
-        ensures tells { IsHeld (unread self.old.sockets) (numbers self.old.links.list.items) → IfOk result (TellsStep (numbers self.old.links.list.items)) }
-        ensures held { IsHeld (unread self.old.sockets) (numbers self.old.links.list.items) → IfOk result (λ o. IsHeld (unread self.new.sockets) (numbers self.new.links.list.items)) }
         ensures bytes { IfOk result (HandsUp (unread self.old.sockets)) }
-        ensures rest { IfOk result (λ o. IfSome o (Leaves (unread self.old.sockets) (unread self.new.sockets) (unread self.old.sockets).left)) }
-        ensures err { OnErr result ((numbers self.new.links.list.items ≡ numbers self.old.links.list.items) × (self.new.links.made ≡ self.old.links.made)) }
-        ensures unanswered { OnErr result (self.new.dials.list.items ≡ self.old.dials.list.items) }
-        ensures unread { OnErr result (unread self.new.sockets ≡ unread self.old.sockets) }
-        ensures names { IfOk result (NamesStep (listening self.old.sockets)) }
-        ensures listening { listening self.new.sockets ≡ listening self.old.sockets }
-        ensures counts { (self.new.failed_listens ≡ self.old.failed_listens) × (self.new.failed_nexts ≡ self.old.failed_nexts) × (self.new.gones ≡ self.old.gones) }
-        ensures kept { self.new.course ≡ self.old.course }
+        ensures kept { self.new ≡ record self.old { sockets = self.new.sockets; links = self.new.links; dials = self.new.dials } }
     {
         let Some(sockets) = &mut self.sockets else {
             return Ok(None);
@@ -209,18 +197,12 @@ impl<'a, R: Net + Clock> MioWire<'a, R> {
     }
 
     /// What comes before anything that arrives: the first tick, a stop, a tick that is due at once, or the answer to a dead dial.
-    #[tactic(auto, using(crate::proofs::NextLemmas::leaves_same), unfolding(crate::specs::Arrivals::Steps, crate::specs::Coming::ComesNext, crate::specs::Coming::StepGives, crate::specs::Dialled::AnswersStep, crate::specs::Held::MovesAt, crate::specs::Held::NamesStep, crate::specs::Linked::TellsStep))]
+    #[tactic(auto, unfolding(crate::specs::Coming::ComesNext, crate::specs::Coming::StepGives, crate::specs::Held::MovesAt))]
     fn due(&mut self) -> Option<Event>
-        ensures steps { Steps (numbers self.old.links.list.items) (numbers self.new.links.list.items) self.old.links.made self.new.links.made result }
-        ensures dials { AnswersStep self.old.dials.list.items self.new.dials.list.items result }
-        ensures rest { IfSome result (Leaves (unread self.old.sockets) (unread self.new.sockets) (unread self.old.sockets).left) }
-        ensures tells { TellsStep (numbers self.old.links.list.items) result }
-        ensures names { NamesStep (listening self.old.sockets) result }
+        ensures step { IsStep (seen self.old) (seen self.new) result }
         ensures gives { IfSome result (λ e. StepGives self.old.course self.old.dials.list.items (unread self.old.sockets) (Some e)) }
         ensures moves { IfSome result (MovesAt self.old.course.second self.new.sockets) }
         ensures none { IfNone result (StepGives self.old.course self.old.dials.list.items nothing None × (self.new ≡ self.old)) }
-        ensures unread { unread self.new.sockets ≡ unread self.old.sockets }
-        ensures listening { listening self.new.sockets ≡ listening self.old.sockets }
         ensures kept { self.new ≡ record self.old { sockets = self.new.sockets; dials = self.new.dials } }
     {
         let Some(second) = self.course.second else {
@@ -241,8 +223,7 @@ impl<'a, R: Net + Clock> MioWire<'a, R> {
         requires served { IsServed self.old.sockets }
         ensures ticks { IfOk result (TicksAt self.old.course) }
         ensures moves { IfOk result (λ o. IfSome o (MovesAt self.old.course.second self.new.sockets)) }
-        ensures unread { unread self.new.sockets ≡ unread self.old.sockets }
-        ensures listening { listening self.new.sockets ≡ listening self.old.sockets }
+        ensures holding { holding self.new.sockets ≡ holding self.old.sockets }
         ensures kept { self.new ≡ record self.old { sockets = self.new.sockets; ahead = self.new.ahead; asked = self.new.asked } }
     {
         match self.ahead.take() {
@@ -254,10 +235,10 @@ impl<'a, R: Net + Clock> MioWire<'a, R> {
     /// Asks the sockets in a new second, twice before its tick, gives a tick that is due since all that came is handed up, and else waits.
     #[tactic(auto, unfolding(crate::specs::Coming::TicksAt, crate::specs::Held::MovesAt))]
     fn idle(&mut self) -> Result<Option<Event>, WireError>
+        ensures once { OnOk result (self.old.asked ≡ true → self.new.asked ≡ false) }
         ensures ticks { IfOk result (TicksAt self.old.course) }
         ensures moves { IfOk result (λ o. IfSome o (MovesAt self.old.course.second self.new.sockets)) }
-        ensures unread { unread self.new.sockets ≡ unread self.old.sockets }
-        ensures listening { listening self.new.sockets ≡ listening self.old.sockets }
+        ensures holding { holding self.new.sockets ≡ holding self.old.sockets }
         ensures kept { self.new ≡ record self.old { sockets = self.new.sockets; ahead = self.new.ahead; asked = self.new.asked } }
     {
         let now = self.clock();
@@ -268,6 +249,7 @@ impl<'a, R: Net + Clock> MioWire<'a, R> {
             self.asked = !self.asked;
             return Ok(None);
         }
+        self.asked = false;
         if self.course.pace.is_due() && !self.reads_on() {
             return Ok(Some(Event::Tick(second)));
         }
@@ -276,22 +258,12 @@ impl<'a, R: Net + Clock> MioWire<'a, R> {
     }
 
     /// The next event, or none where it took a step towards it.
-    #[tactic(auto, using(crate::proofs::NextLemmas::arrived_gives, crate::proofs::NextLemmas::arrived_moves, crate::proofs::NextLemmas::served_none, crate::proofs::NextLemmas::tick_answers, crate::proofs::NextLemmas::tick_gives, crate::proofs::NextLemmas::tick_leaves, crate::proofs::NextLemmas::tick_names, crate::proofs::NextLemmas::tick_steps, crate::proofs::NextLemmas::tick_tells))]
+    #[tactic(auto, using(crate::proofs::NextLemmas::arrived_gives, crate::proofs::NextLemmas::arrived_moves, crate::proofs::NextLemmas::served_none, crate::proofs::NextLemmas::tick_gives))]
     fn step(&mut self) -> Result<Option<Event>, WireError>
-        ensures steps { IfOk result (Steps (numbers self.old.links.list.items) (numbers self.new.links.list.items) self.old.links.made self.new.links.made) }
-        ensures dials { IfOk result (AnswersStep self.old.dials.list.items self.new.dials.list.items) }
-        ensures rest { IfOk result (λ o. IfSome o (Leaves (unread self.old.sockets) (unread self.new.sockets) (unread self.old.sockets).left)) }
-        ensures tells { IsHeld (unread self.old.sockets) (numbers self.old.links.list.items) → IfOk result (TellsStep (numbers self.old.links.list.items)) }
-        ensures held { IsHeld (unread self.old.sockets) (numbers self.old.links.list.items) → IfOk result (λ o. IsHeld (unread self.new.sockets) (numbers self.new.links.list.items)) }
+        ensures step { StepsTo (seen self.old) (seen self.new) result }
         ensures gives { IfOk result (StepGives self.old.course self.old.dials.list.items (unread self.old.sockets)) }
-        ensures err { OnErr result ((numbers self.new.links.list.items ≡ numbers self.old.links.list.items) × (self.new.links.made ≡ self.old.links.made)) }
-        ensures unanswered { OnErr result (self.new.dials.list.items ≡ self.old.dials.list.items) }
-        ensures unread { OnErr result (unread self.new.sockets ≡ unread self.old.sockets) }
-        ensures names { IfOk result (NamesStep (listening self.old.sockets)) }
         ensures moves { IfOk result (λ o. IfSome o (MovesAt self.old.course.second self.new.sockets)) }
-        ensures listening { listening self.new.sockets ≡ listening self.old.sockets }
-        ensures counts { (self.new.failed_listens ≡ self.old.failed_listens) × (self.new.failed_nexts ≡ self.old.failed_nexts) × (self.new.gones ≡ self.old.gones) }
-        ensures kept { self.new.course ≡ self.old.course }
+        ensures kept { self.new ≡ record self.old { sockets = self.new.sockets; links = self.new.links; dials = self.new.dials; ahead = self.new.ahead; asked = self.new.asked } }
     {
         if let Some(event) = self.due() {
             return Ok(Some(event));
@@ -303,13 +275,12 @@ impl<'a, R: Net + Clock> MioWire<'a, R> {
     }
 
     /// Offers bytes to a link, which is let go where it is gone.
-    #[tactic(auto, unfolding(crate::specs::Held::listening, crate::specs::Held::unread, crate::specs::Unread::IsHeld))]
+    #[tactic(auto, unfolding(crate::specs::Held::holding, crate::specs::Unread::IsHeld))]
     fn offer(&mut self, link: u32, bytes: &[u8]) -> Result<Sent, Memory>
         ensures there { IfOk result (TakesOf (numbers self.old.links.list.items) link) }
         ensures held { IsHeld (unread self.old.sockets) (numbers self.old.links.list.items) → IsHeld (unread self.new.sockets) (numbers self.new.links.list.items) }
         ensures part { IfOk result (IsOutcome bytes.now) }
-        ensures unread { unread self.new.sockets ≡ unread_after result link (unread self.old.sockets) }
-        ensures listening { listening self.new.sockets ≡ listening self.old.sockets }
+        ensures holding { holding self.new.sockets ≡ record (holding self.old.sockets) { unread = unread_after result link (unread self.old.sockets) } }
         ensures links { OnOk result (numbers self.new.links.list.items ≡ after_sent result link (numbers self.old.links.list.items)) }
         ensures others { without link self.new.links.list.items ≡ without link self.old.links.list.items }
         ensures made { self.new.links.made ≡ self.old.links.made }
@@ -335,8 +306,7 @@ impl<'a, R: Net + Clock> MioWire<'a, R> {
 
     /// Begins a dial, which has failed where there is no address for it.
     fn begin(&mut self, uplink: u16, spec: &UplinkSpec) -> Result<Dial, Memory>
-        ensures unread { unread self.new.sockets ≡ unread self.old.sockets }
-        ensures listening { listening self.new.sockets ≡ listening self.old.sockets }
+        ensures holding { holding self.new.sockets ≡ holding self.old.sockets }
         ensures named { IfOk result (λ d. d.uplink ≡ uplink) }
         ensures digits { (a : Ipv4Addr) → IsIpv4Text spec.now.host a → IfOk result (λ d. IsIn spec.now.host spec.now.port (Some d.at)) }
         ensures since { IfOk result (λ d. IfSome self.old.course.second (λ second. d.since ≡ second)) }
@@ -364,10 +334,9 @@ impl<'a, R: Net + Clock> MioWire<'a, R> {
     }
 
     /// Begins to connect. None where that fails at once.
-    #[tactic(auto, unfolding(crate::specs::Held::listening, crate::specs::Held::unread))]
+    #[tactic(auto, unfolding(crate::specs::Held::holding))]
     fn connect(&mut self, at: Addr, token: usize) -> Result<Option<TcpStream>, Memory>
-        ensures unread { unread self.new.sockets ≡ unread self.old.sockets }
-        ensures listening { listening self.new.sockets ≡ listening self.old.sockets }
+        ensures holding { holding self.new.sockets ≡ holding self.old.sockets }
         ensures kept { self.new ≡ record self.old { sockets = self.new.sockets } }
     {
         match self.open_sockets() {
@@ -385,18 +354,16 @@ impl<'a, R: Net + Clock> MioWire<'a, R> {
     fn wait(&mut self, now: Duration) -> Result<(), WireError>
         requires { (is_due self.old.course.pace && not (reads_on self.old.sockets)) ≡ false }
         ensures kept { self.new ≡ record self.old { sockets = self.new.sockets } }
-        ensures unread { unread self.new.sockets ≡ unread self.old.sockets }
-        ensures listening { listening self.new.sockets ≡ listening self.old.sockets }
+        ensures holding { holding self.new.sockets ≡ holding self.old.sockets }
     {
         self.poll(Duration::from_millis(left_of_second(now.subsec_millis())))
     }
 
     /// Asks the sockets, and waits for them so long at most.
-    #[tactic(auto, unfolding(crate::specs::Held::listening, crate::specs::Held::unread))]
+    #[tactic(auto, unfolding(crate::specs::Held::holding))]
     fn poll(&mut self, most: Duration) -> Result<(), WireError>
         ensures kept { self.new ≡ record self.old { sockets = self.new.sockets } }
-        ensures unread { unread self.new.sockets ≡ unread self.old.sockets }
-        ensures listening { listening self.new.sockets ≡ listening self.old.sockets }
+        ensures holding { holding self.new.sockets ≡ holding self.old.sockets }
     {
         match &mut self.sockets {
             Some(sockets) => sockets.wait(most),
@@ -477,7 +444,7 @@ impl<'a, R: Net + Clock + Wait> Wire for MioWire<'a, R> {
         Ok(sent)
     }
 
-    #[tactic(auto, unfolding(crate::specs::Held::listening, crate::specs::Held::unread, crate::specs::Unread::IsHeld))]
+    #[tactic(auto, unfolding(crate::specs::Held::holding, crate::specs::Unread::IsHeld))]
     fn close(&mut self, link: u32) -> Result<(), Memory>
         ensures close { AfterAct (counts self.old.failed_listens self.old.failed_nexts self.old.gones self.old.links.made) (counts self.new.failed_listens self.new.failed_nexts self.new.gones self.new.links.made) (with_closed link) result }
         ensures held { IsHeld (unread self.old.sockets) (numbers self.old.links.list.items) → IsHeld (unread self.new.sockets) (numbers self.new.links.list.items) }

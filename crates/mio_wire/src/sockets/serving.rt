@@ -1,12 +1,12 @@
 //! Serving the sources that are ready.
-ghost use Rattle.std.specs.Prelude.{◌≡◌, ◌+◌, ◌<◌, ◌≤◌, ◌^◌, Some, OnOk, OnErr, IfNone, IfOk, IfSome, Contains, length, option_map, slice_get, vec_len};
+ghost use Rattle.std.specs.Prelude.{◌≡◌, ◌+◌, ◌<◌, ◌≤◌, ◌^◌, Some, OnOk, IfNone, IfOk, IfSome, Contains, length, option_map, slice_get, vec_len};
 ghost use Rattle.std.specs.Io.KnownBytes.{Consumes};
-ghost use Rattle.mio_wire.specs.Arrivals.{IsArrival, IsMail, IsUnasked, Steps};
-ghost use Rattle.mio_wire.specs.Dialled.{AnswersStep};
-ghost use Rattle.mio_wire.specs.Held.{BringsAt, NamesStep, OpensAt, listening_of};
-ghost use Rattle.mio_wire.specs.Linked.{TellsStep, at_place, numbers, reading_of, without};
+ghost use Rattle.mio_wire.specs.Arrivals.{IsArrival};
+ghost use Rattle.mio_wire.specs.Held.{BringsAt, OpensAt, holding_of, listening_of};
+ghost use Rattle.mio_wire.specs.Linked.{at_place, numbers, reading_of, without};
+ghost use Rattle.mio_wire.specs.Seen.{StepsTo, seen_of};
 ghost use Rattle.mio_wire.specs.Sources.{after_read, waiting_after};
-ghost use Rattle.mio_wire.specs.Unread.{IsHeld};
+ghost use Rattle.mio_wire.specs.declared.dials.Dials.{Dials};
 
 use super::Sockets;
 use crate::addresses::addr_of;
@@ -28,23 +28,15 @@ const MOST_DATAGRAMS: u32 = 64;
 
 impl Sockets {
     /// Serves the source whose turn it is.
-    #[tactic(auto, using(crate::proofs::ArrivalLemmas::mail_steps, crate::proofs::ArrivalLemmas::mail_tells, crate::proofs::ArrivalLemmas::mail_unasked, crate::proofs::ArrivalLemmas::unasked_answers, crate::proofs::ArrivalLemmas::unasked_arrives, crate::proofs::HeldLemmas::held_none), unfolding(crate::specs::Arrivals::IsArrival, crate::specs::Arrivals::Steps, crate::specs::Dialled::AnswersStep, crate::specs::Held::NamesStep, crate::specs::Linked::TellsStep, crate::specs::Unread::IsHeld))]
+    #[tactic(auto, unfolding(crate::specs::Arrivals::IsArrival))]
     pub(crate) fn serve(
         &mut self,
         links: &mut Links<TcpStream>,
         dials: &mut Dials,
     ) -> Result<Option<Event>, AllocError>
         requires { length self.old.inbox.left ≡ 0 }
-        ensures tells { IfOk result (TellsStep (numbers links.old.list.items)) }
-        ensures names { IfOk result (NamesStep (listening_of self.old)) }
-        ensures held { IsHeld self.new.inbox (numbers links.new.list.items) }
-        ensures unread { OnErr result (self.new.inbox ≡ self.old.inbox) }
-        ensures listening { listening_of self.new ≡ listening_of self.old }
-        ensures steps { IfOk result (Steps (numbers links.old.list.items) (numbers links.new.list.items) links.old.made links.new.made) }
-        ensures dials { IfOk result (AnswersStep dials.old.list.items dials.new.list.items) }
-        ensures unanswered { OnErr result (dials.new.list.items ≡ dials.old.list.items) }
+        ensures step { StepsTo (seen_of self.old links.old dials.old) (seen_of self.new links.new dials.new) result }
         ensures arrival { IfOk result IsArrival }
-        ensures err { OnErr result ((numbers links.new.list.items ≡ numbers links.old.list.items) × (links.new.made ≡ links.old.made)) }
     {
         let Some(ready) = self.turns.current() else {
             return Ok(None);
@@ -58,13 +50,11 @@ impl Sockets {
     }
 
     /// Hands up a datagram, or goes on where none waits. A socket that had its share waits for the next turn.
-    #[tactic(auto, unfolding(crate::specs::Arrivals::IsMail, crate::specs::Held::BringsAt, crate::specs::Sources::waiting_after))]
+    #[tactic(auto, unfolding(crate::specs::Held::BringsAt, crate::specs::Sources::waiting_after))]
     fn serve_mailbox(&mut self, place: usize, token: usize) -> Result<Option<Event>, AllocError>
-        ensures mail { IfOk result IsMail }
         ensures named { IfOk result (BringsAt (listening_of self.old).mail place) }
         ensures later { OnOk result (IfSome (slice_get self.old.mailboxes.items place) (λ mailbox. self.new.turns.later.items ≡ waiting_after 64 mailbox.received token self.old.turns.later.items)) }
-        ensures inbox { self.new.inbox ≡ self.old.inbox }
-        ensures listening { listening_of self.new ≡ listening_of self.old }
+        ensures holding { holding_of self.new ≡ holding_of self.old }
     {
         let Some(mailbox) = self.mailboxes.get(place) else {
             self.turns.advance();
@@ -103,7 +93,7 @@ impl Sockets {
     }
 
     /// Answers a dial of whose socket the poll told, once its outcome is known.
-    #[tactic(auto, unfolding(crate::specs::Arrivals::IsArrival, crate::specs::Arrivals::Steps, crate::specs::Dialled::AnswersStep, crate::specs::Held::NamesStep, crate::specs::Linked::TellsStep))]
+    #[tactic(auto, unfolding(crate::specs::Arrivals::IsArrival))]
     fn serve_dial(
         &mut self,
         links: &mut Links<TcpStream>,
@@ -111,15 +101,9 @@ impl Sockets {
         token: usize,
         ready: Ready,
     ) -> Result<Option<Event>, AllocError>
-        ensures tells { IfOk result (TellsStep (numbers links.old.list.items)) }
-        ensures names { IfOk result (NamesStep (listening_of self.old)) }
-        ensures inbox { self.new.inbox ≡ self.old.inbox }
-        ensures listening { listening_of self.new ≡ listening_of self.old }
-        ensures steps { IfOk result (Steps (numbers links.old.list.items) (numbers links.new.list.items) links.old.made links.new.made) }
-        ensures dials { IfOk result (AnswersStep dials.old.list.items dials.new.list.items) }
-        ensures unanswered { OnErr result (dials.new.list.items ≡ dials.old.list.items) }
+        ensures step { StepsTo (seen_of self.old links.old dials.old) (seen_of self.new links.new dials.new) result }
         ensures arrival { IfOk result IsArrival }
-        ensures err { OnErr result ((numbers links.new.list.items ≡ numbers links.old.list.items) × (links.new.made ≡ links.old.made)) }
+        ensures inbox { self.new.inbox ≡ self.old.inbox }
     {
         self.turns.advance();
         let Some(place) = dials.place_of(token) else {
@@ -133,7 +117,7 @@ impl Sockets {
     }
 
     /// Makes a link of a dial that is connected, where there is a number for it.
-    #[tactic(auto, unfolding(crate::specs::Arrivals::IsArrival, crate::specs::Arrivals::Steps, crate::specs::Dialled::AnswersStep, crate::specs::Held::NamesStep, crate::specs::Linked::TellsStep))]
+    #[tactic(auto, unfolding(crate::specs::Arrivals::IsArrival))]
     fn join(
         &mut self,
         links: &mut Links<TcpStream>,
@@ -141,15 +125,9 @@ impl Sockets {
         place: usize,
     ) -> Result<Option<Event>, AllocError>
         requires { place < length dials.old.list.items }
-        ensures tells { IfOk result (TellsStep (numbers links.old.list.items)) }
-        ensures names { IfOk result (NamesStep (listening_of self.old)) }
-        ensures inbox { self.new.inbox ≡ self.old.inbox }
-        ensures listening { listening_of self.new ≡ listening_of self.old }
-        ensures steps { IfOk result (Steps (numbers links.old.list.items) (numbers links.new.list.items) links.old.made links.new.made) }
-        ensures dials { IfOk result (AnswersStep dials.old.list.items dials.new.list.items) }
-        ensures unanswered { OnErr result (dials.new.list.items ≡ dials.old.list.items) }
+        ensures step { StepsTo (seen_of self.old links.old dials.old) (seen_of self.new links.new dials.new) result }
         ensures arrival { IfOk result IsArrival }
-        ensures err { OnErr result ((numbers links.new.list.items ≡ numbers links.old.list.items) × (links.new.made ≡ links.old.made)) }
+        ensures inbox { self.new.inbox ≡ self.old.inbox }
     {
         let Some(number) = links.made.checked_add(1) else {
             return Ok(Some(Event::Unjoined(dials.give_up(place))));
@@ -190,12 +168,8 @@ impl Sockets {
         token: usize,
     ) -> Result<Option<Event>, AllocError>
         ensures named { IfOk result (OpensAt (listening_of self.old).links place) }
-        ensures tells { IfOk result (TellsStep (numbers links.old.list.items)) }
+        ensures step { (dials : Dials) → StepsTo (seen_of self.old links.old dials) (seen_of self.new links.new dials) result }
         ensures inbox { self.new.inbox ≡ self.old.inbox }
-        ensures listening { listening_of self.new ≡ listening_of self.old }
-        ensures steps { IfOk result (Steps (numbers links.old.list.items) (numbers links.new.list.items) links.old.made links.new.made) }
-        ensures arrival { IfOk result IsUnasked }
-        ensures err { OnErr result ((numbers links.new.list.items ≡ numbers links.old.list.items) × (links.new.made ≡ links.old.made)) }
     {
         let opened = self.open_link(links, place, token)?;
         if opened.is_none() {
@@ -205,7 +179,7 @@ impl Sockets {
     }
 
     /// Opens the link that waits at a listener, if any. A listener that had its share waits for the next turn.
-    #[tactic(auto, unfolding(crate::specs::Arrivals::IsUnasked, crate::specs::Arrivals::Steps, crate::specs::Held::OpensAt, crate::specs::Linked::TellsStep, crate::specs::Sources::waiting_after))]
+    #[tactic(auto, unfolding(crate::specs::Held::OpensAt, crate::specs::Sources::waiting_after))]
     fn open_link(
         &mut self,
         links: &mut Links<TcpStream>,
@@ -214,12 +188,8 @@ impl Sockets {
     ) -> Result<Option<Event>, AllocError>
         ensures named { IfOk result (OpensAt (listening_of self.old).links place) }
         ensures later { links.old.made + 1 < 2 ^ 32 → OnOk result (IfSome (slice_get self.old.ears.items place) (λ ear. self.new.turns.later.items ≡ waiting_after 64 ear.opened token self.old.turns.later.items)) }
-        ensures tells { IfOk result (TellsStep (numbers links.old.list.items)) }
+        ensures step { (dials : Dials) → StepsTo (seen_of self.old links.old dials) (seen_of self.new links.new dials) result }
         ensures inbox { self.new.inbox ≡ self.old.inbox }
-        ensures listening { listening_of self.new ≡ listening_of self.old }
-        ensures steps { IfOk result (Steps (numbers links.old.list.items) (numbers links.new.list.items) links.old.made links.new.made) }
-        ensures arrival { IfOk result IsUnasked }
-        ensures err { OnErr result ((numbers links.new.list.items ≡ numbers links.old.list.items) × (links.new.made ≡ links.old.made)) }
     {
         let Some(number) = links.made.checked_add(1) else {
             return Ok(None);
@@ -271,7 +241,7 @@ impl Sockets {
     }
 
     /// Says that a link has room again, or reads what it brings.
-    #[tactic(auto, unfolding(crate::specs::Arrivals::IsUnasked, crate::specs::Arrivals::Steps, crate::specs::Held::NamesStep, crate::specs::Linked::TellsStep, crate::specs::Unread::IsHeld))]
+    #[tactic(auto, unfolding(crate::specs::Arrivals::IsArrival))]
     fn serve_link<S: Read + Drop>(
         &mut self,
         links: &mut Links<S>,
@@ -279,16 +249,10 @@ impl Sockets {
         ready: Ready,
     ) -> Result<Option<Event>, AllocError>
         requires { length self.old.inbox.left ≡ 0 }
-        ensures tells { IfOk result (TellsStep (numbers links.old.list.items)) }
-        ensures names { IfOk result (NamesStep (listening_of self.old)) }
+        ensures step { (dials : Dials) → StepsTo (seen_of self.old links.old dials) (seen_of self.new links.new dials) result }
+        ensures arrival { IfOk result IsArrival }
         ensures link { 1 ≤ length self.new.inbox.left → self.new.inbox.link ≡ number }
         ensures others { without number links.new.list.items ≡ without number links.old.list.items }
-        ensures held { IsHeld self.new.inbox (numbers links.new.list.items) }
-        ensures unread { OnErr result (self.new.inbox ≡ self.old.inbox) }
-        ensures listening { listening_of self.new ≡ listening_of self.old }
-        ensures steps { IfOk result (Steps (numbers links.old.list.items) (numbers links.new.list.items) links.old.made links.new.made) }
-        ensures arrival { IfOk result IsUnasked }
-        ensures err { OnErr result ((numbers links.new.list.items ≡ numbers links.old.list.items) × (links.new.made ≡ links.old.made)) }
     {
         let Some(place) = links.place_of(number) else {
             self.turns.advance();
@@ -305,7 +269,7 @@ impl Sockets {
     }
 
     /// Reads once from a link, which has another turn where more may be there.
-    #[tactic(auto, unfolding(crate::specs::Arrivals::IsUnasked, crate::specs::Arrivals::Steps, crate::specs::Held::NamesStep, crate::specs::Linked::TellsStep, crate::specs::Unread::IsHeld))]
+    #[tactic(auto, unfolding(crate::specs::Arrivals::IsArrival))]
     fn read<S: Read + Drop>(
         &mut self,
         links: &mut Links<S>,
@@ -316,18 +280,12 @@ impl Sockets {
         requires place { place < length links.old.list.items }
         requires at { option_map (λ l. l.number) (slice_get links.old.list.items place) ≡ Some number }
         requires there { Contains (numbers links.old.list.items) number }
+        ensures step { (dials : Dials) → StepsTo (seen_of self.old links.old dials) (seen_of self.new links.new dials) result }
+        ensures arrival { IfOk result IsArrival }
         ensures link { 1 ≤ length self.new.inbox.left → self.new.inbox.link ≡ number }
         ensures bytes { IfOk result (λ o. IfNone o (Consumes (at_place S.remaining links.old.list.items place) (at_place S.remaining links.new.list.items place) self.new.inbox.left)) }
         ensures later { OnOk result (1 ≤ length self.new.inbox.left → IfSome (slice_get links.old.list.items place) (λ l. self.new.turns.later.items ≡ after_read (reading_of (length self.new.inbox.left) l.closed) number self.old.turns.later.items)) }
         ensures others { without number links.new.list.items ≡ without number links.old.list.items }
-        ensures tells { IfOk result (TellsStep (numbers links.old.list.items)) }
-        ensures names { IfOk result (NamesStep (listening_of self.old)) }
-        ensures held { IsHeld self.new.inbox (numbers links.new.list.items) }
-        ensures unread { OnErr result (self.new.inbox ≡ self.old.inbox) }
-        ensures listening { listening_of self.new ≡ listening_of self.old }
-        ensures steps { IfOk result (Steps (numbers links.old.list.items) (numbers links.new.list.items) links.old.made links.new.made) }
-        ensures arrival { IfOk result IsUnasked }
-        ensures err { OnErr result ((numbers links.new.list.items ≡ numbers links.old.list.items) × (links.new.made ≡ links.old.made)) }
     {
         self.turns.make_room()?;
         let reading = links.read(place, &mut self.inbox);

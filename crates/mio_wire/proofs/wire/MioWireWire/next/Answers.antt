@@ -1,43 +1,63 @@
-use Rattle.std.proofs.Common.{◌≡◌, ◌<◌, ◌∙◌, length}
-use Rattle.mio_wire.specs.Held.{NamesStep, listening, unread}
-use Rattle.mio_wire.specs.Linked.{TellsStep, numbers}
-use Rattle.mio_wire.specs.Unread.{IsHeld}
-use Rattle.mio_wire.proofs.NextLemmas.{comes_from, leaves_from}
+use Rattle.std.proofs.Common.{◌≡◌, ◌∙◌, None, Some, ap, refl}
+use Rattle.mio_wire.specs.Arrivals.{Steps}
+use Rattle.mio_wire.specs.Coming.{StepGives, after_event}
+use Rattle.mio_wire.specs.Dialled.{AnswersStep}
+use Rattle.mio_wire.specs.Held.{NamesStep, holding}
+use Rattle.mio_wire.specs.Linked.{TellsStep}
+use Rattle.mio_wire.specs.Seen.{IsStep, seen}
+use Rattle.mio_wire.specs.Unread.{LeavesStep}
+use Rattle.mio_wire.specs.declared.wire.MioWire.{MioWire}
+use Rattle.mio_wire.proofs.NextLemmas.{comes_after}
+use Rattle.mio_wire.proofs.StepLemmas.{after, from_opened, still}
 use Rattle.mio_wire.proofs.wire.MioWireWire.next.Goals as goal
-use Rattle.mio_wire.specs.Coming.{StepGives}
 
-pub returns-in-Ok-Some-clause-comes : goal.returns-in-Ok-Some-clause-comes
-unfolding StepGives
-returns-in-Ok-Some-clause-comes g c =
-    let start = c.args.self.now in
-    let course : c.loop.self.course ≡ start.course = rw c.open_sockets.ensures.kept at c.loop.invariant.8 in
-    let dials : c.loop.self.dials.list.items ≡ start.dials.list.items = rw c.open_sockets.ensures.kept at c.loop.invariant.6 in
-    let same : 0 < length (unread start.sockets).left → unread c.loop.self.sockets ≡ unread start.sockets = rw c.open_sockets.ensures.unread at c.loop.invariant.7 in
+pub loop-init : goal.loop-init
+loop-init g c = (tt, tt, still (seen c.open_sockets.new.self), refl)
+
+pub loop-preserved : goal.loop-preserved
+loop-preserved g c =
+    let step : IsStep (seen c.loop.self) (seen c.step.new.self) None = rw c.in-Ok-None.field-0-is at c.in-Ok-None.ensures.step in
+    (tt, tt, after (seen c.open_sockets.new.self) (seen c.loop.self) (seen c.step.new.self) None c.loop.invariant.2 step, rw c.loop.invariant.3 at c.step.ensures.kept)
+
+-- from where the call began, the steps before handed nothing up, and are one step with the last
+pub returns-in-Ok-Some : goal.returns-in-Ok-Some
+unfolding AnswersStep LeavesStep NamesStep StepGives Steps TellsStep
+returns-in-Ok-Some g c =
+    let opened = c.open_sockets.ensures in
+    let first = from_opened c.args.self.now c.open_sockets.new.self (seen c.loop.self) None opened.kept opened.holding c.loop.invariant.2 in
+    let last : IsStep (seen c.loop.self) (seen c.step.new.self) (Some c.in-Ok-Some.event) = rw c.in-Ok-Some.field-0-is at c.in-Ok-Some.ensures.step in
     let gives = rw c.in-Ok-Some.field-0-is at c.in-Ok-Some.ensures.gives in
-    comes_from start.course start.dials.list.items (unread start.sockets) (unread c.loop.self.sockets) c.in-Ok-Some.event same (rw (course, dials) at gives)
+    let course : c.loop.self.course ≡ c.args.self.now.course = ap (λ (w : MioWire _ _ _). w.course) c.loop.invariant.3 ∙ ap (λ (w : MioWire _ _ _). w.course) opened.kept in
+    let step = after (seen c.args.self.now) (seen c.loop.self) (seen c.step.new.self) (Some c.in-Ok-Some.event) first last in
+    let kept = rw (c.loop.invariant.3, opened.kept) at c.in-Ok-Some.ensures.kept in
+    let moves = rw c.in-Ok-Some.field-0-is at c.in-Ok-Some.ensures.moves in
+    record {
+      next = record {
+        ok = refl;
+        counts = step.links.1;
+        err = tt;
+        uncounted = tt;
+        listens = ap (λ (w : MioWire _ _ _). w.failed_listens) kept;
+        nexts = ap (λ (w : MioWire _ _ _). w.failed_nexts) kept;
+        gones = ap (λ (w : MioWire _ _ _). w.gones) kept;
+      };
+      comes = comes_after c.args.self.now.course (seen c.args.self.now) (seen c.loop.self) c.in-Ok-Some.event first (rw course at gives);
+      tells = step.tells;
+      held = step.held;
+      rest = step.rest;
+      names = step.names;
+      moves = rw course at moves;
+      listening = step.heard;
+      course = c.note.ensures ∙ ap (λ course. after_event c.in-Ok-Some.event course) (ap (λ (w : MioWire _ _ _). w.course) kept);
+      links = step.links.0;
+      dials = step.dials;
+      err = tt;
+      unread = tt;
+    }
 
-pub returns-in-Ok-Some-clause-rest : goal.returns-in-Ok-Some-clause-rest
-returns-in-Ok-Some-clause-rest g c =
-    let start = c.args.self.now in
-    let same : 0 < length (unread start.sockets).left → unread c.loop.self.sockets ≡ unread start.sockets = rw c.open_sockets.ensures.unread at c.loop.invariant.7 in
-    leaves_from (unread start.sockets).link (unread start.sockets).left (unread c.loop.self.sockets) (unread c.step.new.self.sockets) c.in-Ok-Some.event same (rw c.in-Ok-Some.field-0-is at c.in-Ok-Some.ensures.rest)
-
-pub returns-in-Ok-Some-clause-tells : goal.returns-in-Ok-Some-clause-tells
-unfolding TellsStep
-returns-in-Ok-Some-clause-tells g c = λ held.
-    let opened : IsHeld (unread c.open_sockets.new.self.sockets) (numbers c.open_sockets.new.self.links.list.items) = rw (c.open_sockets.ensures.unread, c.open_sockets.ensures.kept) held in
-    let tells : TellsStep (numbers c.loop.self.links.list.items) c.in-Ok-Some.field-0 = c.in-Ok-Some.ensures.tells (c.loop.invariant.9 opened) in
-    let same : numbers c.loop.self.links.list.items ≡ numbers c.args.self.now.links.list.items = rw c.open_sockets.ensures.kept at c.loop.invariant.5 in
-    rw (c.in-Ok-Some.field-0-is, same) at tells
-
-pub returns-in-Ok-Some-clause-held : goal.returns-in-Ok-Some-clause-held
-returns-in-Ok-Some-clause-held g c = λ held.
-    let opened : IsHeld (unread c.open_sockets.new.self.sockets) (numbers c.open_sockets.new.self.links.list.items) = rw (c.open_sockets.ensures.unread, c.open_sockets.ensures.kept) held in
-    c.in-Ok-Some.ensures.held (c.loop.invariant.9 opened)
-
-pub returns-in-Ok-Some-clause-names : goal.returns-in-Ok-Some-clause-names
-unfolding NamesStep
-returns-in-Ok-Some-clause-names g c =
-    let same : listening c.loop.self.sockets ≡ listening c.args.self.now.sockets = c.loop.invariant.10 ∙ c.open_sockets.ensures.listening in
-    let names : NamesStep (listening c.loop.self.sockets) c.in-Ok-Some.field-0 = c.in-Ok-Some.ensures.names in
-    rw (c.in-Ok-Some.field-0-is, same) at names
+pub returns-in-Err-step-clause-unread : goal.returns-in-Err-step-clause-unread
+unfolding LeavesStep
+returns-in-Err-step-clause-unread g c = λ left.
+    let opened = c.open_sockets.ensures in
+    let first = from_opened c.args.self.now c.open_sockets.new.self (seen c.loop.self) None opened.kept opened.holding c.loop.invariant.2 in
+    ap (λ (w : MioWire _ _ _). (holding w.sockets).unread) c.refuse_next-in-Err-step.ensures.counted ∙ ap (λ s. s.unread) c.in-Err-step.ensures.step ∙ first.rest left
