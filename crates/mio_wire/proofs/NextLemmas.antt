@@ -1,5 +1,5 @@
 -- What comes next by what was unread at the start, where nothing was read while that was left.
-use Rattle.std.proofs.Common.{◌≡◌, ◌≢◌, ℕ, ◌<◌, Bool, true, false, List, [], ◌∷◌, length, Option, Some, None, IfSome, refl, sym, ap, subst, arith, rules}
+use Rattle.std.proofs.Common.{◌≡◌, ◌≢◌, ℕ, ◌<◌, Bool, true, false, List, [], ◌∷◌, length, Option, Some, None, IfSome, Result, Ok, Err, IfOk, refl, sym, ap, subst, arith, rules}
 use Rattle.std.specs.Bool.{IsTrue}
 use Rattle.aprs_base.specs.declared.events.Event.{Event}
 use Rattle.aprs_base.specs.declared.events.Event.TheVariants.{Stop, Tick}
@@ -51,22 +51,28 @@ arrived_passes None stopped full dead bytes undue empty = absurd undue
 arrived_passes (Some moment) stopped full dead bytes undue empty = (undue.0, undue.1, undue.2, empty)
 
 -- where nothing is due, a step gives what has arrived
-pub arrived_gives : (course : Course) (dials : List Dial) (bytes : Brought) (o : Option Event) → StepGives course dials nothing None → IsArrival o → HandsUp bytes o → StepGives course dials bytes o
+arrived_gives : (course : Course) (dials : List Dial) (bytes : Brought) (o : Option Event) → StepGives course dials nothing None → IsArrival o → HandsUp bytes o → StepGives course dials bytes o
 unfolding ComesNext HandsUp IsArrival StepGives
 arrived_gives course dials bytes None undue arrives handed =
     arrived_passes course.second (has_stopped course.stop_after course.ended) (is_full course.pace) (dead_at course.second dials) bytes undue handed
 arrived_gives course dials bytes (Some e) undue arrives handed =
     arrived_comes course.second (has_stopped course.stop_after course.ended) (is_full course.pace) (is_due course.pace) (dead_at course.second dials) bytes e undue arrives handed
 
+-- the same of a step that may fail
+pub arrived_gives_all : {E : Type 0} (course : Course) (dials : List Dial) (bytes : Brought) (r : Result (Option Event) E) → StepGives course dials nothing None → IfOk r IsArrival → IfOk r (HandsUp bytes) → IfOk r (StepGives course dials bytes)
+arrived_gives_all course dials bytes (Ok o) undue arrives handed = arrived_gives course dials bytes o undue arrives handed
+arrived_gives_all course dials bytes (Err e) undue arrives handed = tt
+
 no_tick : (last : Option ℕ) (sockets : Option Sockets) (e : Event) → IsTrue (is_arrival e) → MovesAt last sockets e
 unfolding MovesAt
 no_tick last sockets e arrives = search rules
 
 -- what arrives is no tick
-pub arrived_moves : (last : Option ℕ) (sockets : Option Sockets) (o : Option Event) → IsArrival o → IfSome o (MovesAt last sockets)
+pub arrived_moves : {E : Type 0} (last : Option ℕ) (sockets : Option Sockets) (r : Result (Option Event) E) → IfOk r IsArrival → IfOk r (λ o. IfSome o (MovesAt last sockets))
 unfolding IsArrival
-arrived_moves last sockets None arrives = tt
-arrived_moves last sockets (Some e) arrives = no_tick last sockets e arrives
+arrived_moves last sockets (Ok None) arrives = tt
+arrived_moves last sockets (Ok (Some e)) arrives = no_tick last sockets e arrives
+arrived_moves last sockets (Err e) arrives = tt
 
 -- where all that came is served, no bytes are left
 pub served_none : (sockets : Option Sockets) → IsServed sockets → length (unread sockets).left ≡ 0
@@ -86,10 +92,16 @@ tick_comes : (last : Option ℕ) (stopped full due : Bool) (dead : Option ℕ) (
 tick_comes None stopped full due dead bytes moment undue empty ticks = absurd undue
 tick_comes (Some last) stopped full due dead bytes moment undue empty ticks = rw (undue.0, undue.1, undue.2) (tick_rests due moment last ticks, none_next bytes.link bytes.left (Tick moment) empty)
 
-pub tick_gives : (course : Course) (dials : List Dial) (bytes : Brought) (o : Option Event) → StepGives course dials nothing None → length bytes.left ≡ 0 → TicksAt course o → StepGives course dials bytes o
+-- where nothing is due and no bytes are left, a step gives a tick, or nothing
+tick_gives : (course : Course) (dials : List Dial) (bytes : Brought) (o : Option Event) → StepGives course dials nothing None → length bytes.left ≡ 0 → TicksAt course o → StepGives course dials bytes o
 unfolding ComesNext StepGives TicksAt
 tick_gives course dials bytes None undue empty ticks =
     arrived_passes course.second (has_stopped course.stop_after course.ended) (is_full course.pace) (dead_at course.second dials) bytes undue empty
 tick_gives course dials bytes (Some (Tick moment)) undue empty ticks =
     tick_comes course.second (has_stopped course.stop_after course.ended) (is_full course.pace) (is_due course.pace) (dead_at course.second dials) bytes moment undue empty ticks
 tick_gives course dials bytes (Some _) undue empty ticks = absurd ticks
+
+-- the same of a step that may fail
+pub tick_gives_all : {E : Type 0} (course : Course) (dials : List Dial) (bytes : Brought) (r : Result (Option Event) E) → StepGives course dials nothing None → length bytes.left ≡ 0 → IfOk r (TicksAt course) → IfOk r (StepGives course dials bytes)
+tick_gives_all course dials bytes (Ok o) undue empty ticks = tick_gives course dials bytes o undue empty ticks
+tick_gives_all course dials bytes (Err e) undue empty ticks = tt

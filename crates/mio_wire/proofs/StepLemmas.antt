@@ -19,7 +19,8 @@ use Rattle.mio_wire.specs.declared.links.Link.{Link}
 use Rattle.mio_wire.specs.declared.wire.MioWire.{MioWire}
 use Rattle.mio_wire.proofs.HeldLemmas.{contains_got, held_rest}
 
-abbrev pub is_piece : Event → Bool
+-- an event of bytes
+abbrev is_piece : Event → Bool
 is_piece (Bytes link bytes) = true
 is_piece _ = false
 
@@ -34,6 +35,7 @@ pub keeps : (before now : Seen) → now.links ≡ before.links → now.made ≡ 
 unfolding AnswersStep LeavesStep NamesStep Steps TellsStep
 keeps before now links made dials unread heard = record { links = (links, made); dials = dials; rest = λ left. unread; held = λ held. rw (links, unread) held; tells = λ held. tt; names = tt; heard = heard }
 
+-- nothing changes at all
 pub still : (s : Seen) → IsStep s s None
 still s = keeps s s refl refl refl refl refl
 
@@ -55,6 +57,7 @@ ticks before now moment same = rw same (record {
   heard = refl;
 })
 
+-- neither does a stop
 pub stops : (s : Seen) → IsStep s s (Some Stop)
 unfolding AnswersStep LeavesStep NamesStep Steps TellsStep
 stops s = record { links = (refl, refl); dials = refl; rest = leaves_same s.unread s.unread s.unread.left Stop refl refl; held = λ held. held; tells = λ held. tt; names = tt; heard = refl }
@@ -64,11 +67,12 @@ pub unjoins : (s : Seen) (uplink : ℕ) (dials : List Dial) → Answered uplink 
 unfolding AnswersStep LeavesStep NamesStep Steps TellsStep
 unjoins s uplink dials answered = record { links = (refl, refl); dials = answered; rest = leaves_same s.unread s.unread s.unread.left (Unjoined uplink) refl refl; held = λ held. held; tells = λ held. tt; names = tt; heard = refl }
 
--- the numbers with one link more
+-- the numbers with one link more, for which there was room
 pub numbers_more : {S : Type 0} → (before room now : List (Link S)) (link : Link S) (number : ℕ) → room ≡ before → now ≡ room ++ link ∷ [] → number ≡ link.number → numbers now ≡ numbers before ++ number ∷ []
 numbers_more {S} before room now link number same last is =
     rw (is, ← same) (ap (map (λ (l : Link S). l.number)) last ∙ map-append (λ (l : Link S). l.number) room (link ∷ []))
 
+-- bytes that are left are those of a link that is there, also among more
 held_more : (brought : Brought) (ns : List ℕ) (n : ℕ) → IsHeld brought ns → IsHeld brought (ns ++ n ∷ [])
 unfolding IsHeld
 held_more brought ns n held = λ left. Contains-append_left ns (n ∷ []) brought.link (held left)
@@ -130,7 +134,7 @@ ends before now link empty held there links made dials heard = record {
   heard = heard;
 }
 
-abbrev pub brought : ℕ → List ℕ → Brought
+abbrev brought : ℕ → List ℕ → Brought
 brought link left = record { link = link; left = left }
 
 -- where none are left, none are taken
@@ -175,12 +179,12 @@ fails before now (Ok o) failed same = absurd (search rules)
 fails before now (Err e) failed same = same
 
 -- a tick, or nothing
-pub rests : {E : Type 0} (course : Course) (before now : Seen) (r : Result (Option Event) E) → now ≡ before → IfOk r (TicksAt course) → StepsTo before now r
+pub ticks_at : {E : Type 0} (course : Course) (before now : Seen) (r : Result (Option Event) E) → now ≡ before → IfOk r (TicksAt course) → StepsTo before now r
 unfolding TicksAt
-rests course before now (Ok None) same at = rw same (still before)
-rests course before now (Ok (Some (Tick moment))) same at = ticks before now moment same
-rests course before now (Ok (Some _)) same at = absurd at
-rests course before now (Err e) same at = same
+ticks_at course before now (Ok None) same at = rw same (still before)
+ticks_at course before now (Ok (Some (Tick moment))) same at = ticks before now moment same
+ticks_at course before now (Ok (Some _)) same at = absurd at
+ticks_at course before now (Err e) same at = same
 
 -- a datagram, or nothing
 pub brings_at : {E : Type 0} (place : ℕ) (before now : Seen) (r : Result (Option Event) E) → now ≡ before → IfOk r (BringsAt before.heard.mail place) → StepsTo before now r

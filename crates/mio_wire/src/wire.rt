@@ -53,7 +53,7 @@ const NOWHERE: Addr = Addr {
 /// The network of the system. It tells nothing of what happens but its counts: of failed calls, of links that a send found
 /// gone, and of links that were made.
 ///
-/// The tick of a new second comes once the sockets were asked twice since that second began and all that they had is handed up: so
+/// The tick of a new second comes once the sockets were asked twice since the last tick's second was over and all that they had is handed up: so
 /// nothing that came is late by a pause of the process, not even what a link says that is let in only then. Beside it there is a tick of the last moment as soon as all that came is handed
 /// up, where something was handed up since the last tick; one where 400 line ends or 48,000 bytes were handed up; and one where
 /// a send took 65,536 bytes whole. Listeners that couldn't open a link try again with the tick of a new second.
@@ -233,6 +233,7 @@ impl<'a, R: Net + Clock> MioWire<'a, R> {
     }
 
     /// Asks the sockets in a new second, twice before its tick, gives a tick that is due since all that came is handed up, and else waits.
+    /// Where the clock is set back between the two, the first doesn't count.
     #[tactic(auto, unfolding(crate::specs::Coming::TicksAt, crate::specs::Held::MovesAt))]
     fn idle(&mut self) -> Result<Option<Event>, WireError>
         ensures once { OnOk result (self.old.asked ≡ true → self.new.asked ≡ false) }
@@ -258,7 +259,6 @@ impl<'a, R: Net + Clock> MioWire<'a, R> {
     }
 
     /// The next event, or none where it took a step towards it.
-    #[tactic(auto, using(crate::proofs::NextLemmas::arrived_gives, crate::proofs::NextLemmas::arrived_moves, crate::proofs::NextLemmas::served_none, crate::proofs::NextLemmas::tick_gives))]
     fn step(&mut self) -> Result<Option<Event>, WireError>
         ensures step { StepsTo (seen self.old) (seen self.new) result }
         ensures gives { IfOk result (StepGives self.old.course self.old.dials.list.items (unread self.old.sockets)) }

@@ -18,4 +18,4 @@ returns-clause-step c =
     let next : c.in-Some.number ≡ c.args.links.now.made + 1 = search rules in
     let made : c.make_room.new.self.made ≡ c.args.links.now.made = c.make_room.ensures.same.1 in
     joins (seen_of c.args.self.now c.args.links.now c.args.dials.now) (seen_of c.args.self.now c.add.new.self c.take-dial.new.self) c.take-dial.result.uplink c.in-Some.number c.take-dial.result.at
-        next (c.in_ok-add.ensures.ok ∙ ap (λ n. n + 1) made) (numbers_more c.args.links.now.list.items c.make_room.new.self.list.items c.add.new.self.list.items _ c.in-Some.number c.make_room.ensures.same.0 c.in_ok-add.ensures.link (omega arith)) answered refl refl refl
+    next (c.in_ok-add.ensures.ok ∙ ap (λ n. n + 1) made) (numbers_more c.args.links.now.list.items c.make_room.new.self.list.items c.add.new.self.list.items _ c.in-Some.number c.make_room.ensures.same.0 c.in_ok-add.ensures.link (omega arith)) answered refl refl refl

@@ -28,10 +28,10 @@ returns-in_ok-add-in-Ok-clause-step c = λ dials.
     let ear : slice_get ears c.args.place ≡ Some c.in-Some-get.ear.now = rw c.deref.ensures.value at read in
     let at = slice_get-map (λ (ear : Ear). ear.number) ears c.args.place ∙ ap (option_map (λ (ear : Ear). ear.number)) ear in
     opens (seen_of c.args.self.now c.args.links.now dials) (seen_of c.count_opened.new.self c.add.new.self dials) c.args.place c.in-Some-get.ear.now.number c.in-Some.number c.in-Ok.from
-        next (c.in_ok-add-in-Ok.ensures.ok ∙ ap (λ n. n + 1) made) (numbers_more c.args.links.now.list.items c.make_room.new.self.list.items c.add.new.self.list.items _ c.in-Some.number c.make_room.ensures.same.0 c.in_ok-add-in-Ok.ensures.link (omega arith))
-        at refl (ap (λ (sockets : Sockets). sockets.inbox) c.count_opened.ensures.kept) c.count_opened.ensures.listening
+    next (c.in_ok-add-in-Ok.ensures.ok ∙ ap (λ n. n + 1) made) (numbers_more c.args.links.now.list.items c.make_room.new.self.list.items c.add.new.self.list.items _ c.in-Some.number c.make_room.ensures.same.0 c.in_ok-add-in-Ok.ensures.link (omega arith))
+    at refl (ap (λ (sockets : Sockets). sockets.inbox) c.count_opened.ensures.kept) c.count_opened.ensures.listening
 
 pub returns-in-Err-clause-step : goal.returns-in-Err-clause-step
 returns-in-Err-clause-step c = λ dials.
     keeps (seen_of c.args.self.now c.args.links.now dials) (seen_of c.note_deaf.new.self c.make_room.new.self dials)
-        (ap numbers c.make_room.ensures.same.0) c.make_room.ensures.same.1 refl (ap (λ (sockets : Sockets). sockets.inbox) c.note_deaf.ensures.kept) c.note_deaf.ensures.listening
+    (ap numbers c.make_room.ensures.same.0) c.make_room.ensures.same.1 refl (ap (λ (sockets : Sockets). sockets.inbox) c.note_deaf.ensures.kept) c.note_deaf.ensures.listening

@@ -20,7 +20,7 @@ pub returns-in-Mailbox-clause-step : goal.returns-in-Mailbox-clause-step
 returns-in-Mailbox-clause-step c =
     let before = seen_of c.args.self.now c.args.links.now c.args.dials.now in
     brings_at c.in-Mailbox.place before (seen_of c.serve_mailbox.new.self c.args.links.now c.args.dials.now) c.serve_mailbox.result
-        (ap (λ (h : Holding). record before { unread = h.unread; heard = h.heard }) c.serve_mailbox.ensures.holding) c.serve_mailbox.ensures.named
+    (ap (λ (h : Holding). record before { unread = h.unread; heard = h.heard }) c.serve_mailbox.ensures.holding) c.serve_mailbox.ensures.named
 
 pub returns-in-Mailbox-clause-arrival : goal.returns-in-Mailbox-clause-arrival
 returns-in-Mailbox-clause-arrival c = brought_arrives (listening_of c.args.self.now).mail c.in-Mailbox.place c.serve_mailbox.result c.serve_mailbox.ensures.named
