@@ -203,6 +203,7 @@ impl<'a, R: Net + Clock> MioWire<'a, R> {
         ensures gives { IfSome result (λ e. StepGives self.old.course self.old.dials.list.items (unread self.old.sockets) (Some e)) }
         ensures moves { IfSome result (MovesAt self.old.course.second self.new.sockets) }
         ensures none { IfNone result (StepGives self.old.course self.old.dials.list.items nothing None × (self.new ≡ self.old)) }
+        ensures holding { holding self.new.sockets ≡ holding self.old.sockets }
         ensures kept { self.new ≡ record self.old { sockets = self.new.sockets; dials = self.new.dials } }
     {
         let Some(second) = self.course.second else {
