@@ -10,7 +10,7 @@ use Rattle.mio_wire.specs.Arrivals.{IsArrival, Steps}
 use Rattle.mio_wire.specs.Coming.{TicksAt}
 use Rattle.mio_wire.specs.Dialled.{Answered, AnswersStep}
 use Rattle.mio_wire.specs.Held.{BringsAt, Holding, NamesStep, OpensAt, holding}
-use Rattle.mio_wire.specs.Linked.{TellsStep, dropped, numbers}
+use Rattle.mio_wire.specs.Linked.{TellsOfOne, TellsStep, dropped, numbers}
 use Rattle.mio_wire.specs.Seen.{IsStep, Seen, StepsTo, seen}
 use Rattle.mio_wire.specs.Unread.{Brought, IsHeld, Leaves, LeavesStep}
 use Rattle.mio_wire.specs.declared.course.Course.{Course}
@@ -33,7 +33,7 @@ leaves_same before now (b ∷ bs) e same other = search rules
 -- nothing is handed up, and nothing that is seen changes
 pub keeps : (before now : Seen) → now.links ≡ before.links → now.made ≡ before.made → now.dials ≡ before.dials → now.unread ≡ before.unread → now.heard ≡ before.heard → IsStep before now None
 unfolding AnswersStep LeavesStep NamesStep Steps TellsStep
-keeps before now links made dials unread heard = record { links = (links, made); dials = dials; rest = λ left. unread; held = λ held. rw (links, unread) held; tells = λ held. tt; names = tt; heard = heard }
+keeps before now links made dials unread heard = record { links = (links, made); dials = dials; rest = λ left. unread; held = λ held. rw (links, unread) held; tells = tt; names = tt; heard = heard }
 
 -- nothing changes at all
 pub still : (s : Seen) → IsStep s s None
@@ -42,7 +42,7 @@ still s = keeps s s refl refl refl refl refl
 -- bytes were read where none were left
 pub reads : (before now : Seen) → length before.unread.left ≡ 0 → IsHeld now.unread before.links → now.links ≡ before.links → now.made ≡ before.made → now.dials ≡ before.dials → now.heard ≡ before.heard → IsStep before now None
 unfolding AnswersStep LeavesStep NamesStep Steps TellsStep
-reads before now empty there links made dials heard = record { links = (links, made); dials = dials; rest = λ left. absurd (omega arith); held = λ held. rw links there; tells = λ held. tt; names = tt; heard = heard }
+reads before now empty there links made dials heard = record { links = (links, made); dials = dials; rest = λ left. absurd (omega arith); held = λ held. rw links there; tells = tt; names = tt; heard = heard }
 
 -- a tick changes nothing that is seen
 pub ticks : (before now : Seen) (moment : ℕ) → now ≡ before → IsStep before now (Some (Tick moment))
@@ -52,7 +52,7 @@ ticks before now moment same = rw same (record {
   dials = refl;
   rest = leaves_same before.unread before.unread before.unread.left (Tick moment) refl refl;
   held = λ held. held;
-  tells = λ held. tt;
+  tells = tt;
   names = tt;
   heard = refl;
 })
@@ -60,12 +60,12 @@ ticks before now moment same = rw same (record {
 -- neither does a stop
 pub stops : (s : Seen) → IsStep s s (Some Stop)
 unfolding AnswersStep LeavesStep NamesStep Steps TellsStep
-stops s = record { links = (refl, refl); dials = refl; rest = leaves_same s.unread s.unread s.unread.left Stop refl refl; held = λ held. held; tells = λ held. tt; names = tt; heard = refl }
+stops s = record { links = (refl, refl); dials = refl; rest = leaves_same s.unread s.unread s.unread.left Stop refl refl; held = λ held. held; tells = tt; names = tt; heard = refl }
 
 -- a dial is answered that isn't joined
 pub unjoins : (s : Seen) (uplink : ℕ) (dials : List Dial) → Answered uplink s.dials dials → IsStep s (record s { dials = dials }) (Some (Unjoined uplink))
 unfolding AnswersStep LeavesStep NamesStep Steps TellsStep
-unjoins s uplink dials answered = record { links = (refl, refl); dials = answered; rest = leaves_same s.unread s.unread s.unread.left (Unjoined uplink) refl refl; held = λ held. held; tells = λ held. tt; names = tt; heard = refl }
+unjoins s uplink dials answered = record { links = (refl, refl); dials = answered; rest = leaves_same s.unread s.unread s.unread.left (Unjoined uplink) refl refl; held = λ held. held; tells = tt; names = tt; heard = refl }
 
 -- the numbers with one link more, for which there was room
 pub numbers_more : {S : Type 0} → (before room now : List (Link S)) (link : Link S) (number : ℕ) → room ≡ before → now ≡ room ++ link ∷ [] → number ≡ link.number → numbers now ≡ numbers before ++ number ∷ []
@@ -86,7 +86,7 @@ joins before now uplink link at next made last a address unread heard = record {
   dials = (a, address);
   rest = leaves_same before.unread now.unread before.unread.left (Joined uplink link at) unread refl;
   held = rw (last, unread) (held_more before.unread before.links link);
-  tells = λ held. tt;
+  tells = tt;
   names = tt;
   heard = heard;
 }
@@ -100,7 +100,7 @@ opens before now place listener link from next made last at dials unread heard =
   dials = dials;
   rest = leaves_same before.unread now.unread before.unread.left (Opened listener link from) unread refl;
   held = rw (last, unread) (held_more before.unread before.links link);
-  tells = λ held. tt;
+  tells = tt;
   names = contains_got before.heard.links place listener at;
   heard = heard;
 }
@@ -108,12 +108,12 @@ opens before now place listener link from next made last at dials unread heard =
 -- a listener brings a datagram
 pub brings : (s : Seen) (place listener : ℕ) (from : Addr) (bytes : List ℕ) → slice_get s.heard.mail place ≡ Some listener → IsStep s s (Some (Datagram listener from bytes))
 unfolding AnswersStep LeavesStep NamesStep Steps TellsStep
-brings s place listener from bytes at = record { links = (refl, refl); dials = refl; rest = leaves_same s.unread s.unread s.unread.left (Datagram listener from bytes) refl refl; held = λ held. held; tells = λ held. tt; names = contains_got s.heard.mail place listener at; heard = refl }
+brings s place listener from bytes at = record { links = (refl, refl); dials = refl; rest = leaves_same s.unread s.unread s.unread.left (Datagram listener from bytes) refl refl; held = λ held. held; tells = tt; names = contains_got s.heard.mail place listener at; heard = refl }
 
 -- a link that is there has room again
 pub has_room : (s : Seen) (link : ℕ) → Contains s.links link → IsStep s s (Some (Room link))
 unfolding AnswersStep LeavesStep NamesStep Steps TellsStep
-has_room s link there = record { links = (refl, refl); dials = refl; rest = leaves_same s.unread s.unread s.unread.left (Room link) refl refl; held = λ held. held; tells = λ held. there; names = tt; heard = refl }
+has_room s link there = record { links = (refl, refl); dials = refl; rest = leaves_same s.unread s.unread s.unread.left (Room link) refl refl; held = λ held. held; tells = there; names = tt; heard = refl }
 
 nothing_left : (before now : Brought) (left : List ℕ) (e : Event) → length left ≡ 0 → Leaves before now left e
 unfolding Leaves
@@ -129,7 +129,7 @@ ends before now link empty held there links made dials heard = record {
   dials = dials;
   rest = nothing_left before.unread now.unread before.unread.left (Ended link) empty;
   held = λ before. held;
-  tells = λ before. there;
+  tells = there;
   names = tt;
   heard = heard;
 }
@@ -209,6 +209,18 @@ left_from link [] held now None same leaves = λ left. absurd (omega arith)
 left_from link [] held now (Some e) same leaves = tt
 left_from link (b ∷ bs) held now o same leaves = subst (λ (w : Brought). LeavesStep w now o) (same (omega arith)) leaves
 
+tells_from : (held' held : Type 0) (ns : List ℕ) (o : Option Event) → (held' → held) → TellsStep held ns o → TellsStep held' ns o
+unfolding TellsStep
+tells_from held' held ns None holds tells = tt
+tells_from held' held ns (Some (Bytes link bytes)) holds tells = λ h. tells (holds h)
+tells_from held' held ns (Some _) holds tells = tells
+
+-- what a step tells of a link where bytes that were left are of one that is there
+pub told : (held : Type 0) (ns : List ℕ) (e : Event) → TellsStep held ns (Some e) → held → TellsOfOne ns e
+unfolding TellsStep
+told held ns (Bytes link bytes) tells h = tells h
+told held ns _ tells h = tells
+
 -- a step after one that hands nothing up is a step from where that began
 pub after : (start before now : Seen) (o : Option Event) → IsStep start before None → IsStep before now o → IsStep start now o
 unfolding AnswersStep LeavesStep Steps
@@ -217,7 +229,7 @@ after start before now o first next = record {
   dials = rw first.dials at next.dials;
   rest = left_from start.unread.link start.unread.left before.unread now.unread o first.rest next.rest;
   held = λ held. next.held (first.held held);
-  tells = λ held. rw first.links.0 at (next.tells (first.held held));
+  tells = tells_from (IsHeld start.unread start.links) (IsHeld before.unread before.links) start.links o first.held (subst (λ (ns : List ℕ). TellsStep (IsHeld before.unread before.links) ns o) first.links.0 next.tells);
   names = rw first.heard at next.names;
   heard = next.heard ∙ first.heard;
 }

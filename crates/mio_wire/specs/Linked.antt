@@ -71,9 +71,11 @@ TellsOfOne ns (event.Unjoined uplink) = ⊤
 TellsOfOne ns (event.Datagram listener from bytes) = ⊤
 TellsOfOne ns event.Stop = ⊤
 
-unfoldable pub TellsStep : List ℕ → Option Event → Type 0
-TellsStep ns None = ⊤
-TellsStep ns (Some e) = TellsOfOne ns e
+-- a step that tells of a link tells of one that is there: with bytes, where those that were left are of such a one
+unfoldable pub TellsStep : (held : Type 0) → List ℕ → Option Event → Type 0
+TellsStep held ns None = ⊤
+TellsStep held ns (Some (event.Bytes link bytes)) = held → Contains ns link
+TellsStep held ns (Some e) = TellsOfOne ns e
 
 -- only a link that is there takes a part of an offer
 abbrev pub TakesOf : List ℕ → (link : ℕ) → Sent → Type 0

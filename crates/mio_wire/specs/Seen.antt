@@ -34,7 +34,7 @@ pub record IsStep (before now : Seen) (o : Option Event) : Type 0 where
   pub dials : AnswersStep before.dials now.dials o
   pub rest : LeavesStep before.unread now.unread o
   pub held : IsHeld before.unread before.links → IsHeld now.unread now.links
-  pub tells : IsHeld before.unread before.links → TellsStep before.links o
+  pub tells : TellsStep (IsHeld before.unread before.links) before.links o
   pub names : NamesStep before.heard o
   pub heard : now.heard ≡ before.heard
 

@@ -2,13 +2,13 @@ use Rattle.std.proofs.Common.{◌≡◌, ◌∙◌, None, Some, ap, refl}
 use Rattle.mio_wire.specs.Arrivals.{Steps}
 use Rattle.mio_wire.specs.Coming.{StepGives, after_event}
 use Rattle.mio_wire.specs.Dialled.{AnswersStep}
-use Rattle.mio_wire.specs.Held.{NamesStep, holding}
-use Rattle.mio_wire.specs.Linked.{TellsStep}
+use Rattle.mio_wire.specs.Held.{NamesStep, holding, unread}
+use Rattle.mio_wire.specs.Linked.{numbers}
 use Rattle.mio_wire.specs.Seen.{IsStep, seen}
-use Rattle.mio_wire.specs.Unread.{LeavesStep}
+use Rattle.mio_wire.specs.Unread.{IsHeld, LeavesStep}
 use Rattle.mio_wire.specs.declared.wire.MioWire.{MioWire}
 use Rattle.mio_wire.proofs.NextLemmas.{comes_after}
-use Rattle.mio_wire.proofs.StepLemmas.{after, from_opened, still}
+use Rattle.mio_wire.proofs.StepLemmas.{after, from_opened, still, told}
 use Rattle.mio_wire.proofs.wire.MioWireWire.next.Goals as goal
 
 pub loop-init : goal.loop-init
@@ -21,7 +21,7 @@ loop-preserved g c =
 
 -- from where the call began, the steps before handed nothing up, and are one step with the last
 pub returns-in-Ok-Some : goal.returns-in-Ok-Some
-unfolding AnswersStep LeavesStep NamesStep StepGives Steps TellsStep
+unfolding AnswersStep LeavesStep NamesStep StepGives Steps
 returns-in-Ok-Some g c =
     let opened = c.open_sockets.ensures in
     let first = from_opened c.args.self.now c.open_sockets.new.self (seen c.loop.self) None opened.kept opened.holding c.loop.invariant.2 in
@@ -42,7 +42,7 @@ returns-in-Ok-Some g c =
         gones = ap (λ (w : MioWire _ _ _). w.gones) kept;
       };
       comes = comes_after c.args.self.now.course (seen c.args.self.now) (seen c.loop.self) c.in-Ok-Some.event first (rw course at gives);
-      tells = step.tells;
+      tells = told (IsHeld (unread c.args.self.now.sockets) (numbers c.args.self.now.links.list.items)) (numbers c.args.self.now.links.list.items) c.in-Ok-Some.event step.tells;
       held = step.held;
       rest = step.rest;
       names = step.names;
