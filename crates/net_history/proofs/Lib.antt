@@ -1,4 +1,5 @@
 pub mod AcceptanceLemmas
+pub mod ApartLemmas
 pub mod BetweenLemmas
 pub mod CastLineLemmas
 pub mod ConstructLemmas

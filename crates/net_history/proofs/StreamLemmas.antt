@@ -212,7 +212,7 @@ all_move (e ∷ events) server n =
     (event_moves e server n) (all_move events server (with_event server e n))
 
 -- pairs only part
-abbrev Fewer : List (Option JoinedSeen) → List (Option JoinedSeen) → Type 0
+abbrev pub Fewer : List (Option JoinedSeen) → List (Option JoinedSeen) → Type 0
 Fewer before after = (pair : ℕ) (joined : JoinedSeen) → slice_get after pair ≡ Some (Some joined) → slice_get before pair ≡ Some (Some joined)
 
 parted_was : (server link : ℕ) (before : Option JoinedSeen) (joined : JoinedSeen) → parted_at server link before ≡ Some joined → before ≡ Some joined
@@ -242,7 +242,7 @@ acts_fewer server [] n pair joined e = e
 acts_fewer server (act ∷ acts) n pair joined e =
     effect_fewer server act (at_server (with_happening (happening_of act)) server n) pair joined (acts_fewer server acts (with_act server act n) pair joined e)
 
-all_fewer : (server : ℕ) (events : List Event) (n : NetSeen) → Fewer n.pairs (with_all server events n).pairs
+pub all_fewer : (server : ℕ) (events : List Event) (n : NetSeen) → Fewer n.pairs (with_all server events n).pairs
 all_fewer server [] n pair joined e = e
 all_fewer server (x ∷ events) n pair joined e =
     let one = at_server (with_happening (did.Event x)) server n in
@@ -391,17 +391,17 @@ cast_kept : (from to k : ℕ) (numbers : Option (ℕ × ℕ)) (n : NetSeen) → 
 cast_kept from to k None n kept = kept
 cast_kept from to k (Some numbers) n kept = mail_kept to numbers.1 (datagram_at numbers.0 k (slice_get n.servers from)) n kept
 
+pub cut_fewer : (number : ℕ) (pairs : List (Option JoinedSeen)) → Fewer pairs (changed_at parted number pairs)
+cut_fewer number pairs pair joined e =
+    let was = at_changed parted number pair pairs (Some joined) e in
+    was.1 ∙ ⊎_elim (λ here. absurd (none_some joined (sym here.1))) (λ elsewhere. ap Some (sym elsewhere.1)) was.2
+
 cut_kept : (number : ℕ) (joined : Option JoinedSeen) (n : NetSeen) → Kept n → Kept (with_cut number joined n)
 cut_kept number None n kept = kept
 cut_kept number (Some joined) n kept =
     let one = ends_at joined.low n in
     let both = arrival_kept joined.high.server (event.Ended (number_of joined.high)) (λ link. refl) one (arrival_kept joined.low.server (event.Ended (number_of joined.low)) (λ link. refl) n kept) in
-    record { unmade = both.unmade; streams = both.streams; ends = λ pair other e. both.ends pair other (fewer pair other e) }
-  where
-    fewer : (pair : ℕ) (other : JoinedSeen) → slice_get (changed_at parted number n.pairs) pair ≡ Some (Some other) → slice_get n.pairs pair ≡ Some (Some other)
-    fewer pair other e =
-        let was = at_changed parted number pair n.pairs (Some other) e in
-        was.1 ∙ ⊎_elim (λ here. absurd (none_some other (sym here.1))) (λ elsewhere. ap Some (sym elsewhere.1)) was.2
+    record { unmade = both.unmade; streams = both.streams; ends = λ pair other e. both.ends pair other (cut_fewer number n.pairs pair other e) }
 
 -- ---- a pair joins
 

@@ -1,4 +1,5 @@
 pub mod Acceptances
+pub mod Apart
 pub mod Constructs
 pub mod DescentLaws
 pub mod Descents
