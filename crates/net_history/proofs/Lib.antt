@@ -3,6 +3,7 @@ pub mod ApartLemmas
 pub mod BetweenLemmas
 pub mod CastLineLemmas
 pub mod ConstructLemmas
+pub mod CountLemmas
 pub mod DescentLemmas
 mod DescentRows
 pub mod EventLemmas

@@ -26,20 +26,20 @@ use Rattle.net_history.proofs.PlaceLemmas.{AllBut, Each, all_at, all_but, all_ch
 -- ---- what is kept of a server
 
 -- the links of these events have the numbers after the first, up to the last, and none of them is a stop
-abbrev Comes : ℕ → List Event → ℕ → Type 0
+abbrev pub Comes : ℕ → List Event → ℕ → Type 0
 Comes first [] last = first ≡ last
 Comes first (e ∷ events) last = (is_stop e ≡ false) × IfSome (new_link e) (λ link. link ≡ first + 1) × Comes (greater_link (new_link e) first) events last
 
 -- its history has come so far: these acts are owed, and these events come before those that wait
-record Goes (rest : List Event) (owed : List Act) (s : ServerSeen) : Type 0 where
-  run : IsRun s.setting s.history
-  owes : due s.setting s.history ≡ owed
-  going : is_stopped s.history ≡ false
-  takes : TakesAll s.history
-  counts : CountsLinks s.history
-  comes : Comes (greatest_link s.history) (rest ++ s.arrivals) (length s.made)
+pub record Goes (rest : List Event) (owed : List Act) (s : ServerSeen) : Type 0 where
+  pub run : IsRun s.setting s.history
+  pub owes : due s.setting s.history ≡ owed
+  pub going : is_stopped s.history ≡ false
+  pub takes : TakesAll s.history
+  pub counts : CountsLinks s.history
+  pub comes : Comes (greatest_link s.history) (rest ++ s.arrivals) (length s.made)
 
-abbrev Good : ServerSeen → Type 0
+abbrev pub Good : ServerSeen → Type 0
 Good = Goes [] []
 
 -- ---- events that come
@@ -283,7 +283,7 @@ new_good s =
 
 -- ---- every network
 
-networks_good : (layout : Layout) (steps : List NetEvent) → Each Good (network_of layout steps).servers
+pub networks_good : (layout : Layout) (steps : List NetEvent) → Each Good (network_of layout steps).servers
 unfolding network_of
 networks_good layout [] = all_mapped Good new_server new_good layout.servers
 networks_good layout (e ∷ steps) =
