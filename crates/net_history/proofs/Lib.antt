@@ -2,6 +2,7 @@ pub mod AcceptanceLemmas
 pub mod ApartLemmas
 pub mod BetweenLemmas
 pub mod CastLineLemmas
+pub mod ClientLemmas
 pub mod ConstructLemmas
 pub mod CountLemmas
 pub mod DescentLemmas

@@ -29,7 +29,7 @@ either_later : (here before after : Bool) → (before ≡ true → after ≡ tru
 either_later true before after later is = refl
 either_later false before after later is = later is
 
-member_kept : (p : ℕ → Bool) (k : ℕ) (ns : List ℕ) → is_member k (filter p ns) ≡ true → is_member k ns ≡ true
+pub member_kept : (p : ℕ → Bool) (k : ℕ) (ns : List ℕ) → is_member k (filter p ns) ≡ true → is_member k ns ≡ true
 member_kept p k [] is = is
 member_kept p k (n ∷ ns) is = of (p n) (member_kept p k ns) is
   where

@@ -5,6 +5,7 @@ pub mod DescentLaws
 pub mod Descents
 pub mod Laws
 pub mod Network
+pub mod Openings
 pub mod Premises
 pub mod Report
 pub mod Serving
