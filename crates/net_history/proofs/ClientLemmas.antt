@@ -1,6 +1,5 @@
 -- Which links have ended: where no round goes on, those of clients that don't live any more.
 use Rattle.std.proofs.Common.{◌≡◌, ℕ, ◌+◌, ◌/◌, ◌<◌, ◌≤◌, ◌==◌, ◌||◌, ◌&&◌, nat_lt, not, Bool, true, false, List, [], ◌∷◌, ◌++◌, filter, length, refl, sym, ap, ◌∙◌, subst, arith, IfSome, Option, Some, None, Result, Ok, Err, ◌⊎◌, inl, inr, ⊎_elim, if◌then◌else◌}
-use Rattle.std.specs.Bool.{⊤}
 use Rattle.std.specs.Prelude.{slice_get}
 use Rattle.std.proofs.Math.Bool.{or-false, or_assoc, or_comm}
 use Rattle.std.proofs.lemmas.Bool.{cases_Bool, eqb-true, or_left, or_right, false≢true}
@@ -12,7 +11,6 @@ use Rattle.aprs_base.specs.declared.cutting.Cut.{Cut}
 use Rattle.aprs_base.specs.declared.events.Event.{Event}
 use Rattle.aprs_base.specs.declared.events.Event.TheVariants as event
 use Rattle.aprs_base.specs.declared.events.Sent.TheVariants as sent
-use Rattle.aprs_base.specs.declared.events.Happening.{Happening}
 use Rattle.aprs_base.specs.declared.events.Happening.TheVariants as did
 use Rattle.aprs_base.specs.declared.packets.PortKind.{PortKind}
 use Rattle.aprs_base.specs.declared.packets.PortKind.TheVariants as kind
@@ -63,10 +61,6 @@ unknown = standing false false false
 abbrev waiting : Standing
 waiting = standing false false true
 
-abbrev IsAct : Happening → Type 0
-IsAct (did.Event e) = ⊥
-IsAct x = ⊤
-
 abbrev ended_by : Bool → Standing → Standing
 ended_by true a = standing false true a.turned
 ended_by false a = a
@@ -74,11 +68,6 @@ ended_by false a = a
 -- it stands as it did, or it has ended since and lived before or was turned away
 abbrev GoesOn : Standing → Standing → Type 0
 GoesOn a b = (b ≡ a) ⊎ ((b ≡ ended_by true a) × ((a.live || a.turned) ≡ true))
-
-goes_both : (a b c : Standing) → GoesOn a b → GoesOn b c → GoesOn a c
-goes_both a b c (inl same) later = subst (λ x. GoesOn x c) same later
-goes_both a b c (inr ends) (inl same) = inr (same ∙ ends.0, ends.1)
-goes_both a b c (inr ends) (inr again) = inr (again.0 ∙ ap (ended_by true) ends.0, ends.1)
 
 -- where no round goes on: a link that clients may open lives or has ended, and another isn't known
 abbrev Rests : Bool → Standing → Type 0
@@ -89,6 +78,11 @@ Rests false a = a ≡ unknown
 abbrev Stands : Bool → Standing → Type 0
 Stands true a = (a.ended ≡ not a.live) ⊎ (a ≡ waiting)
 Stands false a = a ≡ unknown
+
+-- after so many events of a round
+record Keeps (heard : Bool) (events : ℕ) (a : Standing) : Type 0 where
+  rests : events ≡ 0 → Rests heard a
+  stands : Stands heard a
 
 stands_resting : (heard : Bool) (a : Standing) → Rests heard a → Stands heard a
 stands_resting true a rests = inl rests
@@ -341,55 +335,44 @@ module _ (link : ℕ) where
 
     -- ---- histories
 
-    record Keeps (heard : Bool) (h : History) : Type 0 where
-      rests : open_events h ≡ 0 → Rests heard (stand (trace_of s h))
-      stands : Stands heard (stand (trace_of s h))
+    abbrev KeptBy : Bool → History → Type 0
+    KeptBy heard h = Keeps heard (open_events h) (stand (trace_of s h))
 
-    keeps_event : (heard : Bool) (h : History) (e : Event) → Stands heard (stand (with_event s e (begun (open_events h) (trace_of s h)))) → Keeps heard (did.Event e ∷ h)
+    keeps_event : (heard : Bool) (h : History) (e : Event) → Stands heard (stand (with_event s e (begun (open_events h) (trace_of s h)))) → KeptBy heard (did.Event e ∷ h)
     unfolding trace_of
     keeps_event heard h e stands =
         let t = with_event s e (begun (open_events h) (trace_of s h)) in
         record { rests = rests_after heard (ends_round (open_events h) e) (open_events h) e t stands; stands = stands_after heard (ends_round (open_events h) e) e t stands }
 
-    keeps_on : (heard : Bool) (h : History) (e : Event) → IsOther e → Keeps heard h → Keeps heard (did.Event e ∷ h)
+    keeps_on : (heard : Bool) (h : History) (e : Event) → IsOther e → KeptBy heard h → KeptBy heard (did.Event e ∷ h)
     keeps_on heard h e other keeps =
         let begins = begun (open_events h) (trace_of s h) in
         keeps_event heard h e (stands_on heard (stand begins) (stand (with_event s e begins)) (goes_event e begins other) (stands_begun heard (open_events h) (trace_of s h) keeps.rests keeps.stands))
-
-    -- what happens but for events
-    keeps_act : (heard : Bool) (h : History) → Keeps heard h → (x : Happening) → IsAct x → Keeps heard (x ∷ h)
-    unfolding trace_of
-    keeps_act heard h keeps (did.Event e) act = absurd act
-    keeps_act heard h keeps (did.Sent to bytes (sent.Took n)) act = record { rests = keeps.rests; stands = keeps.stands }
-    keeps_act heard h keeps (did.Sent to bytes sent.Gone) act = record { rests = keeps.rests; stands = keeps.stands }
-    keeps_act heard h keeps x act = record { rests = keeps.rests; stands = keeps.stands }
 
     not_above : (new : Option ℕ) (before : ℕ) → greater_link new before < link → IfSome new (λ k. (k == link) ≡ false) × (before < link)
     not_above None before above = (tt, above)
     not_above (Some k) before above = (eqb_other k link (λ is. omega (arith, is, above)), omega (arith, above))
 
     -- a link that hasn't come isn't known
-    keeps_unknown : (h : History) → greatest_link h < link → Keeps false h
+    keeps_unknown : (h : History) → greatest_link h < link → KeptBy false h
     unfolding trace_of
     keeps_unknown [] above = record { rests = λ finished. refl; stands = refl }
     keeps_unknown (did.Event e ∷ h) above = let both = not_above (new_link e) (greatest_link h) above in keeps_on false h e both.0 (keeps_unknown h both.1)
-    keeps_unknown (did.Listen n ∷ h) above = keeps_act false h (keeps_unknown h above) (did.Listen n) tt
-    keeps_unknown (did.Dialled n ∷ h) above = keeps_act false h (keeps_unknown h above) (did.Dialled n) tt
-    keeps_unknown (did.Cast to bytes ∷ h) above = keeps_act false h (keeps_unknown h above) (did.Cast to bytes) tt
-    keeps_unknown (did.Sent to bytes outcome ∷ h) above = keeps_act false h (keeps_unknown h above) (did.Sent to bytes outcome) tt
-    keeps_unknown (did.Closed k ∷ h) above = keeps_act false h (keeps_unknown h above) (did.Closed k) tt
+    keeps_unknown (did.Sent to bytes (sent.Took n) ∷ h) above = keeps_unknown h above
+    keeps_unknown (did.Sent to bytes sent.Gone ∷ h) above = keeps_unknown h above
+    keeps_unknown (x ∷ h) above = keeps_unknown h above
 
-    keeps_opened : (listener : ℕ) (from : Addr) (h : History) → greatest_link h < link → Keeps (is_heard s listener) (did.Event (event.Opened listener link from) ∷ h)
+    keeps_opened : (listener : ℕ) (from : Addr) (h : History) → greatest_link h < link → KeptBy (is_heard s listener) (did.Event (event.Opened listener link from) ∷ h)
     keeps_opened listener from h above =
         let before = keeps_unknown h above in
         let begins = begun (open_events h) (trace_of s h) in
         keeps_event (is_heard s listener) h (event.Opened listener link from)
         (stands_opened listener s.max_clients (length (client_links begins)) (kind_at s listener) from begins (stands_begun false (open_events h) (trace_of s h) before.rests before.stands))
 
-    keeps_opening : (listener : ℕ) (h : History) (e : Event) → IfSome (new_link e) (λ k. k ≡ greatest_link h + 1) → IsOpening listener link e → Keeps (is_heard s listener) (did.Event e ∷ h)
+    keeps_opening : (listener : ℕ) (h : History) (e : Event) → IfSome (new_link e) (λ k. k ≡ greatest_link h + 1) → IsOpening listener link e → KeptBy (is_heard s listener) (did.Event e ∷ h)
     keeps_opening listener h (event.Opened at opened from) next opens =
-        subst (λ l. Keeps (is_heard s listener) (did.Event (event.Opened l opened from) ∷ h)) (sym opens.0)
-        (subst (λ k. Keeps (is_heard s listener) (did.Event (event.Opened listener k from) ∷ h)) (sym opens.1) (keeps_opened listener from h (let same = opens.1 in omega (arith, next, same))))
+        subst (λ l. KeptBy (is_heard s listener) (did.Event (event.Opened l opened from) ∷ h)) (sym opens.0)
+        (subst (λ k. KeptBy (is_heard s listener) (did.Event (event.Opened listener k from) ∷ h)) (sym opens.1) (keeps_opened listener from h (let same = opens.1 in omega (arith, next, same))))
     keeps_opening listener h e next opens = absurd opens
 
     was_below : (listener : ℕ) (h : History) → WasOpened listener link h → link ≤ greatest_link h
@@ -410,17 +393,16 @@ module _ (link : ℕ) where
     not_again None before next below = tt
     not_again (Some k) before next below = eqb_other k link (λ is. omega (arith, is, next, below))
 
-    keeps_known : (listener : ℕ) (h : History) → CountsLinks h → WasOpened listener link h → Keeps (is_heard s listener) h
+    keeps_known : (listener : ℕ) (h : History) → CountsLinks h → WasOpened listener link h → KeptBy (is_heard s listener) h
+    unfolding trace_of
     keeps_known listener [] counts was = absurd was
     keeps_known listener (did.Event e ∷ h) counts was = ⊎_elim
         (λ opens. keeps_opening listener h e counts.1 opens)
         (λ before. keeps_on (is_heard s listener) h e (not_again (new_link e) (greatest_link h) counts.1 (was_below listener h before)) (keeps_known listener h counts.0 before))
         was
-    keeps_known listener (did.Listen n ∷ h) counts was = keeps_act (is_heard s listener) h (keeps_known listener h counts was) (did.Listen n) tt
-    keeps_known listener (did.Dialled n ∷ h) counts was = keeps_act (is_heard s listener) h (keeps_known listener h counts was) (did.Dialled n) tt
-    keeps_known listener (did.Cast to bytes ∷ h) counts was = keeps_act (is_heard s listener) h (keeps_known listener h counts was) (did.Cast to bytes) tt
-    keeps_known listener (did.Sent to bytes outcome ∷ h) counts was = keeps_act (is_heard s listener) h (keeps_known listener h counts was) (did.Sent to bytes outcome) tt
-    keeps_known listener (did.Closed k ∷ h) counts was = keeps_act (is_heard s listener) h (keeps_known listener h counts was) (did.Closed k) tt
+    keeps_known listener (did.Sent to bytes (sent.Took n) ∷ h) counts was = keeps_known listener h counts was
+    keeps_known listener (did.Sent to bytes sent.Gone ∷ h) counts was = keeps_known listener h counts was
+    keeps_known listener (x ∷ h) counts was = keeps_known listener h counts was
 
 -- ---- every network
 

@@ -1,7 +1,9 @@
 -- Small networks, and what the definitions say of them.
-use Rattle.std.proofs.Common.{◌≡◌, refl, ℕ, List, [], ◌∷◌, ◌++◌, codes, map, Bool, true, false}
+use Rattle.std.proofs.Common.{◌≡◌, refl, inl, inr, ℕ, List, [], ◌∷◌, ◌++◌, codes, map, Bool, true, false}
 use Rattle.std.specs.Prelude.{reverse}
 use Rattle.std.specs.Fmt.{digits}
+use Rattle.aprs_base.specs.declared.events.Event.TheVariants as event
+use Rattle.aprs_base.specs.declared.events.Happening.TheVariants as did
 use Rattle.aprs_base.specs.declared.packets.ListenSpec.{ListenSpec}
 use Rattle.aprs_base.specs.declared.packets.PortKind.{PortKind}
 use Rattle.aprs_base.specs.declared.packets.PortKind.TheVariants as kind
@@ -16,6 +18,7 @@ use Rattle.aprs_history.specs.Acts.{due}
 use Rattle.net_history.specs.declared.events.NetEvent.{NetEvent}
 use Rattle.net_history.specs.declared.events.NetEvent.TheVariants as net
 use Rattle.net_history.specs.Network.{Layout, address_of}
+use Rattle.net_history.specs.Openings.{WasOpened, is_heard}
 use Rattle.net_history.specs.Steps.{is_there, network_of}
 use Rattle.net_history.specs.Report.{report_of}
 
@@ -103,3 +106,33 @@ repeated_reported : reported two_peers repeated
     ≡ codes "server T2A accepted 1\nK1ABC>APRS,TCPIP*,qAC,T2A:>hi\nserver T2B accepted 2\nK1ABC>APRS,TCPIP*,qAC,T2A:>hi\nK1ABC>APRS,TCPIP*,qAC,T2A:>hi\n"
 unfolding due trace_of network_of two_peers repeated reported digits parts_of text_of via_of head_of login_of passcode_of process_of given_drops built_drops built_row rows body_of
 repeated_reported = refl
+
+-- ---- listeners for clients, and others
+
+-- of three listeners the last one is the peer group's, and there is no fourth
+heard : map (is_heard (peer_of (server (codes "T2A") 26172) (codes "T2B") 1)) (0 ∷ 1 ∷ 2 ∷ 3 ∷ []) ≡ true ∷ true ∷ false ∷ false ∷ []
+heard = refl
+
+opened : WasOpened 0 1 (did.Closed 1 ∷ did.Event (event.Opened 0 1 (address_of 0)) ∷ did.Listen 0 ∷ [])
+opened = inl (refl, refl)
+
+not_opened : WasOpened 1 1 (did.Event (event.Joined 1 1 (address_of 0)) ∷ did.Event (event.Opened 0 1 (address_of 0)) ∷ []) → ⊥
+not_opened (inl none) = absurd none
+not_opened (inr (inl is)) = let other : ◌≡◌ {A = ℕ} 0 1 = is.0 in cc
+not_opened (inr (inr none)) = absurd none
+
+unfoldable pub full_server : Layout
+full_server = record { servers = record (server (codes "T2TEST") 8385) { max_clients = 0 } ∷ []; pairs = []; peers = [] }
+
+abbrev opens_and_says : ℕ → List NetEvent
+opens_and_says listener = net.Open 0 listener (codes "K1ABC") ∷ net.Say 0 1 (codes "#") ∷ net.Round 0 1000 ∷ net.Say 0 1 (codes "#") ∷ []
+
+-- a client that is turned away has ended once the round has
+turned_away : there full_server [] (opens_and_says 0) ≡ true ∷ true ∷ true ∷ false ∷ []
+unfolding due trace_of network_of full_server there digits login_of passcode_of
+turned_away = refl
+
+-- one at the peer group's listener is neither served nor ended
+unserved : there two_peers [] (opens_and_says 2) ≡ true ∷ true ∷ true ∷ true ∷ []
+unfolding due trace_of network_of two_peers there digits login_of passcode_of
+unserved = refl
