@@ -37,7 +37,7 @@ comes_fresh first last (e ∷ events) comes =
     let later = comes_fresh (greater_link (new_link e) first) last events comes.2 in
     ((next_above first (new_link e) comes.1, later.0), later.1, ap (λ stop. stopped_after events (stop || false)) comes.0 ∙ later.2)
 
-not_less : (new : Option ℕ) (before : ℕ) → before ≤ greater_link new before
+pub not_less : (new : Option ℕ) (before : ℕ) → before ≤ greater_link new before
 not_less None before = omega arith
 not_less (Some link) before = omega arith
 

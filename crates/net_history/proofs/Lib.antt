@@ -1,6 +1,7 @@
 pub mod AcceptanceLemmas
 pub mod ApartLemmas
 pub mod BetweenLemmas
+pub mod CalmLemmas
 pub mod CastLineLemmas
 pub mod ClientLemmas
 pub mod ConstructLemmas

@@ -2,10 +2,7 @@
 use Rattle.std.proofs.Common.{◌≡◌, ℕ, zero, suc, List, [], ◌∷◌, map, refl, ap, subst, Option, Some, None}
 use Rattle.std.specs.Prelude.{slice_get, ⊤}
 use Rattle.net_history.specs.Network.{changed_at}
-
-abbrev pub Each : {X : Type 0} → (X → Type 0) → List X → Type 0
-Each P [] = ⊤
-Each P (x ∷ xs) = P x × Each P xs
+pub use Rattle.net_history.specs.Places.{Each}
 
 -- the one holds of the element at this place, where there is one, and the other of all others
 abbrev pub AllBut : {X : Type 0} → (X → Type 0) → (X → Type 0) → ℕ → List X → Type 0

@@ -37,7 +37,7 @@ coming events link = flat_map (bytes_for link) events
 coming_more : (events : List Event) (e : Event) (link : ℕ) → coming (events ++ e ∷ []) link ≡ coming events link ++ bytes_for link e
 coming_more events e link = flat_map-append (bytes_for link) events (e ∷ []) ∙ ap (λ bytes. coming events link ++ bytes) (append-nil (bytes_for link e))
 
-brought_more : (s : ServerSeen) (e : Event) (link : ℕ) → brought (with_arrival e s) link ≡ brought s link ++ bytes_for link e
+pub brought_more : (s : ServerSeen) (e : Event) (link : ℕ) → brought (with_arrival e s) link ≡ brought s link ++ bytes_for link e
 brought_more s e link = ap (λ bytes. came_to s.history link ++ bytes) (coming_more s.arrivals e link) ∙ sym (append_assoc (came_to s.history link) (coming s.arrivals link) (bytes_for link e))
 
 -- what it took goes on
@@ -59,7 +59,7 @@ grows_quietly s u made same taken = record {
 }
 
 -- an event without bytes waits
-arrival_grows : (e : Event) → ((link : ℕ) → bytes_for link e ≡ []) → (s : ServerSeen) → Grows s (with_arrival e s)
+pub arrival_grows : (e : Event) → ((link : ℕ) → bytes_for link e ≡ []) → (s : ServerSeen) → Grows s (with_arrival e s)
 arrival_grows e silent s = grows_quietly s (with_arrival e s) refl
     (λ link. brought_more s e link ∙ ap (λ bytes. brought s link ++ bytes) (silent link) ∙ append-nil (brought s link))
     (takes_same s.history)
@@ -340,7 +340,7 @@ link_grows m e silent s =
       taken = takes_same s.history;
     }
 
-opened_grows : (listener : ℕ) (from : Addr) (call : List ℕ) (s : ServerSeen) → Grows s (with_client listener from call s)
+pub opened_grows : (listener : ℕ) (from : Addr) (call : List ℕ) (s : ServerSeen) → Grows s (with_client listener from call s)
 opened_grows listener from call s =
     let opened = with_link ForClient (with_arrival (event.Opened listener (next_link s) from) s) in
     grows_both s opened (with_client listener from call s)
@@ -368,7 +368,7 @@ says_to link s may =
     let low = ltb-true 0 link parts.0 in
     (omega arith, client_is (slice_get s.made (link - 1)) (and_parts _ _ parts.1).0)
 
-say_grows : (link : ℕ) (bytes : List ℕ) (s : ServerSeen) → may_say link (Some s) ≡ true → Grows s (with_arrival (event.Bytes link bytes) s)
+pub say_grows : (link : ℕ) (bytes : List ℕ) (s : ServerSeen) → may_say link (Some s) ≡ true → Grows s (with_arrival (event.Bytes link bytes) s)
 say_grows link bytes s may =
     let is = says_to link s may in
     subst (λ number. Grows s (with_arrival (event.Bytes number bytes) s)) (sym is.0) (client_grows (link - 1) bytes s is.1)
@@ -442,7 +442,7 @@ module _ (number : ℕ) (pair : Pair) (n : NetSeen) (s t : ServerSeen) (low_ther
   two_all : AllGrow one two
   two_all = one_grows high_opens pair.high one (λ x e. link_grows (ForPair low) (event.Opened pair.listener (next_link x) (address_of pair.low)) (λ link. refl) x)
 
-  join_grows : AllGrow n.servers two
+  pub join_grows : AllGrow n.servers two
   join_grows = all_both n.servers one two one_all two_all
 
   pub low_has : HasEnd two low high

@@ -86,7 +86,7 @@ map_more change m is server [] = refl
 map_more change m is zero (x ∷ xs) = ap (λ y. y ∷ map made_at xs) (is x)
 map_more change m is (suc server) (x ∷ xs) = ap (λ ys. made_at x ∷ ys) (map_more change m is server xs)
 
-at_last : {X : Type 0} (xs : List X) (x : X) (place : ℕ) (z : X) → slice_get (xs ++ x ∷ []) place ≡ Some z → (slice_get xs place ≡ Some z) ⊎ ((place ≡ length xs) × (x ≡ z))
+pub at_last : {X : Type 0} (xs : List X) (x : X) (place : ℕ) (z : X) → slice_get (xs ++ x ∷ []) place ≡ Some z → (slice_get xs place ≡ Some z) ⊎ ((place ≡ length xs) × (x ≡ z))
 at_last [] x zero z e = let same : x ≡ z = cc in inr (refl, same)
 at_last [] x (suc place) z e = absurd (none_some z e)
 at_last (y ∷ xs) x zero z e = inl e

@@ -6,6 +6,7 @@ pub mod Descents
 pub mod Laws
 pub mod Network
 pub mod Openings
+pub mod Places
 pub mod Premises
 pub mod Report
 pub mod Serving
