@@ -1,5 +1,5 @@
 -- The network that a script asks for: how its servers are set, and how they may be joined.
-use Rattle.std.specs.Prelude.{◌≡◌, ℕ, ◌==◌, if◌then◌else◌, List, [], ◌∷◌, ◌++◌, codes, map, not, replicate, Option, Some, None, slice_get, IsTrue}
+use Rattle.std.specs.Prelude.{◌≡◌, ℕ, ◌==◌, false, if◌then◌else◌, List, [], ◌∷◌, ◌++◌, codes, map, not, replicate, Option, Some, None, slice_get, IsTrue}
 use Rattle.std.specs.List.{enumerate_from, filter_map, list_all, list_any}
 use Rattle.aprs_base.specs.OptionSteps.{◌>>=◌}
 use Rattle.aprs_base.specs.UplinkSeen.{UplinkSeen}
@@ -8,6 +8,7 @@ use Rattle.aprs_base.specs.declared.packets.PortKind.{PortKind}
 use Rattle.aprs_base.specs.declared.packets.PortKind.TheVariants as kind
 use Rattle.aprs_base.specs.declared.texts.Addr.{Addr}
 use Rattle.aprs_conf.specs.Seen.{ConfSeen}
+use Rattle.aprs_conf.specs.Sound.{IsSound}
 use Rattle.aprs_conf.specs.declared.types.Listen.{Listen}
 use Rattle.aprs_conf.specs.declared.types.PeerSpec.{PeerSpec}
 use Rattle.aprs_history.specs.Setting.{Peer, Setting}
@@ -46,9 +47,12 @@ beyond server pair = if pair.a == server then Some pair.b else if pair.b == serv
 abbrev pub peer_named : List ScriptServer → ℕ → Option Peer
 peer_named servers other = slice_get servers other >>= λ server. Some (record { call = server.call; at = address_of other })
 
--- its peers: the other server of each such pair
+-- the other server of the pair, as a peer of this one
+abbrev pub peer_in : ScriptSeen → ℕ → PeerPair → Option Peer
+peer_in script server pair = beyond server pair >>= peer_named script.servers
+
 abbrev pub peers_at : ScriptSeen → ℕ → List Peer
-peers_at script server = filter_map (λ pair. beyond server pair >>= peer_named script.servers) script.peers
+peers_at script server = filter_map (peer_in script server) script.peers
 
 -- the setting of a server: what its lines say, and else what a configuration has where its lines say nothing
 abbrev pub setting_at : ScriptSeen → ℕ → ScriptServer → Setting
@@ -72,6 +76,27 @@ layout_of script = record { servers = map (numbered_setting script) (enumerate_f
 
 -- ---- configurations
 
+-- a listener that isn't idle
+abbrev pub listen : List ℕ → PortKind → ℕ → Listen
+listen name kind number = record { name = name; spec = port kind number; idle = false }
+
+-- what a configuration has where its lines say no more than they must
+abbrev pub plain_conf : ConfSeen
+plain_conf = record {
+  server = codes "NONE";
+  code = 0;
+  admin = [];
+  email = [];
+  listens = listen (codes "full") kind.Full 10152 ∷ listen (codes "igate") kind.Igate 14580 ∷ [];
+  uplinks = [];
+  group = None;
+  peers = [];
+  up_timeout = 15;
+  client_timeout = 172800;
+  max_clients = 500;
+  dupe_window = 30;
+}
+
 abbrev pub peer_of : PeerSpec → Peer
 peer_of peer = record { call = peer.call; at = peer.at }
 
@@ -87,3 +112,7 @@ pub record HasSetting (conf : ConfSeen) (setting : Setting) : Type 0 where
   pub client_timeout : conf.client_timeout ≡ setting.client_timeout
   pub max_clients : conf.max_clients ≡ setting.max_clients
   pub window : conf.dupe_window ≡ setting.window
+
+-- the configuration of a server that is set so
+abbrev pub IsConfOf : ConfSeen → Setting → Type 0
+IsConfOf conf setting = HasSetting conf setting × IsSound conf

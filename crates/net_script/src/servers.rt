@@ -81,7 +81,7 @@ fn are_joined(pairs: &[Pair], a: u16, b: u16) -> bool
         .any(|pair| (pair.low == a && pair.high == b) || (pair.low == b && pair.high == a))
 }
 
-fn count_uplinks(pairs: &[Pair], server: u16) -> usize
+pub fn count_uplinks(pairs: &[Pair], server: u16) -> usize
     ensures { result ≡ uplinks_of server pairs.now }
 {
     pairs.iter().filter(|pair| pair.low == server).count()
