@@ -1,7 +1,7 @@
 -- The configurations of a script's servers.
-use Rattle.std.proofs.Common.{◌≡◌, ℕ, zero, suc, ◌+◌, ◌<◌, ◌≤◌, Bool, true, false, List, [], ◌∷◌, ◌++◌, length, map, take, drop, get_or, Option, None, Some, Result, Ok, IfOk, IsTrue, refl, sym, ap, arith, ◌∙◌, subst, codes, add-one}
-use Rattle.std.specs.Prelude.{◌&&◌, slice_get}
-use Rattle.std.specs.List.{AllZip, list_all, enumerate_from}
+use Rattle.std.proofs.Common.{◌≡◌, ℕ, zero, suc, ◌+◌, ◌≤◌, Bool, true, false, List, [], ◌∷◌, ◌++◌, length, map, take, Option, None, Some, Result, Ok, IsTrue, refl, sym, ap, arith, ◌∙◌, subst, codes, add-one}
+use Rattle.std.specs.Prelude.{slice_get}
+use Rattle.std.specs.List.{AllZip, list_all}
 use Rattle.aprs_base.specs.Bytes.{is_station}
 use Rattle.aprs_conf.specs.declared.errors.ConfError.{ConfError}
 use Rattle.aprs_conf.specs.declared.types.PeerSpec.{PeerSpec}
@@ -9,15 +9,15 @@ use Rattle.aprs_conf.specs.Grammar.{after, conf_of, listen_says}
 use Rattle.aprs_conf.specs.Seen.{ConfSeen}
 use Rattle.aprs_conf.specs.Sound.{IsGroup, IsSound, IsWithin}
 use Rattle.aprs_base.specs.declared.texts.Addr.{Addr}
-use Rattle.aprs_history.specs.Setting.{Peer, Setting}
+use Rattle.aprs_history.specs.Setting.{Peer}
 use Rattle.net_history.specs.Network.{address_of}
 use Rattle.net_history.specs.declared.events.PeerPair.{PeerPair}
 use Rattle.std.specs.List.{cons_option, filter_map, list_any}
-use Rattle.std.specs.Prelude.{◌||◌, replicate, if◌then◌else◌}
+use Rattle.std.specs.Prelude.{replicate, if◌then◌else◌}
 use Rattle.std.proofs.lemmas.List.{length-map, length-replicate, replicate-append-replicate}
 use Rattle.std.proofs.lemmas.List.Elements.{filter_map-append}
 use Rattle.net_script.specs.declared.types.ScriptServer.{ScriptServer}
-use Rattle.net_script.specs.Grammar.{has_peer, peers_of, uplinks_of}
+use Rattle.net_script.specs.Grammar.{has_peer, uplinks_of}
 use Rattle.net_script.specs.Layouts.{IsConfOf, group_of, layout_of, peer_in, peer_of, peers_at, plain_conf, setting_at, some_uplink, uplinks_at}
 use Rattle.net_script.specs.Limits.{KeepsLimits}
 use Rattle.net_script.specs.Seen.{ScriptSeen}

@@ -1,13 +1,8 @@
 -- What a line adds to a script.
-use Rattle.std.proofs.Common.{◌≡◌, ℕ, ◌+◌, ◌<◌, ◌≤◌, Bool, true, false, List, [], ◌∷◌, ◌++◌, length, Option, Some, None, Err, IfSome, refl, subst, arith, ◌∙◌, length-append}
-use Rattle.std.specs.Prelude.{◌||◌, nat_le, is_some, ◌==◌}
-use Rattle.std.proofs.lemmas.Bool.Decides.{nat_tests}
-use Rattle.aprs_base.specs.Bytes.{is_station}
+use Rattle.std.proofs.Common.{◌≡◌, ℕ, ◌+◌, ◌≤◌, Bool, true, false, List, [], ◌∷◌, ◌++◌, length, Option, Some, None, Err, IfSome, refl, subst, arith, length-append}
 use Rattle.aprs_base.specs.OptionSteps.{◌>>=◌}
-use Rattle.aprs_conf.specs.Arguments.{station_of}
 use Rattle.net_history.specs.declared.events.Pair.{Pair}
 use Rattle.net_history.specs.declared.events.PeerPair.{PeerPair}
-use Rattle.net_script.specs.declared.errors.ScriptError.{ScriptError}
 use Rattle.net_script.specs.declared.errors.ScriptError.TheVariants as cause
 use Rattle.net_script.specs.declared.types.ScriptServer.{ScriptServer}
 use Rattle.net_script.specs.declared.types.ScriptStep.{ScriptStep}

@@ -1,7 +1,7 @@
 -- The network that a script asks for.
-use Rattle.std.proofs.Common.{◌≡◌, ◌≢◌, ℕ, zero, suc, ◌+◌, ◌<◌, ◌≤◌, Bool, true, false, cond, List, [], ◌∷◌, ◌++◌, length, map, take, Option, Some, None, IfSome, IsTrue, refl, sym, ap, arith, ◌∙◌, inl, inr, ◌⊎◌, subst, add-zero}
-use Rattle.std.specs.Prelude.{◌&&◌, ◌||◌, ◌==◌, not, replicate, slice_get, if◌then◌else◌}
-use Rattle.std.specs.List.{cons_option, count_by, enumerate_from, filter_map, list_any}
+use Rattle.std.proofs.Common.{◌≡◌, ◌≢◌, ℕ, zero, suc, ◌+◌, ◌<◌, Bool, true, false, List, [], ◌∷◌, length, map, take, Option, Some, None, Result, Ok, Err, IfOk, IfSome, IsTrue, refl, sym, ap, arith, ◌∙◌, inl, inr, subst, add-zero}
+use Rattle.std.specs.Prelude.{◌&&◌, ◌||◌, ◌==◌, MatchResult, replicate, slice_get, if◌then◌else◌}
+use Rattle.std.specs.List.{cons_option, enumerate_from, filter_map}
 use Rattle.std.specs.Char.{to_ascii_uppercase}
 use Rattle.std.specs.Option.{option_map}
 use Rattle.std.proofs.lemmas.Bool.{and_parts}
@@ -9,11 +9,11 @@ use Rattle.std.proofs.lemmas.Bool.Decides.{nat_tests}
 use Rattle.std.proofs.lemmas.List.{length-map, length-replicate}
 use Rattle.std.proofs.lemmas.List.FromFn.{length-enumerate_from}
 use Rattle.std.proofs.lemmas.Nat.{and_le_r}
-use Rattle.std.proofs.lemmas.Option.{slice_get-map, slice_get_past, slice_get_within}
+use Rattle.std.proofs.lemmas.Result.{IfOk-at_ok}
+use Rattle.std.proofs.lemmas.Option.{slice_get-map, slice_get_within}
 use Rattle.aprs_base.specs.Bytes.{base_of, is_station}
 use Rattle.aprs_base.specs.OptionSteps.{◌>>=◌}
-use Rattle.aprs_base.specs.declared.packets.PortKind.TheVariants as kind
-use Rattle.aprs_history.specs.Setting.{Peer, Setting, kind_at}
+use Rattle.aprs_history.specs.Setting.{Peer, Setting}
 use Rattle.aprs_history.specs.Sound.{IsSound}
 use Rattle.login_pass.specs.Passcode.{folded, passcode_of}
 use Rattle.net_history.specs.declared.events.Pair.{Pair}
@@ -21,14 +21,16 @@ use Rattle.net_history.specs.declared.events.PeerPair.{PeerPair}
 use Rattle.net_history.specs.Network.{address_of}
 use Rattle.net_history.specs.Premises.{IsLaidOut}
 use Rattle.net_script.specs.declared.types.ScriptServer.{ScriptServer}
-use Rattle.net_script.specs.Grammar.{goes, has_peer, joins, joins_peers, peers_of, uplinks_of}
+use Rattle.net_script.specs.Grammar.{has_peer, joins, lines_of, joins_peers, peers_of, uplinks_of}
 use Rattle.net_script.specs.Laws.{IsPair, IsPeerPair, IsWired, peer_number}
 use Rattle.net_script.specs.Layouts.{beyond, layout_of, numbered_setting, peer_in, peer_named, peers_at, setting_at, some_uplink}
 use Rattle.net_script.specs.Limits.{KeepsLimits}
+use Rattle.net_script.specs.declared.errors.ScriptError.{ScriptError}
+use Rattle.net_script.specs.Reading.{FailsAt, drafted, empty}
 use Rattle.net_script.specs.Seen.{ScriptSeen}
 use Rattle.net_script.proofs.GrowthLemmas.{each}
 use Rattle.net_script.proofs.GrownLemmas.{among_earlier, counts_apart, counts_itself, made_at}
-use Rattle.net_script.proofs.SoundLemmas.{IsNextPair, IsNextPeers, Keeps, either, or_false}
+use Rattle.net_script.proofs.SoundLemmas.{IsNextPeers, Keeps, begun, either, keeps_on, or_false}
 
 -- ---- numbers
 
@@ -151,6 +153,7 @@ some_made script has server k pair e is = by (pair.a == server) refl
   where
     next : IsNextPeers (length script.servers) (take k script.peers) pair
     next = has.peers k pair e
+
     by : (b : Bool) → (pair.a == server) ≡ b → (peer : Peer) × (peer_in script server pair ≡ Some peer)
     by true so = (let other = place_there script.servers pair.b next.b in (peer_at other.0 pair.b, made script server pair.b pair other.0 (beyond_a server pair so) other.1))
     by false not_so =
@@ -191,6 +194,7 @@ numbered script has n pair server number at e = by (pair.a == server) refl (pair
   where
     next : IsNextPeers (length script.servers) (take n script.peers) pair
     next = has.peers n pair at
+
     by : (x : Bool) → (pair.a == server) ≡ x → (y : Bool) → (pair.b == server) ≡ y → (if x then Some pair.at_a else if y then Some pair.at_b else None) ≡ Some number → IsNumbered script n pair server number
     by true first y second is = (let same : pair.at_a ≡ number = cc in record { has = rw first refl; is = sym same ∙ next.at_a ∙ ap (λ s. peers_of s (take n script.peers)) (equal pair.a server first) })
     by false first true second is = (let same : pair.at_b ≡ number = cc in record { has = rw (first, second) refl; is = sym same ∙ next.at_b ∙ ap (λ s. peers_of s (take n script.peers)) (equal pair.b server second) })
@@ -232,6 +236,10 @@ limits script has = record {
   uplinks = has.uplinks;
   peers = has.counts;
 }
+
+pub lines_keep : (text : List ℕ) (r : Result ScriptSeen ScriptError) → MatchResult r (λ script. drafted 1 empty (lines_of text) ≡ Ok script) (λ e. FailsAt e (drafted 1 empty (lines_of text))) → IfOk r KeepsLimits
+lines_keep text (Ok script) e = limits script (IfOk-at_ok Keeps e (keeps_on 1 empty (lines_of text) begun))
+lines_keep text (Err e) failed = tt
 
 -- what is made is made of an element
 made_of : {A B : Type 0} (P : B → Type 0) (make : A → Option B) (xs : List A) → ((x : A) → IfSome (make x) P) → (k : ℕ) (y : B) → slice_get (filter_map make xs) k ≡ Some y → P y

@@ -1,5 +1,5 @@
 -- Worked scripts: what a text is read as, and what it comes to.
-use Rattle.std.proofs.Common.{◌≡◌, ℕ, Bool, true, false, List, [], ◌∷◌, ◌++◌, Result, Ok, Err, refl, codes}
+use Rattle.std.proofs.Common.{◌≡◌, true, false, [], ◌∷◌, Ok, Err, refl, codes}
 use Rattle.std.specs.Fmt.{digits}
 use Rattle.aprs_base.specs.declared.packets.PortKind.TheVariants as kind
 use Rattle.aprs_body.specs.Bodies.{body_of}
@@ -7,16 +7,10 @@ use Rattle.aprs_history.specs.Acts.{due}
 use Rattle.aprs_history.specs.History.{trace_of}
 use Rattle.login_pass.specs.Login.{login_of}
 use Rattle.login_pass.specs.Passcode.{passcode_of}
-use Rattle.net_history.specs.declared.events.NetEvent.{NetEvent}
-use Rattle.net_history.specs.declared.events.NetEvent.TheVariants as net
-use Rattle.net_history.specs.Network.{Layout}
-use Rattle.net_history.specs.Report.{report_of}
 use Rattle.net_history.specs.Steps.{network_of}
 use Rattle.q_construct.specs.Rule.{process_of, given_drops, built_drops, built_row, rows}
 use Rattle.tnc2_line.specs.Packet.{parts_of, text_of, via_of, head_of}
-use Rattle.net_script.specs.declared.errors.ScriptError.{ScriptError}
 use Rattle.net_script.specs.declared.errors.ScriptError.TheVariants as cause
-use Rattle.net_script.specs.declared.types.ScriptStep.{ScriptStep}
 use Rattle.net_script.specs.declared.types.ScriptStep.TheVariants as step
 use Rattle.net_script.specs.Grammar.{after, peer_says, server_says, step_says, uplink_says}
 use Rattle.net_script.specs.Layouts.{layout_of, port, some_uplink}

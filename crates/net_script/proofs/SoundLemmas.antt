@@ -1,9 +1,9 @@
 -- What each line keeps of a script, and so what every script that is read has.
-use Rattle.std.proofs.Common.{◌≡◌, ◌≢◌, ℕ, ◌+◌, ◌<◌, ◌≤◌, Bool, true, false, cond, List, [], ◌∷◌, ◌++◌, length, take, Option, Some, None, Result, Ok, Err, IfOk, IfSome, IsTrue, refl, sym, ap, arith, ◌∙◌, inl, inr, ◌⊎◌, subst, length-append}
-use Rattle.std.specs.Prelude.{◌&&◌, ◌||◌, ◌==◌, not, nat_le, is_some, slice_get, slice_index, if◌then◌else◌}
+use Rattle.std.proofs.Common.{◌≡◌, ◌≢◌, ℕ, ◌+◌, ◌<◌, ◌≤◌, Bool, true, false, List, [], ◌∷◌, ◌++◌, length, Option, Some, None, Ok, Err, IfOk, IfSome, IsTrue, refl, arith, inl, inr, ◌⊎◌, subst, length-append}
+use Rattle.std.specs.Prelude.{◌&&◌, ◌||◌, ◌==◌, not, nat_le, is_some, slice_index, if◌then◌else◌}
 use Rattle.std.specs.Str.{byte}
 use Rattle.std.proofs.lemmas.Bool.{and_parts, leb-true}
-use Rattle.std.specs.List.{count_by, position}
+use Rattle.std.specs.List.{count_by}
 use Rattle.std.proofs.lemmas.Bool.Decides.{nat_tests}
 use Rattle.std.proofs.lemmas.Option.{cond_some}
 use Rattle.std.proofs.lemmas.Result.{IfOk-at_ok}
@@ -15,7 +15,7 @@ use Rattle.aprs_conf.specs.Sound.{IsWithin}
 use Rattle.net_history.specs.declared.events.Pair.{Pair}
 use Rattle.net_history.specs.declared.events.PeerPair.{PeerPair}
 use Rattle.net_script.specs.declared.types.ScriptServer.{ScriptServer}
-use Rattle.net_script.specs.Grammar.{are_joined, are_peers, count_within, has_peer, is_within, number_of, parted, peer_in, peers_of, server_at, server_in, two_in, two_servers, unless, uplink_in, uplinks_of, with_window}
+use Rattle.net_script.specs.Grammar.{are_joined, are_peers, has_peer, is_within, number_of, parted, peer_in, peers_of, server_at, server_in, two_in, two_servers, uplink_in, uplinks_of, with_window}
 use Rattle.net_script.specs.Grammar.{after, lines_of}
 use Rattle.net_script.specs.Reading.{drafted, empty, script_of}
 use Rattle.net_script.specs.Seen.{ScriptSeen}
@@ -131,9 +131,11 @@ window_said text = by (parted text)
     within : (words : List ℕ × List ℕ) (b : Bool) (n : ℕ) → is_within 10 300 words.1 n ≡ b → IfSome ((if b then Some n else None) >>= λ window. Some (words.0, window)) HasWindow
     within words true n e = in_window n words.1 e
     within words false n e = tt
+
     read : (words : List ℕ × List ℕ) (o : Option ℕ) → IfSome ((o >>= λ n. if is_within 10 300 words.1 n then Some n else None) >>= λ window. Some (words.0, window)) HasWindow
     read words None = tt
     read words (Some n) = within words (is_within 10 300 words.1 n) n refl
+
     by : (o : Option (List ℕ × List ℕ)) → IfSome (with_window text o) HasWindow
     by None = (omega arith, omega arith)
     by (Some words) = read words (number_of words.1)
@@ -198,7 +200,7 @@ kept script new (ByPeers text pair e is) has = rw is (let fit : IsFitPeers scrip
 })
 kept script new (ByStep number step is) has = rw is (record { few = has.few; servers = has.servers; pairs = has.pairs; peers = has.peers; uplinks = has.uplinks; counts = has.counts })
 
-begun : Keeps empty
+pub begun : Keeps empty
 begun = record {
   few = omega arith;
   servers = each_of_none (λ before server. IsServer server);
@@ -208,7 +210,7 @@ begun = record {
   counts = λ server. omega arith;
 }
 
-keeps_on : (number : ℕ) (script : ScriptSeen) (lines : List (List ℕ)) → Keeps script → IfOk (drafted number script lines) Keeps
+pub keeps_on : (number : ℕ) (script : ScriptSeen) (lines : List (List ℕ)) → Keeps script → IfOk (drafted number script lines) Keeps
 keeps_on number script [] has = has
 keeps_on number script (line ∷ lines) has = by (after number script line) (grows number script line) (λ new growth. keeps_on (number + 1) new lines (kept script new growth has))
   where

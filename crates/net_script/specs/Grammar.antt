@@ -134,14 +134,14 @@ abbrev pub uplink_in : ScriptSeen → List ℕ → Option Pair
 uplink_in script text = do
   ends ← two_in script text
   unless (are_joined ends.0 ends.1 script.pairs || nat_le 8 (uplinks_of ends.0 script.pairs))
-    (Some (record { low = ends.0; uplink = uplinks_of ends.0 script.pairs; high = ends.1; listener = 0 }))
+      (Some (record { low = ends.0; uplink = uplinks_of ends.0 script.pairs; high = ends.1; listener = 0 }))
 
 -- `peer A B`: at most 8 of each, and one for two servers
 abbrev pub peer_in : ScriptSeen → List ℕ → Option PeerPair
 peer_in script text = do
   ends ← two_in script text
   unless (are_peers ends.0 ends.1 script.peers || (nat_le 8 (peers_of ends.0 script.peers) || nat_le 8 (peers_of ends.1 script.peers)))
-    (Some (record { a = ends.0; at_a = peers_of ends.0 script.peers; b = ends.1; at_b = peers_of ends.1 script.peers }))
+      (Some (record { a = ends.0; at_a = peers_of ends.0 script.peers; b = ends.1; at_b = peers_of ends.1 script.peers }))
 
 -- ---- steps
 

@@ -1,5 +1,5 @@
 -- What a script comes to: its steps one after another, and what it answers.
-use Rattle.std.specs.Prelude.{ℕ, ◌==◌, ◌&&◌, Bool, if◌then◌else◌, List, [], ◌∷◌, ◌++◌, codes, fold, Option, Some, None, slice_get}
+use Rattle.std.specs.Prelude.{ℕ, ◌==◌, ◌&&◌, if◌then◌else◌, List, [], ◌∷◌, ◌++◌, codes, fold, Option, Some, None, slice_get}
 use Rattle.std.specs.Fmt.{decimal}
 use Rattle.aprs_conf.specs.Arguments.{same}
 use Rattle.net_history.specs.declared.events.NetEvent.{NetEvent}

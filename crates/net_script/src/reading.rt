@@ -1,6 +1,7 @@
 //! The reading of a script's text.
 ghost use Rattle.std.specs.Prelude.{◌≡◌, ℕ, ◌≤◌, ◌+◌, ◌<◌, length, Ok, Err, IfOk, IsErrOf, MatchResult};
 ghost use Rattle.net_script.specs.Grammar.{after, lines_of, peer_says, says, server_says, step_says, uplink_says};
+ghost use Rattle.net_script.specs.Limits.{KeepsLimits};
 ghost use Rattle.net_script.specs.Reading.{BecomesUnless, FailsAt, HasNumbers, at_number, drafted, empty, script_of};
 
 use crate::errors::{LineError, ScriptError};
@@ -58,12 +59,7 @@ fn add_peers(script: &mut Script, text: &[u8]) -> Result<(), LineError>
 }
 
 #[tactic(auto, unfolding(crate::specs::Grammar::step_says))]
-fn add_step(
-    script: &mut Script,
-    number: u32,
-    word: StepWord,
-    text: &[u8],
-) -> Result<(), LineError>
+fn add_step(script: &mut Script, number: u32, word: StepWord, text: &[u8]) -> Result<(), LineError>
     requires { HasNumbers script.old }
     ensures { BecomesUnless result script.new (step_says word number script.old text.now) }
 {
@@ -126,12 +122,24 @@ fn read_lines(alloc: Global, text: &[u8]) -> Result<Script, ScriptError>
     Ok(script)
 }
 
-/// Reads a script, as the manual has it (Scripts of networks). The error is `TooLarge` where the text has more than 65,536 bytes,
-/// and else the number of its first bad line.
+/// Reads a script. Its lines are, with single blanks between the words:
+///
+/// - `server CALL` or `server CALL W`: a server with the call of a station, and its duplicate window W, 10 to 300 seconds without
+///   leading zeros, else 30. There are at most 16.
+/// - `uplink A B`: the server A has an uplink to the first listener of B. `peer A B`: each is a peer of the other. A server has at most 8
+///   of each, and two servers at most one of each.
+/// - `open A CALL`, `say A CALL TEXT` with 1 to 510 bytes without CR, `round A MOMENT` with 1 to 12 digits, `join A B` and `cut A B` in the
+///   order of the `uplink` line, `carry A B N` in either order with N from 1 to 1,460, `cast A B K` between peers with K from 1 to
+///   4,294,967,295; N and K have no leading zeros.
+///
+/// A and B are calls of servers that differ. Servers and what joins them stand before the first step. A line ends in LF, which the last
+/// may lack. The error is `TooLarge` where the text has more than 65,536 bytes, and else the number of the first line that is off these
+/// forms, names what no line before it made, or makes a server or a pair again.
 #[tactic(auto, unfolding(crate::specs::Reading::script_of))]
 pub fn read(alloc: Global, text: &[u8]) -> Result<Script, ScriptError>
     ensures value { IfOk result (λ script. script_of text.now ≡ Ok script) }
     ensures bad { (n : ℕ) → IsErrOf result (ScriptError.BadStep n) → script_of text.now ≡ Err (ScriptError.BadStep n) }
+    ensures limits { IfOk result KeepsLimits }
     ensures large { IsErrOf result ScriptError.TooLarge → script_of text.now ≡ Err ScriptError.TooLarge }
 {
     if text.len() > MOST_BYTES {

@@ -23,7 +23,9 @@ const WINDOW: u32 = 30;
 fn place_of(servers: &[ScriptServer], call: &[u8]) -> Option<usize>
     ensures { result ≡ position (λ server. same server.call call.now) servers.now }
 {
-    servers.iter().position(|server| server.call.bytes() == call)
+    servers
+        .iter()
+        .position(|server| server.call.bytes() == call)
 }
 
 /// The number of the server with that call.
@@ -76,9 +78,7 @@ pub fn pair_of(script: &Script, low: u16, high: u16) -> Option<u16>
 fn are_joined(pairs: &[Pair], a: u16, b: u16) -> bool
     ensures { result ≡ are_joined a b pairs.now }
 {
-    pairs
-        .iter()
-        .any(|pair| (pair.low == a && pair.high == b) || (pair.low == b && pair.high == a))
+    pairs.iter().any(|pair| (pair.low == a && pair.high == b) || (pair.low == b && pair.high == a))
 }
 
 pub fn count_uplinks(pairs: &[Pair], server: u16) -> usize
@@ -90,9 +90,7 @@ pub fn count_uplinks(pairs: &[Pair], server: u16) -> usize
 pub fn are_peers(peers: &[PeerPair], a: u16, b: u16) -> bool
     ensures { result ≡ are_peers a b peers.now }
 {
-    peers
-        .iter()
-        .any(|pair| (pair.a == a && pair.b == b) || (pair.a == b && pair.b == a))
+    peers.iter().any(|pair| (pair.a == a && pair.b == b) || (pair.a == b && pair.b == a))
 }
 
 fn count_peers(peers: &[PeerPair], server: u16) -> usize

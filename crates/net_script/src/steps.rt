@@ -3,8 +3,8 @@ ghost use Rattle.std.specs.Prelude.{◌≡◌};
 ghost use Rattle.net_script.specs.Grammar.{carry_in, cast_in, cut_in, join_in, open_in, pair_in, round_in, say_in, step_in, way_between};
 ghost use Rattle.net_script.specs.Reading.{HasNumbers};
 
-use crate::servers::{are_peers, pair_of, server_of, two_in, two_servers};
 use crate::numbers::{count, number};
+use crate::servers::{are_peers, pair_of, server_of, two_in, two_servers};
 use crate::types::{Script, ScriptStep};
 use crate::words::{StepWord, call, line, part, part_twice};
 

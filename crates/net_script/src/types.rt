@@ -16,11 +16,7 @@ pub enum ScriptStep {
     /// A client connects to the server's first listener, and logs in by its call.
     Open { server: u16, call: Call },
     /// The client on the last link of the call says a line.
-    Say {
-        server: u16,
-        call: Call,
-        line: Line,
-    },
+    Say { server: u16, call: Call, line: Line },
     /// The server takes what waits for it, and then a tick. A moment is in seconds since 1970.
     Round { server: u16, moment: u64 },
     /// The pair's uplink joins.

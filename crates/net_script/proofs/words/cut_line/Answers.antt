@@ -1,6 +1,6 @@
-use Rattle.std.proofs.Common.{◌∷◌, ◌+◌, ◌-◌, take, drop, length, arith, sym, ap, ◌∙◌}
+use Rattle.std.proofs.Common.{◌+◌, ◌-◌, take, drop, length, arith, ap, ◌∙◌}
 use Rattle.login_pass.proofs.Cuts.{uncut, cut}
-use Rattle.net_script.specs.Grammar.{ended, is_feed, lines_of}
+use Rattle.net_script.specs.Grammar.{ended, is_feed}
 use Rattle.net_script.proofs.LineLemmas.{line_first, line_last}
 use Rattle.net_script.proofs.words.cut_line.Goals as goal
 

@@ -11,12 +11,12 @@ returns-clause-sound c = λ limits station window.
     let pairs = c.as_slice.ensures.value ∙ ap (λ script. script.pairs) c.self.view_is in
     let peers = c.as_slice-2.ensures.value ∙ ap (λ script. script.peers) c.self.view_is in
     conf_sound c.args.self.now c.args.number c.args.server.now _ limits station window
-        c.copy_call-conf-inside.ensures
-        (ap (λ conf. conf.listens) plain)
-        (c.in_ok-conf-inside.ensures ∙ ap (λ n. replicate n some_uplink) (c.count_uplinks.ensures ∙ ap (uplinks_of c.args.number) pairs))
-        (c.group_of-conf-inside.ensures ∙ ap (group_of c.args.number) peers)
-        c.in_ok-conf-inside-2.ensures
-        (ap (λ conf. conf.up_timeout) plain)
-        (ap (λ conf. conf.client_timeout) plain)
-        (ap (λ conf. conf.max_clients) plain)
-        refl
+    c.copy_call-conf-inside.ensures
+    (ap (λ conf. conf.listens) plain)
+    (c.in_ok-conf-inside.ensures ∙ ap (λ n. replicate n some_uplink) (c.count_uplinks.ensures ∙ ap (uplinks_of c.args.number) pairs))
+    (c.group_of-conf-inside.ensures ∙ ap (group_of c.args.number) peers)
+    c.in_ok-conf-inside-2.ensures
+    (ap (λ conf. conf.up_timeout) plain)
+    (ap (λ conf. conf.client_timeout) plain)
+    (ap (λ conf. conf.max_clients) plain)
+    refl

@@ -16,10 +16,11 @@ loop-server-preserved c =
     let there = subst (λ xs. slice_get xs i ≡ Some server) items (slice_get_read c.deref-server-items.result.now _ i server refl c.loop-server-test.true c.server-item.is) in
     let number = c.loop-server.invariant.0 in
     let sound = c.in_ok-conf.ensures.sound c.requires (c.requires.stations i server there) (c.requires.windows i server there) in
-    let is : IsConfOf conf (setting_at script i server) = subst (λ n. IsConfOf conf (setting_at script n server)) number (c.in_ok-conf.ensures.setting, sound) in
-    ( ap (λ n. n + 1) number
-    , subst (λ confs. AllZip IsConfOf confs (take (i + 1) (layout_of script).servers)) (sym c.in_ok-push.ensures.items)
-        (confs_next script c.loop-server.confs.items i server conf there is c.loop-server.invariant.1))
+    let is : IsConfOf conf (setting_at script i server) = subst (λ n. IsConfOf conf (setting_at script n server)) number (c.in_ok-conf.ensures.setting, sound) in (
+      ap (λ n. n + 1) number,
+      subst (λ confs. AllZip IsConfOf confs (take (i + 1) (layout_of script).servers)) (sym c.in_ok-push.ensures.items)
+          (confs_next script c.loop-server.confs.items i server conf there is c.loop-server.invariant.1),
+    )
 
 pub returns : goal.returns
 returns c =
