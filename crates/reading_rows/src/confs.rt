@@ -55,7 +55,7 @@ fn put_limits(text: &mut String, conf: &Conf) -> Result<(), AllocError> {
     write!(text, "\n    window {}", conf.dupe_window)
 }
 
-fn conf_text(alloc: Global, conf: &Conf) -> Result<String, AllocError> {
+pub fn conf_text(alloc: Global, conf: &Conf) -> Result<String, AllocError> {
     let server = write_bytes(alloc, conf.server.bytes())?;
     let mut text = format!(in alloc; "\n    server {server} {}", conf.code)?;
     write!(

@@ -1,4 +1,4 @@
-//! Reads rows of what is read and written (calls, lines, logins, packets, bodies, positions, filters, configurations), and
+//! Reads rows of what is read and written (calls, lines, logins, packets, bodies, positions, filters, configurations, scripts), and
 //! prints each with what it becomes. The gate compares that with the file stdout, whose answers come from the public
 //! standards or were worked out by hand.
 #![tactic(auto)]
@@ -11,6 +11,7 @@ mod logins;
 mod packets;
 mod parsed;
 mod places;
+mod scripts;
 mod stores;
 mod texts;
 
@@ -38,6 +39,8 @@ fn second_answer(alloc: Global, word: &str, row: &str) -> Result<String, RowErro
         "position-age" => filters::position_age(alloc),
         "conf" => confs::conf(alloc, row),
         "conf-again" => confs::again(alloc, row),
+        "script" => scripts::script(alloc, row),
+        "script-confs" => scripts::confs(alloc, row),
         _ => Err(RowError::Word),
     }
 }
