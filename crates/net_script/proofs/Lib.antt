@@ -1,7 +1,7 @@
-mod ConfLemmas
+pub mod ConfLemmas
 mod GrowthLemmas
 mod GrownLemmas
-mod LayoutLemmas
+pub mod LayoutLemmas
 mod LineLemmas
 mod Rows
-mod SoundLemmas
+pub mod SoundLemmas
