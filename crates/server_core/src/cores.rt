@@ -1,5 +1,5 @@
 //! The core: it takes a round of events, and says what is to be done.
-ghost use Rattle.std.specs.Prelude.{◌≡◌, ◌∷◌, ◌++◌, ◌≤◌, ℕ, IsTrue, IfOk, IfSome, OnOk, List, length, false, min, take, true};
+ghost use Rattle.std.specs.Prelude.{◌≡◌, ◌∷◌, ◌++◌, ◌≤◌, ℕ, IsTrue, IfOk, IfSome, OnOk, List, drop, length, false, min, take, true};
 ghost use Rattle.aprs_base.specs.Bytes.{is_station};
 ghost use Rattle.aprs_conf.specs.Sound.{IsGroup, IsWithin};
 ghost use Rattle.aprs_history.specs.History.{History, trace_of};
@@ -155,13 +155,14 @@ impl Core {
     }
 
     /// Writes the next bytes that the link has still to take, as many as there are and as fit, at most 65,536, and says
-    /// how many.
+    /// how many. The buffer stays as it was behind them.
     pub fn offer(&self, link: u32, out: &mut [u8]) -> usize
         requires served { IsTrue (has_number link self.now.seen.links) }
         ensures count { result ≡ min (min (length out.old) 65536) (length (pending_at link self.now.seen.links)) }
         ensures bytes { take result out.new ≡ take (min (length out.old) 65536) (pending_at link self.now.seen.links) }
         ensures next { (h : History) → Stands self.now h
             → take result out.new ≡ take (min (length out.old) 65536) (untaken (setting_of self.now.conf) (trace_of (setting_of self.now.conf) h) link) }
+        ensures rest { drop result out.new ≡ drop result out.old }
     {
         self.next_bytes(link, out)
     }
@@ -169,6 +170,7 @@ impl Core {
     fn next_bytes(&self, link: u32, out: &mut [u8]) -> usize
         ensures count { result ≡ min (min (length out.old) 65536) (length (pending_at link self.now.seen.links)) }
         ensures bytes { take result out.new ≡ take (min (length out.old) 65536) (pending_at link self.now.seen.links) }
+        ensures rest { drop result out.new ≡ drop result out.old }
     {
         self.walker.offer(link, out)
     }

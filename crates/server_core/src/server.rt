@@ -1,5 +1,5 @@
 //! What a core keeps, and the walk over a round's events.
-ghost use Rattle.std.specs.Prelude.{◌≡◌, ◌∷◌, ◌++◌, [], ◌≤◌, ℕ, IsTrue, IfOk, IfSome, OnOk, List, length, false, true, min, take};
+ghost use Rattle.std.specs.Prelude.{◌≡◌, ◌∷◌, ◌++◌, [], ◌≤◌, ℕ, IsTrue, IfOk, IfSome, OnOk, List, drop, length, false, true, min, take};
 ghost use Rattle.aprs_base.specs.Bytes.{is_station};
 ghost use Rattle.aprs_conf.specs.Sound.{IsGroup, IsWithin};
 ghost use Rattle.aprs_history.specs.Stands.{reach_of};
@@ -229,11 +229,12 @@ impl Walker {
     }
 
     /// Writes the next bytes that the link has still to take, as many as there are and as fit, at most 65,536, and says
-    /// how many.
+    /// how many. The buffer stays as it was behind them.
     pub fn offer(&self, link: u32, out: &mut [u8]) -> usize
         requires { self.now.rests ≡ true }
         ensures count { result ≡ min (min (length out.old) 65536) (length (pending_at link self.now.seen.links)) }
         ensures bytes { take result out.new ≡ take (min (length out.old) 65536) (pending_at link self.now.seen.links) }
+        ensures rest { drop result out.new ≡ drop result out.old }
     {
         let room = out.len().min(MOST_OFFERED);
         self.links.offer(link, &mut out[..room])
