@@ -1,5 +1,5 @@
 //! Links that are fed.
-ghost use Rattle.std.specs.Prelude.{◌≡◌, ◌≤◌, true};
+ghost use Rattle.std.specs.Prelude.{◌≡◌, ◌≤◌};
 
 use crate::fields::{Answer, Fault, Fields, all_of, not_allowed, said, shown};
 use crate::items::{FEEDS, read_item};
@@ -22,7 +22,7 @@ const SIDES: [(&str, bool); 2] = [("in", true), ("out", false)];
 
 /// A link comes.
 fn open(feeds: &mut Feeds, fields: &mut Fields) -> Answer
-    requires { feeds.old.settled ≡ true }
+    requires { feeds.old.waiting ≡ 0 }
 {
     let link = fields.number();
     let feed = fields.named(FEEDS.as_slice())?;
@@ -75,7 +75,7 @@ fn tell(feeds: &mut Feeds, fields: &mut Fields) -> Answer {
 
 /// These links leave.
 fn leave(feeds: &mut Feeds, fields: &mut Fields) -> Answer
-    requires { feeds.old.settled ≡ true }
+    requires { feeds.old.waiting ≡ 0 }
 {
     feeds.drop_these(fields.numbers()?.as_slice());
     said(fields.alloc, "done")

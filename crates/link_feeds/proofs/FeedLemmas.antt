@@ -1,11 +1,10 @@
 -- What comes to links, matched at once or later.
-use Rattle.std.proofs.Common.{◌≡◌, ℕ, ◌+◌, ◌-◌, ◌^◌, ◌<◌, true, false, List, [], ◌∷◌, ◌++◌, length, map, refl, sym, ap, ◌∙◌, subst, take, drop, take_all, append-nil, arith, slice_set, slice_get, get_or, Some, min}
+use Rattle.std.proofs.Common.{◌≡◌, ℕ, ◌+◌, ◌-◌, ◌^◌, ◌<◌, List, [], ◌∷◌, ◌++◌, length, map, refl, sym, ap, ◌∙◌, subst, take, drop, take_all, append-nil, arith, slice_set, slice_get, get_or, Some, min}
 use Rattle.std.specs.List.{sum_by}
 use Rattle.std.proofs.lemmas.Option.{get_or_from_slice_get}
 use Rattle.std.proofs.lemmas.List.Sums.{sum_by_more}
 use Rattle.std.specs.List.{All}
-use Rattle.std.proofs.lemmas.Bool.{true≢false}
-use Rattle.std.proofs.lemmas.List.{drop_all, drop_more, length-map, map-append, map-id}
+use Rattle.std.proofs.lemmas.List.{drop_all, drop_more, length-append, length-map, map-append, map-id}
 use Rattle.std.proofs.lemmas.Simd.{map-map}
 use Rattle.std.proofs.lemmas.List.Elements.{All-append, All-cons, All-nil}
 use Rattle.std.proofs.lemmas.List.Sums.{fold-append}
@@ -14,7 +13,7 @@ use Rattle.worker_match.specs.Items.{item_seen, items_seen}
 use Rattle.worker_match.specs.declared.items.Item.{Item}
 use Rattle.worker_match.specs.Seen.{LinkSeen, ItemSeen}
 use Rattle.worker_match.specs.Walk.{IsOrdered, after, walked}
-use Rattle.link_feeds.specs.Feeds.{FeedsSeen, is_nothing, met_by, put_in, put_of, seen_after, with_taken}
+use Rattle.link_feeds.specs.Feeds.{FeedsSeen, met_by, put_in, put_of, seen_after, with_taken}
 
 -- all items that came are in order, and so are they with one more
 pub one_ordered : (item : Item) → IsOrdered (item_seen item) → All IsOrdered (items_seen (item ∷ []))
@@ -24,20 +23,19 @@ pub more_ordered : (items : List Item) (item : Item) → All IsOrdered (items_se
 more_ordered items item before ordered =
     subst (All IsOrdered) (sym (map-append item_seen items (item ∷ []))) (All-append IsOrdered (items_seen items) (items_seen (item ∷ [])) before (one_ordered item ordered))
 
-not_nothing : (items : List ItemSeen) (item : ItemSeen) → is_nothing (items ++ item ∷ []) ≡ false
-not_nothing [] item = refl
-not_nothing (first ∷ items) item = refl
+one_more : (items : List ItemSeen) (item : ItemSeen) → length (items ++ item ∷ []) ≡ length items + 1
+one_more items item = length-append items (item ∷ [])
 
 walked_more : (items : List ItemSeen) (item : ItemSeen) (links : List LinkSeen) → map (walked (items ++ item ∷ [])) links ≡ met_by item (map (walked items) links)
 walked_more items item links = (λ i. map (λ link. fold-append after link items (item ∷ []) i) links) ∙ sym (map-map (λ link. after link item) (walked items) links)
 
 -- one thing more comes to links
 pub brought : (items : List Item) (item : Item) (links : List LinkSeen)
-    → seen_after links (items_seen (items ++ item ∷ [])) ≡ record { links = met_by (item_seen item) (map (walked (items_seen items)) links); settled = false }
+    → seen_after links (items_seen (items ++ item ∷ [])) ≡ record { links = met_by (item_seen item) (map (walked (items_seen items)) links); waiting = length (items_seen items) + 1 }
 brought items item links =
     ap (seen_after links) (map-append item_seen items (item ∷ []))
-    ∙ ap (λ (met : List LinkSeen). record { links = met; settled = is_nothing (items_seen items ++ item_seen item ∷ []) }) (walked_more (items_seen items) (item_seen item) links)
-    ∙ ap (λ b. record { links = met_by (item_seen item) (map (walked (items_seen items)) links); settled = b }) (not_nothing (items_seen items) (item_seen item))
+    ∙ ap (λ (met : List LinkSeen). record { links = met; waiting = length (items_seen items ++ item_seen item ∷ []) }) (walked_more (items_seen items) (item_seen item) links)
+    ∙ ap (λ n. record { links = met_by (item_seen item) (map (walked (items_seen items)) links); waiting = n }) (one_more (items_seen items) (item_seen item))
 
 -- one that came is met
 pub walk_more : (items : List Item) (i : ℕ) (x : Item) (link new total : LinkSeen) → i < length items → x ≡ get_or items i x → new ≡ after link (item_seen x)
@@ -48,8 +46,8 @@ walk_more items i x link new total lt at is so_far =
     ∙ so_far
 
 -- what came is matched
-pub matched : (items : List ItemSeen) (links : List LinkSeen) → seen_after (map (walked items) links) [] ≡ record { links = map (walked items) links; settled = true }
-matched items links = ap (λ (met : List LinkSeen). record { links = met; settled = true }) (map-id (map (walked items) links))
+pub matched : (items : List ItemSeen) (links : List LinkSeen) → seen_after (map (walked items) links) [] ≡ record { links = map (walked items) links; waiting = 0 }
+matched items links = ap (λ (met : List LinkSeen). record { links = met; waiting = 0 }) (map-id (map (walked items) links))
 
 -- a vector whose elements were all written holds what was written
 pub all_written : {X : Type 0} (size : ℕ) (new old : List X) → length new ≡ length old → size ≡ length old → take size (new ++ drop (length new) old) ≡ new
@@ -58,27 +56,27 @@ all_written size new old same whole =
 
 -- the same of a vector of links that was written through a slice, once what came was let go
 pub matched_all : (items : List ItemSeen) (states : List LinkSeen) (seen : FeedsSeen) → seen_after states items ≡ seen → (size : ℕ) (new old : List LinkSeen) (came left : List ItemSeen)
-    → came ≡ items → old ≡ states → size ≡ length states → new ≡ map (walked came) old → left ≡ [] → seen_after (take size (new ++ drop (length new) states)) left ≡ record seen { settled = true }
+    → came ≡ items → old ≡ states → size ≡ length states → new ≡ map (walked came) old → left ≡ [] → seen_after (take size (new ++ drop (length new) states)) left ≡ record seen { waiting = 0 }
 matched_all items states seen is size new old came left same at whole met none =
     let here : new ≡ map (walked items) states = met ∙ ap (map (walked came)) at ∙ ap (λ came. map (walked came) states) same in
     let many : length new ≡ length states = ap length here ∙ length-map states (walked items) in
     ap (λ links. seen_after links left) (all_written size new states many whole ∙ here)
     ∙ ap (seen_after (map (walked items) states)) none
     ∙ matched items states
-    ∙ ap (λ (feeds : FeedsSeen). record { links = feeds.links; settled = true }) is
+    ∙ ap (λ (feeds : FeedsSeen). record { links = feeds.links; waiting = 0 }) is
 
 -- where all that came is matched, links are as they stand
-pub standing : (items : List ItemSeen) (links : List LinkSeen) → is_nothing items ≡ true → map (walked items) links ≡ links
+pub standing : (items : List ItemSeen) (links : List LinkSeen) → length items ≡ 0 → map (walked items) links ≡ links
 standing [] links nothing = map-id links
-standing (item ∷ items) links nothing = absurd (true≢false (sym nothing))
+standing (item ∷ items) links nothing = absurd (omega (arith, nothing))
 
 -- a link whose queue some bytes were taken of
 pub queue_taken : (inside link : LinkSeen) (n : ℕ) (queue : QueueSeen) → inside ≡ link → queue ≡ without_bytes n inside.queue → record inside { queue = queue } ≡ with_taken n link
 queue_taken inside link n queue is taken = ap (λ (q : QueueSeen). record inside { queue = q }) taken ∙ ap (with_taken n) is
 
-module _ (items : List ItemSeen) (states : List LinkSeen) (seen : FeedsSeen) (is : seen_after states items ≡ seen) (settled : seen.settled ≡ true) where
-  pub nothing_left : is_nothing items ≡ true
-  nothing_left = ap (λ (feeds : FeedsSeen). feeds.settled) is ∙ settled
+module _ (items : List ItemSeen) (states : List LinkSeen) (seen : FeedsSeen) (is : seen_after states items ≡ seen) (settled : seen.waiting ≡ 0) where
+  pub nothing_left : length items ≡ 0
+  nothing_left = ap (λ (feeds : FeedsSeen). feeds.waiting) is ∙ settled
 
   -- all that came is matched: links are seen as they stand
   pub seen_standing : seen.links ≡ states
@@ -87,8 +85,8 @@ module _ (items : List ItemSeen) (states : List LinkSeen) (seen : FeedsSeen) (is
   -- and so they are once they were written
   pub written : (f : List LinkSeen → List LinkSeen) (new : List LinkSeen) → new ≡ f states → seen_after new items ≡ record seen { links = f seen.links }
   written f new changed =
-      ap (λ (links : List LinkSeen). record { links = links; settled = is_nothing items }) (standing items new nothing_left ∙ changed ∙ ap f (sym seen_standing))
-      ∙ ap (λ b. record { links = f seen.links; settled = b }) (nothing_left ∙ sym settled)
+      ap (λ (links : List LinkSeen). record { links = links; waiting = length items }) (standing items new nothing_left ∙ changed ∙ ap f (sym seen_standing))
+      ∙ ap (λ n. record { links = f seen.links; waiting = n }) (nothing_left ∙ sym settled)
 
   -- the same, where all of them were written through a slice
   pub all_changed : (f : List LinkSeen → List LinkSeen) (size : ℕ) (new old : List LinkSeen) → length new ≡ length states → size ≡ length states → old ≡ states → new ≡ f old

@@ -1,5 +1,5 @@
 -- The links with all that came to them, whether it was matched yet or not.
-use Rattle.std.specs.Prelude.{ℕ, ◌^◌, ◌-◌, ◌==◌, ◌||◌, Bool, true, false, not, min, List, [], ◌∷◌, map, Option, Some, None}
+use Rattle.std.specs.Prelude.{ℕ, ◌^◌, ◌-◌, ◌==◌, ◌||◌, Bool, true, false, not, min, List, [], ◌∷◌, length, map, Option, Some, None}
 use Rattle.std.specs.List.{list_any, sum_by}
 use Rattle.filter_lang.specs.Terms.{TermSeen}
 use Rattle.filter_eval.specs.Passes.{fresh}
@@ -10,17 +10,13 @@ use Rattle.worker_match.specs.Walk.{after, walked}
 use Rattle.worker_match.specs.declared.links.Feed.{Feed}
 use Rattle.worker_match.specs.declared.links.Feed.TheVariants as feed
 
--- the links as what came leaves them, and whether all of it was matched
+-- the links as what came leaves them, and how many things came that aren't matched yet
 pub record FeedsSeen : Type 0 where
   pub links : List LinkSeen
-  pub settled : Bool
-
-abbrev pub is_nothing : {X : Type 0} → List X → Bool
-is_nothing [] = true
-is_nothing (x ∷ xs) = false
+  pub waiting : ℕ
 
 abbrev pub seen_after : List LinkSeen → List ItemSeen → FeedsSeen
-seen_after links items = record { links = map (walked items) links; settled = is_nothing items }
+seen_after links items = record { links = map (walked items) links; waiting = length items }
 
 -- each link as an item leaves it
 abbrev pub met_by : ItemSeen → List LinkSeen → List LinkSeen

@@ -1,5 +1,5 @@
 //! The links, and what came to them since it was last matched.
-ghost use Rattle.std.specs.Prelude.{◌≡◌, ◌==◌, ◌++◌, ◌∷◌, ◌≤◌, ◌<◌, [], IfOk, IfSome, OnErr, OnOk, Some, drop, false, true, filter, length, map, min, slice_get, slice_set, take};
+ghost use Rattle.std.specs.Prelude.{◌≡◌, ◌==◌, ◌++◌, ◌∷◌, ◌≤◌, ◌<◌, ◌+◌, [], IfOk, IfSome, OnErr, OnOk, Some, drop, false, true, filter, length, map, min, slice_get, slice_set, take};
 ghost use Rattle.std.specs.Arc.{arc_value};
 ghost use Rattle.link_queue.specs.Queues.{pending_bytes};
 ghost use Rattle.link_feeds.specs.Feeds.{counted, forgotten, is_other, is_over, is_served, left, link_of, met_by, new_feed, put_in, told, with_login, with_taken, with_terms};
@@ -70,8 +70,7 @@ fn parts_for(links: usize, things: usize, workers: u32) -> u32
 impl Feeds {
     /// No links, and nothing that came.
     pub fn new(alloc: Global) -> Feeds
-        ensures links { result.links ≡ [] }
-        ensures settled { result.settled ≡ true }
+        ensures { result ≡ record { links = []; waiting = 0 } }
     {
         Feeds {
             states: Vec::new(alloc),
@@ -89,7 +88,7 @@ impl Feeds {
 
     /// How many things came that aren't matched yet.
     pub fn waiting(&self) -> usize
-        ensures { (result == 0) ≡ self.now.settled }
+        ensures { result ≡ self.now.waiting }
     {
         self.items.len()
     }
@@ -104,7 +103,7 @@ impl Feeds {
         inbound: bool,
         first: Arc<Line>,
     ) -> Result<(), Memory>
-        requires { self.old.settled ≡ true }
+        requires { self.old.waiting ≡ 0 }
         ensures ok { OnOk result (self.new ≡ record self.old { links = self.old.links ++ new_feed link feed inbound (arc_value first) ∷ [] }) }
         ensures err { OnErr result (self.new ≡ self.old) }
     {
@@ -117,7 +116,7 @@ impl Feeds {
     /// Something comes to the links. `Memory` changes nothing.
     pub fn bring(&mut self, item: Item) -> Result<(), Memory>
         requires { IsOrdered (item_seen item) }
-        ensures ok { OnOk result (self.new ≡ record { links = met_by (item_seen item) self.old.links; settled = false }) }
+        ensures ok { OnOk result (self.new ≡ record { links = met_by (item_seen item) self.old.links; waiting = self.old.waiting + 1 }) }
         ensures err { OnErr result (self.new ≡ self.old) }
     {
         self.items.push(item)?;
@@ -131,7 +130,7 @@ impl Feeds {
         crew: &Crew<R, G>,
     ) -> Result<(), Memory>
         requires { (1 ≤ crew.now.workers) × (crew.now.workers ≤ 64) }
-        ensures { OnOk result (self.new ≡ record self.old { settled = true }) }
+        ensures { OnOk result (self.new ≡ record self.old { waiting = 0 }) }
     {
         let things = self.items.len().saturating_add(self.news);
         if things == 0 {
@@ -152,7 +151,7 @@ impl Feeds {
 
     /// The same by this thread alone, through no gate.
     pub fn settle_alone(&mut self) -> Result<(), Memory>
-        ensures { OnOk result (self.new ≡ record self.old { settled = true }) }
+        ensures { OnOk result (self.new ≡ record self.old { waiting = 0 }) }
     {
         if self.items.is_empty() {
             return Ok(());
@@ -165,7 +164,7 @@ impl Feeds {
     /// How many packet lines were put into the queues since that was last counted, at most the greatest u64. What came must have
     /// been matched.
     pub fn put(&self) -> u64
-        requires { self.now.settled ≡ true }
+        requires { self.now.waiting ≡ 0 }
         ensures { result ≡ put_in self.now.links }
     {
         put_by(self.states.as_slice())
@@ -173,7 +172,7 @@ impl Feeds {
 
     /// Says how many packet lines were put into the queues, and counts from then on anew. What came must have been matched.
     pub fn count_put(&mut self) -> u64
-        requires { self.old.settled ≡ true }
+        requires { self.old.waiting ≡ 0 }
         ensures count { result ≡ put_in self.old.links }
         ensures counted { self.new ≡ record self.old { links = map counted self.old.links } }
     {
@@ -184,7 +183,7 @@ impl Feeds {
 
     /// Positions that are too old at that moment, in seconds, are let go. What came must have been matched.
     pub fn forget(&mut self, now: u64)
-        requires { self.old.settled ≡ true }
+        requires { self.old.waiting ≡ 0 }
         ensures { self.new ≡ record self.old { links = map (forgotten now) self.old.links } }
     {
         forget_each(self.states.as_mut_slice(), now);
@@ -192,7 +191,7 @@ impl Feeds {
 
     /// The links of these numbers leave. What came must have been matched.
     pub fn drop_these(&mut self, numbers: &[u32])
-        requires { self.old.settled ≡ true }
+        requires { self.old.waiting ≡ 0 }
         ensures { self.new ≡ record self.old { links = filter (is_other numbers.now) self.old.links } }
     {
         drop_each(&mut self.states, numbers);
@@ -201,7 +200,7 @@ impl Feeds {
     /// The link at that place leaves: it comes to nothing any more, and keeps its place until those that left are let go. What came
     /// must have been matched.
     pub fn leave(&mut self, place: usize)
-        requires settled { self.old.settled ≡ true }
+        requires settled { self.old.waiting ≡ 0 }
         requires within { place < length self.old.links }
         ensures { (link : LinkSeen) → slice_get self.old.links place ≡ Some link → self.new ≡ record self.old { links = slice_set self.old.links place (left link) } }
     {
@@ -210,7 +209,7 @@ impl Feeds {
 
     /// All links that left are let go. What came must have been matched.
     pub fn sweep(&mut self)
-        requires { self.old.settled ≡ true }
+        requires { self.old.waiting ≡ 0 }
         ensures { self.new ≡ record self.old { links = filter is_served self.old.links } }
     {
         sweep(&mut self.states);
@@ -218,7 +217,7 @@ impl Feeds {
 
     /// All links leave, and nothing waits to be matched.
     pub fn clear(&mut self)
-        ensures { self.new ≡ record { links = []; settled = true } }
+        ensures { self.new ≡ record { links = []; waiting = 0 } }
     {
         self.states.clear();
         self.items.clear();
@@ -227,7 +226,7 @@ impl Feeds {
 
     /// The numbers of the links that had no room for a line, in the order in which they came. What came must have been matched.
     pub fn overfull(&self, alloc: Global) -> Result<Vec<u32>, Memory>
-        requires { self.now.settled ≡ true }
+        requires { self.now.waiting ≡ 0 }
         ensures { IfOk result (λ numbers. numbers.items ≡ map link_of (filter is_over self.now.links)) }
     {
         overfull(alloc, self.states.as_slice())
@@ -243,7 +242,7 @@ impl Feeds {
         mine: Option<Seen>,
         reply: Arc<Line>,
     )
-        requires settled { self.old.settled ≡ true }
+        requires settled { self.old.waiting ≡ 0 }
         requires within { place < length self.old.links }
         ensures { (link : LinkSeen) → slice_get self.old.links place ≡ Some link
             → self.new ≡ record self.old { links = slice_set self.old.links place (told (arc_value reply) (with_login feed call mine link)) } }
@@ -260,7 +259,7 @@ impl Feeds {
         friends: Friends,
         reply: Arc<Line>,
     )
-        requires settled { self.old.settled ≡ true }
+        requires settled { self.old.waiting ≡ 0 }
         requires within { place < length self.old.links }
         ensures { (link : LinkSeen) → slice_get self.old.links place ≡ Some link
             → self.new ≡ record self.old { links = slice_set self.old.links place (told (arc_value reply) (with_terms (arc_value filter) friends link)) } }
@@ -270,7 +269,7 @@ impl Feeds {
 
     /// A line for the link at that place alone. What came must have been matched.
     pub fn tell(&mut self, place: usize, line: Arc<Line>)
-        requires settled { self.old.settled ≡ true }
+        requires settled { self.old.waiting ≡ 0 }
         requires within { place < length self.old.links }
         ensures { (link : LinkSeen) → slice_get self.old.links place ≡ Some link → self.new ≡ record self.old { links = slice_set self.old.links place (told (arc_value line) link) } }
     {
@@ -280,7 +279,7 @@ impl Feeds {
     /// Writes the next bytes of the link at that place, as many as there are and as fit, and says how many. The buffer stays as it
     /// was behind them. What came must have been matched.
     pub fn front_bytes(&self, place: usize, out: &mut [u8]) -> usize
-        requires settled { self.now.settled ≡ true }
+        requires settled { self.now.waiting ≡ 0 }
         requires within { place < length self.now.links }
         ensures count { (link : LinkSeen) → slice_get self.now.links place ≡ Some link → result ≡ min (length out.old) (length (pending_bytes link.queue)) }
         ensures bytes { (link : LinkSeen) → slice_get self.now.links place ≡ Some link → take result out.new ≡ take (length out.old) (pending_bytes link.queue) }
@@ -292,7 +291,7 @@ impl Feeds {
     /// All bytes that the link at that place has still to take, where they stand in a text that links share. What came must have
     /// been matched.
     pub fn shared_front(&self, place: usize) -> Option<&[u8]>
-        requires settled { self.now.settled ≡ true }
+        requires settled { self.now.waiting ≡ 0 }
         requires within { place < length self.now.links }
         ensures { (link : LinkSeen) → slice_get self.now.links place ≡ Some link → IfSome result (λ bytes. bytes.now ≡ pending_bytes link.queue) }
     {
@@ -301,7 +300,7 @@ impl Feeds {
 
     /// How many bytes the link at that place has still to take. What came must have been matched.
     pub fn pending(&self, place: usize) -> usize
-        requires settled { self.now.settled ≡ true }
+        requires settled { self.now.waiting ≡ 0 }
         requires within { place < length self.now.links }
         ensures { (link : LinkSeen) → slice_get self.now.links place ≡ Some link → result ≡ length (pending_bytes link.queue) }
     {
@@ -310,7 +309,7 @@ impl Feeds {
 
     /// The link at that place took the first `n` bytes. What came must have been matched.
     pub fn taken(&mut self, place: usize, n: usize)
-        requires settled { self.old.settled ≡ true }
+        requires settled { self.old.waiting ≡ 0 }
         requires within { place < length self.old.links }
         requires there { (link : LinkSeen) → slice_get self.old.links place ≡ Some link → n ≤ length (pending_bytes link.queue) }
         ensures { (link : LinkSeen) → slice_get self.old.links place ≡ Some link → self.new ≡ record self.old { links = slice_set self.old.links place (with_taken n link) } }

@@ -24,7 +24,7 @@ use Rattle.worker_match.specs.Seen.{Came, ToldAll}
 use Rattle.worker_match.specs.Seen as worker
 use Rattle.worker_match.specs.Walk.{after}
 use Rattle.served_links.specs.Fed.{AllMatch, Matches, feed_of, joined, joined_all, new_half, offer_of, opening_feed, refused_of, shows_kept}
-use Rattle.served_links.specs.Halves.{AreHalves, AtRest, ServedSeen, served_seen}
+use Rattle.served_links.specs.Halves.{AreHalves, AtRest, ServedSeen, served_seen, waiting_after}
 use Rattle.served_links.specs.Links.{Rises, has_that, here, is_at, is_here, is_none_of, is_whole, named_of, number_of, numbers, pending_at, pending_of, when_left}
 use Rattle.served_links.specs.Changes.{at_link, at_moment, has_room, is_asked_at, is_shown_at, takes_packet, takes_shown, with_date, with_packet, with_shown, with_text}
 use Rattle.served_links.specs.Halves.{more}
@@ -40,8 +40,8 @@ use Rattle.served_links.proofs.ServedLemmas.{any_same, any_half, as_many, counte
 abbrev pub links_of : ServedSeen → List LinkSeen
 links_of served = served.links
 
-abbrev pub settled_of : ServedSeen → Bool
-settled_of served = served.settled
+abbrev pub waiting_of : ServedSeen → ℕ
+waiting_of served = served.waiting
 
 abbrev pub rests_of : ServedSeen → Bool
 rests_of served = served.rests
@@ -55,24 +55,24 @@ asked inside view all same f alike =
     ap (λ links. f (here links)) same ∙ sym (alike (here hs) (present hs ss) (match_here hs ss all)) ∙ ap f (joined_here hs ss all) ∙ ap (λ (served : ServedSeen). f served.links) view
 
 -- no link is left
-none_left : (hs : List LinkSeen) (left : FeedsSeen) → (hs ≡ []) × (left ≡ record { links = []; settled = true }) → AreHalves hs left
+none_left : (hs : List LinkSeen) (left : FeedsSeen) → (hs ≡ []) × (left ≡ record { links = []; waiting = 0 }) → AreHalves hs left
 none_left hs left gone = subst (λ ls. AreHalves ls left) (sym gone.0) (subst (AreHalves []) (sym gone.1) (record { match = tt; rising = omega arith }))
 
-none_rests : (rests : Bool) (hs : List LinkSeen) (left : FeedsSeen) → (hs ≡ []) × (left ≡ record { links = []; settled = true }) → AtRest rests hs left
-none_rests rests hs left gone = (λ rest. ap (λ (f : FeedsSeen). f.settled) gone.1, λ rest. ap is_whole gone.0)
+none_rests : (rests : Bool) (hs : List LinkSeen) (left : FeedsSeen) → (hs ≡ []) × (left ≡ record { links = []; waiting = 0 }) → AtRest rests hs left
+none_rests rests hs left gone = (λ rest. ap (λ (f : FeedsSeen). f.waiting) gone.1, λ rest. ap is_whole gone.0)
 
 -- a step of what the links are, which puts no packet line
 pub seen_changed : (hs new_hs : List LinkSeen) (feeds new : FeedsSeen) (queued : ℕ) (rests : Bool) (now : ServedSeen) (links : List LinkSeen) → served_seen hs feeds queued rests ≡ now
-    → here (joined_all new_hs new.links) ≡ links → put_in new.links ≡ put_in feeds.links → new.settled ≡ feeds.settled → served_seen new_hs new queued rests ≡ record now { links = links }
+    → here (joined_all new_hs new.links) ≡ links → put_in new.links ≡ put_in feeds.links → new.waiting ≡ feeds.waiting → served_seen new_hs new queued rests ≡ record now { links = links }
 seen_changed hs new_hs feeds new queued rests now links is changed put settled =
-    ap (λ (ls : List LinkSeen). record { links = ls; queued = more (put_in new.links) queued; settled = new.settled; rests = rests }) changed
-    ∙ ap (λ n. record { links = links; queued = more n queued; settled = new.settled; rests = rests }) put
-    ∙ ap (λ b. record { links = links; queued = more (put_in feeds.links) queued; settled = b; rests = rests }) settled
+    ap (λ (ls : List LinkSeen). record { links = ls; queued = more (put_in new.links) queued; waiting = new.waiting; rests = rests }) changed
+    ∙ ap (λ n. record { links = links; queued = more n queued; waiting = new.waiting; rests = rests }) put
+    ∙ ap (λ n. record { links = links; queued = more (put_in feeds.links) queued; waiting = n; rests = rests }) settled
     ∙ ap (λ (s : ServedSeen). record s { links = links }) is
 
 -- the same of a step at each link, which keeps its number and its opening
 pub seen_stepped : (hs new_hs : List LinkSeen) (feeds new : FeedsSeen) (queued : ℕ) (rests : Bool) (now : ServedSeen) (step : LinkSeen → LinkSeen) → ((link : LinkSeen) → named_of (step link) ≡ named_of link)
-    → served_seen hs feeds queued rests ≡ now → joined_all new_hs new.links ≡ map step (joined_all hs feeds.links) → put_in new.links ≡ put_in feeds.links → new.settled ≡ feeds.settled
+    → served_seen hs feeds queued rests ≡ now → joined_all new_hs new.links ≡ map step (joined_all hs feeds.links) → put_in new.links ≡ put_in feeds.links → new.waiting ≡ feeds.waiting
     → served_seen new_hs new queued rests ≡ record now { links = map step now.links }
 seen_stepped hs new_hs feeds new queued rests now step same is changed put settled =
     seen_changed hs new_hs feeds new queued rests now (map step now.links) is
@@ -94,13 +94,13 @@ none_more hs feeds queued rests now view =
 -- after want of memory no link is left
 pub met_are : {E : Type 0} (r : Result ⊤ E) (inside : Inside) (left_hs : List LinkSeen) (left : FeedsSeen) (item : worker.ItemSeen) → AreHalves inside.halves inside.feeds
     → ((h : LinkSeen) (s : worker.LinkSeen) → Matches h s → Matches h (after s item)) → OnOk r (left_hs ≡ inside.halves) → OnOk r (left.links ≡ met_by item inside.feeds.links)
-    → OnOk r (left.settled ≡ inside.rests) → OnErr r ((left_hs ≡ []) × (left ≡ record { links = []; settled = true })) → AtRest inside.rests inside.halves inside.feeds → AreHalves left_hs left × AtRest inside.rests left_hs left
+    → OnOk r (left.waiting ≡ waiting_after inside.rests inside.feeds.waiting) → OnErr r ((left_hs ≡ []) × (left ≡ record { links = []; waiting = 0 })) → AtRest inside.rests inside.halves inside.feeds → AreHalves left_hs left × AtRest inside.rests left_hs left
 met_are (Ok done) inside left_hs left item are kept same met settled gone resting = (
   subst (λ ls. AreHalves ls left) (sym same) (record {
     match = subst (AllMatch inside.halves) (sym met) (states_match (λ s. after s item) kept inside.halves inside.feeds.links are.match);
     rising = are.rising;
   }),
-  (λ rest. settled ∙ rest, λ rest. ap is_whole same ∙ resting.1 rest),
+  (λ rest. settled ∙ ap (λ b. waiting_after b inside.feeds.waiting) rest, λ rest. ap is_whole same ∙ resting.1 rest),
 )
 met_are (Err e) inside left_hs left item are kept same met settled gone resting = (none_left left_hs left gone, none_rests inside.rests left_hs left gone)
 
@@ -109,7 +109,7 @@ pub numbers_here : (hs : List LinkSeen) (ss : List worker.LinkSeen) → AllMatch
 numbers_here hs ss all = ap numbers (sym (joined_here hs ss all)) ∙ numbers_same (here hs) (present hs ss) (match_here hs ss all)
 
 pub met_rises : {E : Type 0} (r : Result ⊤ E) (inside : Inside) (left_hs : List LinkSeen) (left : FeedsSeen) {now : ServedSeen} → served_seen inside.halves inside.feeds inside.queued inside.rests ≡ now
-    → AreHalves inside.halves inside.feeds → AreHalves left_hs left → OnOk r (left_hs ≡ inside.halves) → OnErr r ((left_hs ≡ []) × (left ≡ record { links = []; settled = true }))
+    → AreHalves inside.halves inside.feeds → AreHalves left_hs left → OnOk r (left_hs ≡ inside.halves) → OnErr r ((left_hs ≡ []) × (left ≡ record { links = []; waiting = 0 }))
     → (high : ℕ) → Rises 0 (numbers now.links) high → Rises 0 (numbers (here (joined_all left_hs left.links))) high
 met_rises (Ok done) inside left_hs left view are left_are same gone high rises =
     let hs = inside.halves in
@@ -122,34 +122,34 @@ pub met_seen : {E : Type 0} (r : Result ⊤ E) (step : LinkSeen → LinkSeen) (c
     → ((link : LinkSeen) → named_of (step link) ≡ named_of link)
     → joined_all inside.halves (met_by item inside.feeds.links) ≡ map step (joined_all inside.halves inside.feeds.links)
     → more (put_in (met_by item inside.feeds.links)) inside.queued ≡ count (served_seen inside.halves inside.feeds inside.queued inside.rests)
-    → OnOk r (left_hs ≡ inside.halves) → OnOk r (left.links ≡ met_by item inside.feeds.links) → OnOk r (left.settled ≡ inside.rests)
+    → OnOk r (left_hs ≡ inside.halves) → OnOk r (left.links ≡ met_by item inside.feeds.links) → OnOk r (left.waiting ≡ waiting_after inside.rests inside.feeds.waiting)
     → served_seen inside.halves inside.feeds inside.queued inside.rests ≡ now
-    → OnOk r (served_seen left_hs left inside.queued inside.rests ≡ record now { links = map step now.links; queued = count now; settled = now.rests })
+    → OnOk r (served_seen left_hs left inside.queued inside.rests ≡ record now { links = map step now.links; queued = count now; waiting = waiting_after now.rests now.waiting })
 met_seen (Ok done) step count inside left_hs left item keeps stepped counts same met settled is =
     let met_links = met_by item inside.feeds.links in
     let links = joined_all inside.halves inside.feeds.links in
     ap (λ ls. served_seen ls left inside.queued inside.rests) same
-    ∙ ap (λ (ls : List worker.LinkSeen). record { links = here (joined_all inside.halves ls); queued = more (put_in ls) inside.queued; settled = left.settled; rests = inside.rests }) met
-    ∙ ap (λ b. record { links = here (joined_all inside.halves met_links); queued = more (put_in met_links) inside.queued; settled = b; rests = inside.rests }) settled
-    ∙ ap (λ (ls : List LinkSeen). record { links = ls; queued = more (put_in met_links) inside.queued; settled = inside.rests; rests = inside.rests }) (ap here stepped ∙ here_stepped step keeps links)
-    ∙ ap (λ m. record { links = map step (here links); queued = m; settled = inside.rests; rests = inside.rests }) counts
-    ∙ ap (λ (s : ServedSeen). record s { links = map step s.links; queued = count s; settled = s.rests }) is
+    ∙ ap (λ (ls : List worker.LinkSeen). record { links = here (joined_all inside.halves ls); queued = more (put_in ls) inside.queued; waiting = left.waiting; rests = inside.rests }) met
+    ∙ ap (λ n. record { links = here (joined_all inside.halves met_links); queued = more (put_in met_links) inside.queued; waiting = n; rests = inside.rests }) settled
+    ∙ ap (λ (ls : List LinkSeen). record { links = ls; queued = more (put_in met_links) inside.queued; waiting = waiting_after inside.rests inside.feeds.waiting; rests = inside.rests }) (ap here stepped ∙ here_stepped step keeps links)
+    ∙ ap (λ m. record { links = map step (here links); queued = m; waiting = waiting_after inside.rests inside.feeds.waiting; rests = inside.rests }) counts
+    ∙ ap (λ (s : ServedSeen). record s { links = map step s.links; queued = count s; waiting = waiting_after s.rests s.waiting }) is
 met_seen (Err e) step count inside left_hs left item keeps stepped counts same met settled is = tt
 
 -- all that came is matched
 pub settled_are : {E : Type 0} (r : Result ⊤ E) (inside : Inside) (left_hs : List LinkSeen) (left : FeedsSeen) → AreHalves inside.halves inside.feeds → OnOk r (left_hs ≡ inside.halves)
-    → OnOk r (left ≡ record inside.feeds { settled = true }) → OnErr r ((left_hs ≡ []) × (left ≡ record { links = []; settled = true })) → AtRest inside.rests inside.halves inside.feeds → AreHalves left_hs left × AtRest inside.rests left_hs left
+    → OnOk r (left ≡ record inside.feeds { waiting = 0 }) → OnErr r ((left_hs ≡ []) × (left ≡ record { links = []; waiting = 0 })) → AtRest inside.rests inside.halves inside.feeds → AreHalves left_hs left × AtRest inside.rests left_hs left
 settled_are (Ok done) inside left_hs left are same is gone resting = (
   subst (λ ls. AreHalves ls left) (sym same) (subst (AreHalves inside.halves) (sym is) (record { match = are.match; rising = are.rising })),
-  (λ rest. ap (λ (f : FeedsSeen). f.settled) is, λ rest. ap is_whole same ∙ resting.1 rest),
+  (λ rest. ap (λ (f : FeedsSeen). f.waiting) is, λ rest. ap is_whole same ∙ resting.1 rest),
 )
 settled_are (Err e) inside left_hs left are same is gone resting = (none_left left_hs left gone, none_rests inside.rests left_hs left gone)
 
 pub settled_seen : {E : Type 0} (r : Result ⊤ E) (inside : Inside) (left_hs : List LinkSeen) (left : FeedsSeen) {now : ServedSeen} → OnOk r (left_hs ≡ inside.halves)
-    → OnOk r (left ≡ record inside.feeds { settled = true }) → served_seen inside.halves inside.feeds inside.queued inside.rests ≡ now
-    → OnOk r (served_seen left_hs left inside.queued inside.rests ≡ record now { settled = true })
+    → OnOk r (left ≡ record inside.feeds { waiting = 0 }) → served_seen inside.halves inside.feeds inside.queued inside.rests ≡ now
+    → OnOk r (served_seen left_hs left inside.queued inside.rests ≡ record now { waiting = 0 })
 settled_seen (Ok done) inside left_hs left same is view =
-    ap (λ ls. served_seen ls left inside.queued inside.rests) same ∙ ap (λ f. served_seen inside.halves f inside.queued inside.rests) is ∙ ap (λ (s : ServedSeen). record s { settled = true }) view
+    ap (λ ls. served_seen ls left inside.queued inside.rests) same ∙ ap (λ f. served_seen inside.halves f inside.queued inside.rests) is ∙ ap (λ (s : ServedSeen). record s { waiting = 0 }) view
 settled_seen (Err e) inside left_hs left same is view = tt
 
 -- a duplicate that is shown to nobody
@@ -217,10 +217,10 @@ left_seen ns hs left_hs feeds counts left put queued total rests now are halves 
     ap (λ ls. served_seen ls left total rests) halves
     ∙ ap (λ f. served_seen (filter (is_none_of ns) hs) f total rests) is
     ∙ ap (λ (f : FeedsSeen). served_seen (filter (is_none_of ns) hs) (record f { links = filter (is_other ns) f.links }) total rests) counting
-    ∙ ap (λ (ls : List LinkSeen). record { links = ls; queued = more (put_in (filter (is_other ns) ss)) total; settled = feeds.settled; rests = rests })
+    ∙ ap (λ (ls : List LinkSeen). record { links = ls; queued = more (put_in (filter (is_other ns) ss)) total; waiting = feeds.waiting; rests = rests })
     (ap here (joined_left ns hs ss match ∙ ap (filter (is_none_of ns)) (counted_all hs feeds.links)) ∙ here_filter (is_none_of ns) (joined_all hs feeds.links))
-    ∙ ap (λ n. record { links = filter (is_none_of ns) (here (joined_all hs feeds.links)); queued = more n total; settled = feeds.settled; rests = rests }) none
-    ∙ ap (λ n. record { links = filter (is_none_of ns) (here (joined_all hs feeds.links)); queued = n; settled = feeds.settled; rests = rests }) (ap (more 0) is_total ∙ none_later queued (put_in feeds.links))
+    ∙ ap (λ n. record { links = filter (is_none_of ns) (here (joined_all hs feeds.links)); queued = more n total; waiting = feeds.waiting; rests = rests }) none
+    ∙ ap (λ n. record { links = filter (is_none_of ns) (here (joined_all hs feeds.links)); queued = n; waiting = feeds.waiting; rests = rests }) (ap (more 0) is_total ∙ none_later queued (put_in feeds.links))
     ∙ ap (λ (s : ServedSeen). record s { links = filter (is_none_of ns) s.links }) view
 
 -- where no number is named none leaves
@@ -279,8 +279,8 @@ module _ (hs : List LinkSeen) (feeds left : FeedsSeen) (are : AreHalves hs feeds
         rising = subst (λ ns. Rises 0 ns (2 ^ 32)) (sym (map-set_same number_of hs place new h (same ∙ ap number_of at))) are.rising;
       })
 
-  pub changed_settled : left.settled ≡ feeds.settled
-  changed_settled = ap (λ (f : FeedsSeen). f.settled) is
+  pub changed_settled : left.waiting ≡ feeds.waiting
+  changed_settled = ap (λ (f : FeedsSeen). f.waiting) is
 
   pub changed_put : t.put ≡ s.put → put_in left.links ≡ put_in feeds.links
   changed_put put =
@@ -328,7 +328,7 @@ module _ (number : ℕ) (hs searched : List LinkSeen) (feeds left : FeedsSeen) (
       (changed_are hs feeds left are place half.0 half.0 state.0 (told line (f state.0)) within half.1 state.2 (is state.0 state.1)
       (told_matches half.0 (f state.0).link line (f state.0) fed) refl)
 
-  told_settled : left.settled ≡ feeds.settled
+  told_settled : left.waiting ≡ feeds.waiting
   told_settled = changed_settled hs feeds left are place half.0 half.0 state.0 (told line (f state.0)) within half.1 state.2 (is state.0 state.1)
 
   pub told_are : {rests : Bool} → AtRest rests hs feeds → AreHalves hs left × AtRest rests hs left
@@ -400,7 +400,7 @@ module _ (number : ℕ) (hs searched : List LinkSeen) (feeds left : FeedsSeen) (
   changed_halves =
       subst (λ ls. AreHalves ls left) (sym put_there) (changed_are hs feeds left are place h (g h) s (f s) within half_is.2 fed_is.2 (is s fed_is.1) (kept h s half_is.1 matches) (numbered h))
 
-  both_settled : left.settled ≡ feeds.settled
+  both_settled : left.waiting ≡ feeds.waiting
   both_settled = changed_settled hs feeds left are place h (g h) s (f s) within half_is.2 fed_is.2 (is s fed_is.1)
 
   both_links : (step : LinkSeen → LinkSeen) → Some place ≡ position (has_that number) searched → ((h : LinkSeen) (s : worker.LinkSeen) → slice_get hs place ≡ Some h → Matches h s → joined (g h) (f s) ≡ step (joined h s))
@@ -574,9 +574,9 @@ recounted put left queued before is = omega (arith, is)
 
 -- and nothing else changes
 pub swept_same : (hs new_hs : List LinkSeen) (feeds left : FeedsSeen) (put queued total : ℕ) (rests : Bool) → here (joined_all new_hs left.links) ≡ here (joined_all hs feeds.links) → more (put_in left.links) put ≡ put_in feeds.links
-    → total ≡ min (queued + put) (2 ^ 64 - 1) → left.settled ≡ feeds.settled → served_seen new_hs left total rests ≡ served_seen hs feeds queued rests
+    → total ≡ min (queued + put) (2 ^ 64 - 1) → left.waiting ≡ feeds.waiting → served_seen new_hs left total rests ≡ served_seen hs feeds queued rests
 swept_same hs new_hs feeds left put queued total rests links counts sum settled =
-    ap (λ (ls : List LinkSeen). record { links = ls; queued = more (put_in left.links) total; settled = left.settled; rests = rests }) links
-    ∙ ap (λ n. record { links = here (joined_all hs feeds.links); queued = n; settled = left.settled; rests = rests })
+    ap (λ (ls : List LinkSeen). record { links = ls; queued = more (put_in left.links) total; waiting = left.waiting; rests = rests }) links
+    ∙ ap (λ n. record { links = here (joined_all hs feeds.links); queued = n; waiting = left.waiting; rests = rests })
     (ap (more (put_in left.links)) sum ∙ recounted put (put_in left.links) queued (put_in feeds.links) counts)
-    ∙ ap (λ b. record { links = here (joined_all hs feeds.links); queued = more (put_in feeds.links) queued; settled = b; rests = rests }) settled
+    ∙ ap (λ n. record { links = here (joined_all hs feeds.links); queued = more (put_in feeds.links) queued; waiting = n; rests = rests }) settled

@@ -1,17 +1,21 @@
 -- The links that are served, whose halves are kept side by side.
-use Rattle.std.specs.Prelude.{◌≡◌, true, ℕ, ◌+◌, ◌-◌, ◌^◌, Bool, List, min}
+use Rattle.std.specs.Prelude.{◌≡◌, true, ℕ, ◌+◌, ◌-◌, ◌^◌, Bool, List, if◌then◌else◌, min}
 use Rattle.aprs_history.specs.Stands.{LinkSeen}
 use Rattle.link_feeds.specs.Feeds.{FeedsSeen, put_in}
 use Rattle.served_links.specs.Fed.{AllMatch, joined_all}
 use Rattle.served_links.specs.Links.{Rises, here, is_whole, numbers}
 
--- the links as what came leaves them, matched or not; how many packet lines were ever put into queues; whether all that came is
--- matched; and whether they rest, since no round is walked
+-- the links as what came leaves them, matched or not; how many packet lines were ever put into queues; how many things came that
+-- aren't matched yet; and whether they rest, since no round is walked
 pub record ServedSeen : Type 0 where
   pub links : List LinkSeen
   pub queued : ℕ
-  pub settled : Bool
+  pub waiting : ℕ
   pub rests : Bool
+
+-- how many wait once one more has come: at rest it is matched at once
+abbrev pub waiting_after : (rests : Bool) → ℕ → ℕ
+waiting_after rests waiting = if rests then 0 else waiting + 1
 
 -- a count that is so much greater, which stays at a counter's last value
 abbrev pub more : ℕ → ℕ → ℕ
@@ -22,7 +26,7 @@ abbrev pub served_seen : List LinkSeen → FeedsSeen → ℕ → Bool → Served
 served_seen halves feeds queued rests = record {
   links = here (joined_all halves feeds.links);
   queued = more (put_in feeds.links) queued;
-  settled = feeds.settled;
+  waiting = feeds.waiting;
   rests = rests;
 }
 
@@ -33,12 +37,12 @@ pub record AreHalves (halves : List LinkSeen) (feeds : FeedsSeen) : Type 0 where
 
 -- where they rest all that came is matched, and none of those that left is kept
 abbrev pub AtRest : Bool → List LinkSeen → FeedsSeen → Type 0
-AtRest rests halves feeds = (rests ≡ true → feeds.settled ≡ true) × (rests ≡ true → is_whole halves ≡ true)
+AtRest rests halves feeds = (rests ≡ true → feeds.waiting ≡ 0) × (rests ≡ true → is_whole halves ≡ true)
 
 -- some that left are let go, and so many packet lines counted before: the links are seen as before
 pub record IsSwept (before : List LinkSeen) (feeds : FeedsSeen) (kept : List LinkSeen) (left : FeedsSeen) (count : ℕ) : Type 0 where
   pub halves : AreHalves kept left
-  pub settled : left.settled ≡ true
+  pub settled : left.waiting ≡ 0
   pub links : here (joined_all kept left.links) ≡ here (joined_all before feeds.links)
   pub put : more (put_in left.links) count ≡ put_in feeds.links
   pub whole : is_whole before ≡ true → is_whole kept ≡ true

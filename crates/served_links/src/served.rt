@@ -11,7 +11,7 @@ ghost use Rattle.link_feeds.specs.Feeds.{met_by};
 ghost use Rattle.served_links.specs.Fed.{AllMatch, joined, joined_all, refused_of};
 ghost use Rattle.served_links.specs.Links.{Rises, client_at, clients_in, filters_at, has_number, held_at, here, is_late_link, is_lost, is_none_of, is_overfull, is_ready, numbers, others_from, pending_at, speaker_at, submitted_from};
 ghost use Rattle.served_links.specs.Changes.{at_link, at_moment, new_link_seen, takes_packet, takes_shown, when_gone, with_bytes, with_date, with_filter, with_packet, with_room, with_session, with_shown, with_taken, with_text};
-ghost use Rattle.served_links.specs.Halves.{AreHalves, IsSwept, more};
+ghost use Rattle.served_links.specs.Halves.{AreHalves, IsSwept, more, waiting_after};
 ghost use Rattle.served_links.specs.EndLines.{late_line, lost_line, stop_line};
 ghost use Rattle.worker_match.specs.Items.{item_seen};
 ghost use Rattle.worker_match.specs.Seen.{Came};
@@ -64,7 +64,7 @@ impl Model for Served {
 impl Served {
     /// No links, at rest.
     pub fn new(alloc: Global) -> Served
-        ensures { result ≡ record { links = []; queued = 0; settled = true; rests = true } }
+        ensures { result ≡ record { links = []; queued = 0; waiting = 0; rests = true } }
     {
         Served {
             halves: Sessions::new(alloc),
@@ -83,7 +83,7 @@ impl Served {
 
     /// How many things came that aren't matched yet.
     pub fn waiting(&self) -> usize
-        ensures { (result == 0) ≡ self.now.settled }
+        ensures { result ≡ self.now.waiting }
     {
         self.feeds.waiting()
     }
@@ -95,7 +95,7 @@ impl Served {
     ) -> Result<(), Memory>
         requires { (1 ≤ crew.now.workers) × (crew.now.workers ≤ 64) }
         ensures rises { (high : ℕ) → Rises 0 (numbers self.old.links) high → Rises 0 (numbers self.new.links) high }
-        ensures ok { OnOk result (self.new ≡ record self.old { settled = true }) }
+        ensures ok { OnOk result (self.new ≡ record self.old { waiting = 0 }) }
     {
         settle(&mut self.halves, &mut self.feeds, crew)
     }
@@ -103,14 +103,14 @@ impl Served {
     /// The same by this thread alone.
     fn settle_alone(&mut self) -> Result<(), Memory>
         ensures rises { (high : ℕ) → Rises 0 (numbers self.old.links) high → Rises 0 (numbers self.new.links) high }
-        ensures ok { OnOk result (self.new ≡ record self.old { settled = true }) }
+        ensures ok { OnOk result (self.new ≡ record self.old { waiting = 0 }) }
     {
         settle_alone(&mut self.halves, &mut self.feeds)
     }
 
     /// A round has been walked, and all that came is matched: the links that left in it are let go.
     pub fn rest(&mut self)
-        requires { self.old.settled ≡ true }
+        requires { self.old.waiting ≡ 0 }
         ensures { self.new ≡ record self.old { rests = true } }
     {
         let put = sweep(&mut self.halves, &mut self.feeds);
@@ -148,7 +148,7 @@ impl Served {
     ) -> Result<(), Memory>
         requires { (high : ℕ) × Rises 0 (numbers self.old.links) high × (high < number) }
         ensures rises { OnErr result ((high : ℕ) → Rises 0 (numbers self.old.links) high → Rises 0 (numbers self.new.links) high) }
-        ensures ok { OnOk result (self.new ≡ record self.old { links = self.old.links ++ new_link_seen number (record { kind = kind; from = from; moment = moment }) first ∷ []; settled = true }) }
+        ensures ok { OnOk result (self.new ≡ record self.old { links = self.old.links ++ new_link_seen number (record { kind = kind; from = from; moment = moment }) first ∷ []; waiting = 0 }) }
     {
         self.settle_alone()?;
         self.push(alloc, number, kind, from, moment, first)
@@ -165,7 +165,7 @@ impl Served {
         first: Line,
     ) -> Result<(), Memory>
         requires rises { (high : ℕ) × Rises 0 (numbers self.old.links) high × (high < number) }
-        requires settled { self.old.settled ≡ true }
+        requires settled { self.old.waiting ≡ 0 }
         ensures ok { OnOk result (self.new ≡ record self.old { links = self.old.links ++ new_link_seen number (record { kind = kind; from = from; moment = moment }) first ∷ [] }) }
         ensures err { OnErr result (self.new ≡ self.old) }
     {
@@ -350,7 +350,7 @@ impl Served {
     ) -> Result<(), Memory>
         requires { IsTrue (is_station session.call) }
         ensures rises { OnErr result ((high : ℕ) → Rises 0 (numbers self.old.links) high → Rises 0 (numbers self.new.links) high) }
-        ensures ok { OnOk result (self.new ≡ record self.old { links = map (at_link number (with_session session mine (arc_value reply))) self.old.links; settled = true }) }
+        ensures ok { OnOk result (self.new ≡ record self.old { links = map (at_link number (with_session session mine (arc_value reply))) self.old.links; waiting = 0 }) }
     {
         self.settle_alone()?;
         self.begin_session(number, session, mine, reply);
@@ -360,7 +360,7 @@ impl Served {
     /// The same where all that came is matched.
     fn begin_session(&mut self, number: u32, session: Session, mine: Option<Seen>, reply: Arc<Line>)
         requires station { IsTrue (is_station session.call) }
-        requires settled { self.old.settled ≡ true }
+        requires settled { self.old.waiting ≡ 0 }
         ensures { self.new ≡ record self.old { links = map (at_link number (with_session session mine (arc_value reply))) self.old.links } }
     {
         let call = copy_call(&session.call);
@@ -384,7 +384,7 @@ impl Served {
     ) -> Result<(), Memory>
         requires { length friends ≡ length (arc_value filter) }
         ensures rises { OnErr result ((high : ℕ) → Rises 0 (numbers self.old.links) high → Rises 0 (numbers self.new.links) high) }
-        ensures ok { OnOk result (self.new ≡ record self.old { links = map (at_link number (with_filter (arc_value filter) friends (arc_value reply))) self.old.links; settled = true }) }
+        ensures ok { OnOk result (self.new ≡ record self.old { links = map (at_link number (with_filter (arc_value filter) friends (arc_value reply))) self.old.links; waiting = 0 }) }
     {
         self.settle_alone()?;
         self.put_filter(number, filter, friends, reply);
@@ -400,7 +400,7 @@ impl Served {
         reply: Arc<Line>,
     )
         requires many { length friends ≡ length (arc_value filter) }
-        requires settled { self.old.settled ≡ true }
+        requires settled { self.old.waiting ≡ 0 }
         ensures { self.new ≡ record self.old { links = map (at_link number (with_filter (arc_value filter) friends (arc_value reply))) self.old.links } }
     {
         match place_of(self.halves.as_slice(), number) {
@@ -414,7 +414,7 @@ impl Served {
     /// A line for the link of that number. After `Memory` no link is left.
     pub fn reply(&mut self, number: u32, line: Arc<Line>) -> Result<(), Memory>
         ensures rises { OnErr result ((high : ℕ) → Rises 0 (numbers self.old.links) high → Rises 0 (numbers self.new.links) high) }
-        ensures ok { OnOk result (self.new ≡ record self.old { links = map (at_link number (with_text (arc_value line))) self.old.links; settled = true }) }
+        ensures ok { OnOk result (self.new ≡ record self.old { links = map (at_link number (with_text (arc_value line))) self.old.links; waiting = 0 }) }
     {
         self.settle_alone()?;
         self.tell(number, line);
@@ -423,7 +423,7 @@ impl Served {
 
     /// The same where all that came is matched.
     fn tell(&mut self, number: u32, line: Arc<Line>)
-        requires { self.old.settled ≡ true }
+        requires { self.old.waiting ≡ 0 }
         ensures { self.new ≡ record self.old { links = map (at_link number (with_text (arc_value line))) self.old.links } }
     {
         match place_of(self.halves.as_slice(), number) {
@@ -452,7 +452,7 @@ impl Served {
         ensures ok { OnOk result (self.new ≡ record self.old {
           links = map (with_packet packet.now source.now hearers.now owed.now) self.old.links;
           queued = more (length (filter (takes_packet packet.now source.now hearers.now owed.now) self.old.links)) self.old.queued;
-          settled = self.old.rests;
+          waiting = waiting_after self.old.rests self.old.waiting;
         }) }
     {
         let item = offered(
@@ -499,7 +499,7 @@ impl Served {
         ensures ok { OnOk result (self.new ≡ record self.old {
           links = map (with_shown from line) self.old.links;
           queued = more (length (filter (takes_shown from) self.old.links)) self.old.queued;
-          settled = self.old.rests;
+          waiting = waiting_after self.old.rests self.old.waiting;
         }) }
     {
         let item = refused(alloc, from, parts, line)?;
@@ -509,7 +509,7 @@ impl Served {
     /// The clients are told the date. After `Memory` no link is left, or all are as they were.
     pub fn tell_all(&mut self, line: Arc<Line>) -> Result<(), Memory>
         ensures rises { (high : ℕ) → Rises 0 (numbers self.old.links) high → Rises 0 (numbers self.new.links) high }
-        ensures ok { OnOk result (self.new ≡ record self.old { links = map (with_date (arc_value line)) self.old.links; settled = self.old.rests }) }
+        ensures ok { OnOk result (self.new ≡ record self.old { links = map (with_date (arc_value line)) self.old.links; waiting = waiting_after self.old.rests self.old.waiting }) }
     {
         come(
             &mut self.halves,
@@ -522,7 +522,7 @@ impl Served {
     /// Positions that count no more are let go. After `Memory` no link is left.
     pub fn forget(&mut self, now: u64) -> Result<(), Memory>
         ensures rises { OnErr result ((high : ℕ) → Rises 0 (numbers self.old.links) high → Rises 0 (numbers self.new.links) high) }
-        ensures ok { OnOk result (self.new ≡ record self.old { links = map (at_moment now) self.old.links; settled = true }) }
+        ensures ok { OnOk result (self.new ≡ record self.old { links = map (at_moment now) self.old.links; waiting = 0 }) }
     {
         self.settle_alone()?;
         self.let_fade(now);
@@ -531,7 +531,7 @@ impl Served {
 
     /// The same where all that came is matched.
     fn let_fade(&mut self, now: u64)
-        requires { self.old.settled ≡ true }
+        requires { self.old.waiting ≡ 0 }
         ensures { self.new ≡ record self.old { links = map (at_moment now) self.old.links } }
     {
         self.feeds.forget(now);
@@ -540,7 +540,7 @@ impl Served {
     /// The links of these numbers leave. After `Memory` no link is left.
     pub fn drop_these(&mut self, ends: &[u32]) -> Result<(), Memory>
         ensures rises { OnErr result ((high : ℕ) → Rises 0 (numbers self.old.links) high → Rises 0 (numbers self.new.links) high) }
-        ensures ok { OnOk result (self.new ≡ record self.old { links = filter (is_none_of ends.now) self.old.links; settled = true }) }
+        ensures ok { OnOk result (self.new ≡ record self.old { links = filter (is_none_of ends.now) self.old.links; waiting = 0 }) }
     {
         self.settle_alone()?;
         self.part_from(ends);
@@ -549,7 +549,7 @@ impl Served {
 
     /// The same where all that came is matched, and what was put is counted before.
     fn part_from(&mut self, ends: &[u32])
-        requires { self.old.settled ≡ true }
+        requires { self.old.waiting ≡ 0 }
         ensures { self.new ≡ record self.old { links = filter (is_none_of ends.now) self.old.links } }
     {
         if ends.is_empty() {
@@ -564,7 +564,7 @@ impl Served {
     /// The link of that number leaves. After `Memory` no link is left.
     pub fn leave(&mut self, number: u32) -> Result<(), Memory>
         ensures rises { OnErr result ((high : ℕ) → Rises 0 (numbers self.old.links) high → Rises 0 (numbers self.new.links) high) }
-        ensures ok { OnOk result (self.new ≡ record self.old { links = filter (is_none_of (number ∷ [])) self.old.links; settled = true }) }
+        ensures ok { OnOk result (self.new ≡ record self.old { links = filter (is_none_of (number ∷ [])) self.old.links; waiting = 0 }) }
     {
         self.settle_alone()?;
         if self.rests {
@@ -577,7 +577,7 @@ impl Served {
 
     /// The same where all that came is matched, and a round is walked: the link keeps its place until it has been.
     fn part_later(&mut self, number: u32)
-        requires settled { self.old.settled ≡ true }
+        requires settled { self.old.waiting ≡ 0 }
         requires wakes { self.old.rests ≡ false }
         ensures { self.new ≡ record self.old { links = filter (is_none_of (number ∷ [])) self.old.links } }
     {
@@ -638,8 +638,8 @@ fn settle<R: Threads + Sync, G: Gate + Sync>(
 ) -> Result<(), Memory>
     requires { (1 ≤ crew.now.workers) × (crew.now.workers ≤ 64) }
     ensures halves { OnOk result (halves.new ≡ halves.old) }
-    ensures feeds { OnOk result (feeds.new ≡ record feeds.old { settled = true }) }
-    ensures cleared { OnErr result ((halves.new ≡ []) × (feeds.new ≡ record { links = []; settled = true })) }
+    ensures feeds { OnOk result (feeds.new ≡ record feeds.old { waiting = 0 }) }
+    ensures cleared { OnErr result ((halves.new ≡ []) × (feeds.new ≡ record { links = []; waiting = 0 })) }
 {
     let done = feeds.settle(crew);
     if done.is_err() {
@@ -652,8 +652,8 @@ fn settle<R: Threads + Sync, G: Gate + Sync>(
 /// The same by this thread alone.
 fn settle_alone(halves: &mut Sessions, feeds: &mut Feeds) -> Result<(), Memory>
     ensures halves { OnOk result (halves.new ≡ halves.old) }
-    ensures feeds { OnOk result (feeds.new ≡ record feeds.old { settled = true }) }
-    ensures cleared { OnErr result ((halves.new ≡ []) × (feeds.new ≡ record { links = []; settled = true })) }
+    ensures feeds { OnOk result (feeds.new ≡ record feeds.old { waiting = 0 }) }
+    ensures cleared { OnErr result ((halves.new ≡ []) × (feeds.new ≡ record { links = []; waiting = 0 })) }
 {
     let done = feeds.settle_alone();
     if done.is_err() {
@@ -665,7 +665,7 @@ fn settle_alone(halves: &mut Sessions, feeds: &mut Feeds) -> Result<(), Memory>
 
 /// The links that left are let go, once what was put is counted: how many lines that is.
 fn sweep(halves: &mut Sessions, feeds: &mut Feeds) -> u64
-    requires settled { feeds.old.settled ≡ true }
+    requires settled { feeds.old.waiting ≡ 0 }
     requires halves { AreHalves halves.old feeds.old }
     ensures swept { IsSwept halves.old feeds.old halves.new feeds.new result }
     ensures here { halves.new ≡ here halves.old }
@@ -681,7 +681,7 @@ fn sweep(halves: &mut Sessions, feeds: &mut Feeds) -> u64
 
 /// The same where a link of that number can't come after those that are kept.
 fn make_way(halves: &mut Sessions, feeds: &mut Feeds, number: u32) -> u64
-    requires settled { feeds.old.settled ≡ true }
+    requires settled { feeds.old.waiting ≡ 0 }
     requires halves { AreHalves halves.old feeds.old }
     ensures swept { IsSwept halves.old feeds.old halves.new feeds.new result }
     ensures below { (high : ℕ) → Rises 0 (numbers (here halves.old)) high → high < number → (last : ℕ) × Rises 0 (numbers halves.new) last × (last < number) }
@@ -697,8 +697,8 @@ fn come(halves: &mut Sessions, feeds: &mut Feeds, rests: bool, item: Item) -> Re
     requires { IsOrdered (item_seen item) }
     ensures halves { OnOk result (halves.new ≡ halves.old) }
     ensures links { OnOk result (feeds.new.links ≡ met_by (item_seen item) feeds.old.links) }
-    ensures settled { OnOk result (feeds.new.settled ≡ rests) }
-    ensures cleared { OnErr result ((halves.new ≡ []) × (feeds.new ≡ record { links = []; settled = true })) }
+    ensures waiting { OnOk result (feeds.new.waiting ≡ waiting_after rests feeds.old.waiting) }
+    ensures cleared { OnErr result ((halves.new ≡ []) × (feeds.new ≡ record { links = []; waiting = 0 })) }
 {
     let done = bring_to(feeds, rests, item);
     if done.is_err() {
@@ -712,7 +712,7 @@ fn come(halves: &mut Sessions, feeds: &mut Feeds, rests: bool, item: Item) -> Re
 fn bring_to(feeds: &mut Feeds, rests: bool, item: Item) -> Result<(), Memory>
     requires { IsOrdered (item_seen item) }
     ensures links { OnOk result (feeds.new.links ≡ met_by (item_seen item) feeds.old.links) }
-    ensures settled { OnOk result (feeds.new.settled ≡ rests) }
+    ensures waiting { OnOk result (feeds.new.waiting ≡ waiting_after rests feeds.old.waiting) }
 {
     feeds.bring(item)?;
     if rests { feeds.settle_alone() } else { Ok(()) }
@@ -747,7 +747,7 @@ fn refused(alloc: Global, from: Source, parts: Parts, line: Line) -> Result<Item
 
 /// Whether the link of that half, at that place, isn't blocked and has bytes to take.
 fn is_ready(half: &Link, feeds: &Feeds, place: usize) -> bool
-    requires settled { feeds.now.settled ≡ true }
+    requires settled { feeds.now.waiting ≡ 0 }
     requires within { place < length feeds.now.links }
     ensures { (state : worker.LinkSeen) → slice_get feeds.now.links place ≡ Some state → result ≡ is_ready (joined half.now state) }
 {
@@ -756,7 +756,7 @@ fn is_ready(half: &Link, feeds: &Feeds, place: usize) -> bool
 
 /// The numbers of the links that are to be offered their next bytes.
 fn ready(alloc: Global, halves: &[Link], feeds: &Feeds) -> Result<Vec<u32>, Memory>
-    requires settled { feeds.now.settled ≡ true }
+    requires settled { feeds.now.waiting ≡ 0 }
     requires halves { AllMatch halves.now feeds.now.links }
     ensures { IfOk result (λ v. v.items ≡ numbers (filter is_ready (joined_all halves.now feeds.now.links))) }
 {

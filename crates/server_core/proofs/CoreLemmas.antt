@@ -393,7 +393,7 @@ kept_risen core served rises kept = record { rising = rises; small = kept.small;
 
 -- a link changes, or want of memory leaves fewer
 pub risen_by : {E : Type 0} (r : Result ⊤ E) (number : ℕ) (step : LinkSeen → LinkSeen) (old new : ServedSeen) (high : ℕ) → ((link : LinkSeen) → (step link).link ≡ link.link)
-    → OnErr r ((high : ℕ) → Rises 0 (numbers old.links) high → Rises 0 (numbers new.links) high) → OnOk r (new ≡ record old { links = map (at_link number step) old.links; settled = true })
+    → OnErr r ((high : ℕ) → Rises 0 (numbers old.links) high → Rises 0 (numbers new.links) high) → OnOk r (new ≡ record old { links = map (at_link number step) old.links; waiting = 0 })
     → Rises 0 (numbers old.links) high → Rises 0 (numbers new.links) high
 risen_by (Ok done) number step old new high same gone is rises =
     subst (λ (s : ServedSeen). Rises 0 (numbers s.links) high) (sym is) (rises_at number step same high old.links (map (at_link number step) old.links) refl rises)
@@ -419,7 +419,7 @@ kept_left core served heard reach turned closing rises kept = record { rising = 
 
 -- some links leave, or want of memory leaves fewer
 pub left_by : {E : Type 0} (r : Result ⊤ E) (keep : LinkSeen → Bool) (old new : ServedSeen) (high : ℕ) → OnErr r ((high : ℕ) → Rises 0 (numbers old.links) high → Rises 0 (numbers new.links) high)
-    → OnOk r (new ≡ record old { links = filter keep old.links; settled = true }) → Rises 0 (numbers old.links) high → Rises 0 (numbers new.links) high
+    → OnOk r (new ≡ record old { links = filter keep old.links; waiting = 0 }) → Rises 0 (numbers old.links) high → Rises 0 (numbers new.links) high
 left_by (Ok done) keep old new high gone is rises = subst (λ (s : ServedSeen). Rises 0 (numbers s.links) high) (sym is) (rises_filter keep 0 high old.links rises)
 left_by (Err e) keep old new high gone is rises = gone high rises
 

@@ -14,7 +14,7 @@ pub returns-then-is_whole-clause-here : goal.returns-then-is_whole-clause-here
 returns-then-is_whole-clause-here c = sym (here_whole c.args.halves.now (c.is_whole.ensures c.if-is_whole.true))
 
 pub sweep-requires-2 : goal.sweep-requires-2
-sweep-requires-2 c = ap (λ (f : FeedsSeen). f.settled) c.count_put-put.ensures.counted ∙ c.requires.settled
+sweep-requires-2 c = ap (λ (f : FeedsSeen). f.waiting) c.count_put-put.ensures.counted ∙ c.requires.settled
 
 pub returns-clause-swept : goal.returns-clause-swept
 returns-clause-swept c =
@@ -22,7 +22,7 @@ returns-clause-swept c =
     let feeds = c.args.feeds.now in
     record {
       halves = swept_are hs c.sweep.new.self feeds c.count_put-put.new.self c.sweep-2.new.self c.sweep.ensures c.count_put-put.ensures.counted c.sweep-2.ensures c.requires.halves;
-      settled = ap (λ (f : FeedsSeen). f.settled) c.sweep-2.ensures ∙ ap (λ (f : FeedsSeen). f.settled) c.count_put-put.ensures.counted ∙ c.requires.settled;
+      settled = ap (λ (f : FeedsSeen). f.waiting) c.sweep-2.ensures ∙ ap (λ (f : FeedsSeen). f.waiting) c.count_put-put.ensures.counted ∙ c.requires.settled;
       links = ap here (swept_seen hs c.sweep.new.self feeds c.count_put-put.new.self c.sweep-2.new.self c.sweep.ensures c.count_put-put.ensures.counted c.sweep-2.ensures c.requires.halves.match) ∙ here_again (joined_all hs feeds.links);
       put = swept_put hs c.sweep.new.self feeds c.count_put-put.new.self c.sweep-2.new.self c.sweep.ensures c.count_put-put.ensures.counted c.sweep-2.ensures c.count_put-put.result c.count_put-put.ensures.count;
       whole = λ whole. ap is_whole c.sweep.ensures ∙ whole_here hs;

@@ -1,4 +1,4 @@
-use Rattle.std.proofs.Common.{ap, ◌∙◌, subst, sym, false}
+use Rattle.std.proofs.Common.{ap, ◌+◌, ◌∙◌, subst, sym}
 use Rattle.std.specs.List.{All}
 use Rattle.worker_match.specs.Items.{item_seen, items_seen}
 use Rattle.worker_match.specs.Walk.{IsOrdered}
@@ -14,4 +14,4 @@ pub returns-clause-ok : goal.returns-clause-ok
 returns-clause-ok c =
     ap (λ items. seen_after c.self.inside.states.items (items_seen items)) c.in_ok-push.ensures.items
     ∙ brought c.self.inside.items.items c.args.item c.self.inside.states.items
-    ∙ ap (λ (feeds : FeedsSeen). record { links = met_by (item_seen c.args.item) feeds.links; settled = false }) c.self.view_is
+    ∙ ap (λ (feeds : FeedsSeen). record { links = met_by (item_seen c.args.item) feeds.links; waiting = feeds.waiting + 1 }) c.self.view_is

@@ -12,11 +12,11 @@ use Rattle.worker_match.specs.Seen as worker
 use Rattle.served_links.specs.Links.{has_that}
 use Rattle.served_links.specs.Changes.{with_session}
 use Rattle.served_links.proofs.FedLemmas.{told_matches, told_same, told_uncounted}
-use Rattle.served_links.proofs.ServedSteps.{both_are, both_seen, changed_nobody, links_of, login_matches, settled_of, within_feeds, within_halves}
+use Rattle.served_links.proofs.ServedSteps.{both_are, both_seen, changed_nobody, links_of, login_matches, waiting_of, within_feeds, within_halves}
 use Rattle.served_links.proofs.served.Served.begin_session.Goals as goal
 
 pub log_in-requires-clause-settled : goal.log_in-requires-clause-settled
-log_in-requires-clause-settled c = ap settled_of c.self.view_is ∙ c.requires.settled
+log_in-requires-clause-settled c = ap waiting_of c.self.view_is ∙ c.requires.settled
 
 pub log_in-requires-clause-within : goal.log_in-requires-clause-within
 log_in-requires-clause-within c =

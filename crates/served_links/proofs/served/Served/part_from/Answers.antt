@@ -5,7 +5,7 @@ use Rattle.aprs_history.specs.Stands.{LinkSeen}
 use Rattle.served_links.specs.Links.{is_none_of, is_whole}
 use Rattle.link_feeds.specs.Feeds.{FeedsSeen}
 use Rattle.served_links.proofs.HereLemmas.{whole_filter}
-use Rattle.served_links.proofs.ServedSteps.{left_are, left_seen, none_leaves, settled_of}
+use Rattle.served_links.proofs.ServedSteps.{left_are, left_seen, none_leaves, waiting_of}
 use Rattle.served_links.proofs.served.Served.part_from.Goals as goal
 
 pub returns-then-is_empty : goal.returns-then-is_empty
@@ -14,16 +14,16 @@ returns-then-is_empty c =
     (sym (ap (λ ns. filter (is_none_of ns) c.args.self.now.links) (nil_from_length c.args.ends.now (eqb-true (length c.args.ends.now) 0 (sym c.is_empty.ensures ∙ c.if-is_empty.true))) ∙ none_leaves c.args.self.now.links))
 
 pub count_put-put-requires : goal.count_put-put-requires
-count_put-put-requires c = ap settled_of c.self.view_is ∙ c.requires
+count_put-put-requires c = ap waiting_of c.self.view_is ∙ c.requires
 
 pub drop_these-requires-2 : goal.drop_these-requires-2
-drop_these-requires-2 c = ap (λ (f : FeedsSeen). f.settled) c.count_put-put.ensures.counted ∙ ap settled_of c.self.view_is ∙ c.requires
+drop_these-requires-2 c = ap (λ (f : FeedsSeen). f.waiting) c.count_put-put.ensures.counted ∙ ap waiting_of c.self.view_is ∙ c.requires
 
 pub invariant_of-self : goal.invariant_of-self
 invariant_of-self c = (
   left_are c.args.ends.now c.self.inside.halves c.drop_these.new.self c.self.inside.feeds c.count_put-put.new.self c.drop_these-2.new.self c.self.invariant.0 c.drop_these.ensures c.count_put-put.ensures.counted c.drop_these-2.ensures,
   (
-    λ rests. ap (λ (f : FeedsSeen). f.settled) c.drop_these-2.ensures ∙ ap (λ (f : FeedsSeen). f.settled) c.count_put-put.ensures.counted ∙ c.self.invariant.1.0 rests,
+    λ rests. ap (λ (f : FeedsSeen). f.waiting) c.drop_these-2.ensures ∙ ap (λ (f : FeedsSeen). f.waiting) c.count_put-put.ensures.counted ∙ c.self.invariant.1.0 rests,
     λ rests. ap is_whole c.drop_these.ensures ∙ whole_filter (is_none_of c.args.ends.now) c.self.inside.halves (c.self.invariant.1.1 rests),
   ),
 )

@@ -5,7 +5,7 @@ use Rattle.link_feeds.specs.Feeds.{left}
 use Rattle.served_links.specs.Links.{Rises, has_that, is_at, numbers, when_left}
 use Rattle.served_links.proofs.HereLemmas.{left_matches}
 use Rattle.served_links.proofs.PlaceLemmas.{place_any}
-use Rattle.served_links.proofs.ServedSteps.{gone_are, gone_seen, links_of, nobody_left, rests_of, settled_of, within_feeds, within_halves}
+use Rattle.served_links.proofs.ServedSteps.{gone_are, gone_seen, links_of, nobody_left, rests_of, waiting_of, within_feeds, within_halves}
 use Rattle.served_links.proofs.served.Served.part_later.Goals as goal
 
 -- the link that was found is the first of its number
@@ -22,7 +22,7 @@ pub leave-requires : goal.leave-requires
 leave-requires c = within c.args.number c.in-Some.place c.self.inside.halves c.as_slice.result.now c.as_slice.ensures.value c.self.invariant.0.rising c.in-Some.ensures
 
 pub leave-requires-in-Some-clause-settled : goal.leave-requires-in-Some-clause-settled
-leave-requires-in-Some-clause-settled c = ap settled_of c.self.view_is ∙ c.requires.settled
+leave-requires-in-Some-clause-settled c = ap waiting_of c.self.view_is ∙ c.requires.settled
 
 pub leave-requires-in-Some-clause-within : goal.leave-requires-in-Some-clause-within
 leave-requires-in-Some-clause-within c =

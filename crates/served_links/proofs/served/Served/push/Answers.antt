@@ -9,7 +9,7 @@ use Rattle.served_links.specs.Links.{Rises, is_whole, numbers}
 use Rattle.served_links.specs.Halves.{served_seen}
 use Rattle.served_links.proofs.HereLemmas.{whole_push}
 use Rattle.served_links.specs.Changes.{new_link_seen}
-use Rattle.served_links.proofs.ServedSteps.{links_of, more_are, more_links, more_put, numbers_here, opened_matches, seen_changed, settled_of, swept_same}
+use Rattle.served_links.proofs.ServedSteps.{links_of, more_are, more_links, more_put, numbers_here, opened_matches, seen_changed, waiting_of, swept_same}
 use Rattle.served_links.proofs.served.Served.push.Goals as goal
 
 abbrev opening : goal.In-Ok → Opening
@@ -22,7 +22,7 @@ abbrev fed : goal.In-Ok → worker.LinkSeen
 fed c = new_feed c.args.number c.feed_of-feed.result c.is_inbound.result (arc_value c.in_ok-first.first)
 
 pub make_way-put-requires-clause-settled : goal.make_way-put-requires-clause-settled
-make_way-put-requires-clause-settled c = ap settled_of c.self.view_is ∙ c.requires.settled
+make_way-put-requires-clause-settled c = ap waiting_of c.self.view_is ∙ c.requires.settled
 
 pub make_way-put-requires-clause-halves : goal.make_way-put-requires-clause-halves
 make_way-put-requires-clause-halves c = c.self.invariant.0
@@ -33,7 +33,7 @@ open-requires-2 c = c.make_way-put.ensures.swept.settled
 view : (c : goal.In-Ok) → served_seen c.make_way-put.new.halves c.make_way-put.new.feeds c.saturating_add-self-inside.result c.self.inside.rests ≡ c.args.self.now
 view c =
     swept_same c.self.inside.halves c.make_way-put.new.halves c.self.inside.feeds c.make_way-put.new.feeds c.make_way-put.result c.self.inside.queued c.saturating_add-self-inside.result c.self.inside.rests
-    c.make_way-put.ensures.swept.links c.make_way-put.ensures.swept.put c.saturating_add-self-inside.ensures (c.make_way-put.ensures.swept.settled ∙ sym (ap settled_of c.self.view_is ∙ c.requires.settled))
+    c.make_way-put.ensures.swept.links c.make_way-put.ensures.swept.put c.saturating_add-self-inside.ensures (c.make_way-put.ensures.swept.settled ∙ sym (ap waiting_of c.self.view_is ∙ c.requires.settled))
     ∙ c.self.view_is
 
 last : (c : goal.In-Ok) → (last : ℕ) × Rises 0 (numbers c.make_way-put.new.halves) last × (last < c.args.number)
@@ -48,7 +48,7 @@ invariant_of-self-in-Ok c = (
       (opened_matches c.args.number (opening c) c.feed_of-feed.result c.is_inbound.result (arc_value c.in_ok-first.first) c.feed_of-feed.ensures c.is_inbound.ensures)
       (last c).1 (last c).2 (let small = c.ranges.number.fits in omega (arith, small)) c.in_ok-open.ensures.ok c.in-Ok.ensures.ok,
   (
-    λ rests. ap (λ (f : FeedsSeen). f.settled) c.in-Ok.ensures.ok ∙ c.make_way-put.ensures.swept.settled,
+    λ rests. ap (λ (f : FeedsSeen). f.waiting) c.in-Ok.ensures.ok ∙ c.make_way-put.ensures.swept.settled,
     λ rests. ap is_whole c.in_ok-open.ensures.ok ∙ whole_push c.make_way-put.new.halves (half c) refl (c.make_way-put.ensures.swept.whole (c.self.invariant.1.1 rests)),
   ),
 )
@@ -60,4 +60,4 @@ returns-in-Ok-clause-ok c =
     (more_links c.make_way-put.new.halves c.open.new.self c.args.self.now.links c.make_way-put.new.feeds c.open-2.new.self (half c) (new_link_seen c.args.number (opening c) c.args.first) (fed c) c.make_way-put.ensures.swept.halves
     c.in_ok-open.ensures.ok c.in-Ok.ensures.ok refl (ap (new_link_seen c.args.number (opening c)) c.in_ok-first.ensures.ok) (ap links_of (view c)))
     (more_put c.make_way-put.new.feeds c.open-2.new.self (fed c) refl c.in-Ok.ensures.ok)
-    (ap (λ (f : FeedsSeen). f.settled) c.in-Ok.ensures.ok)
+    (ap (λ (f : FeedsSeen). f.waiting) c.in-Ok.ensures.ok)

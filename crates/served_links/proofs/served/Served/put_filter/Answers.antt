@@ -6,11 +6,11 @@ use Rattle.aprs_history.specs.Stands.{LinkSeen, friends_kept}
 use Rattle.served_links.specs.Links.{has_that}
 use Rattle.served_links.specs.Changes.{with_filter}
 use Rattle.served_links.proofs.HereLemmas.{named_text}
-use Rattle.served_links.proofs.ServedSteps.{changed_nobody, filter_matches, links_of, settled_of, told_are, told_seen, within_feeds, within_halves}
+use Rattle.served_links.proofs.ServedSteps.{changed_nobody, filter_matches, links_of, waiting_of, told_are, told_seen, within_feeds, within_halves}
 use Rattle.served_links.proofs.served.Served.put_filter.Goals as goal
 
 pub set_filter-requires-clause-settled : goal.set_filter-requires-clause-settled
-set_filter-requires-clause-settled c = ap settled_of c.self.view_is ∙ c.requires.settled
+set_filter-requires-clause-settled c = ap waiting_of c.self.view_is ∙ c.requires.settled
 
 pub set_filter-requires-clause-within : goal.set_filter-requires-clause-within
 set_filter-requires-clause-within c =

@@ -2,11 +2,11 @@ use Rattle.std.proofs.Common.{ap, sym, true, ◌∙◌}
 use Rattle.served_links.specs.Halves.{ServedSeen}
 use Rattle.served_links.specs.Links.{is_whole}
 use Rattle.served_links.proofs.HereLemmas.{whole_here}
-use Rattle.served_links.proofs.ServedSteps.{settled_of, swept_same}
+use Rattle.served_links.proofs.ServedSteps.{waiting_of, swept_same}
 use Rattle.served_links.proofs.served.Served.rest.Goals as goal
 
 pub sweep-put-requires-clause-settled : goal.sweep-put-requires-clause-settled
-sweep-put-requires-clause-settled c = ap settled_of c.self.view_is ∙ c.requires
+sweep-put-requires-clause-settled c = ap waiting_of c.self.view_is ∙ c.requires
 
 pub sweep-put-requires-clause-halves : goal.sweep-put-requires-clause-halves
 sweep-put-requires-clause-halves c = c.self.invariant.0
@@ -24,5 +24,5 @@ returns c =
     ap (λ (s : ServedSeen). record s { rests = true })
     (swept_same hs c.sweep-put.new.halves feeds c.sweep-put.new.feeds c.sweep-put.result c.self.inside.queued c.saturating_add-self-inside.result c.self.inside.rests
     c.sweep-put.ensures.swept.links c.sweep-put.ensures.swept.put c.saturating_add-self-inside.ensures
-    (c.sweep-put.ensures.swept.settled ∙ sym (ap settled_of c.self.view_is ∙ c.requires))
+    (c.sweep-put.ensures.swept.settled ∙ sym (ap waiting_of c.self.view_is ∙ c.requires))
     ∙ c.self.view_is)

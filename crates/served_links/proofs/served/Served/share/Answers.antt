@@ -27,7 +27,7 @@ met c =
 pub invariant_of-self : goal.invariant_of-self
 invariant_of-self c =
     met_are c.come.result c.self.inside c.come.new.halves c.come.new.feeds (Came (offer c)) c.self.invariant.0 (λ h s m. offer_matches h (offer c) s m)
-    c.come.ensures.halves (met c) c.come.ensures.settled c.come.ensures.cleared c.self.invariant.1
+    c.come.ensures.halves (met c) c.come.ensures.waiting c.come.ensures.cleared c.self.invariant.1
 
 pub returns-clause-rises : goal.returns-clause-rises
 returns-clause-rises c =
@@ -45,4 +45,4 @@ returns-clause-ok c =
     (λ (s : ServedSeen). more (length (filter takes s.links)) s.queued) c.self.inside c.come.new.halves c.come.new.feeds (Came (offer c)) (named_packet c.args.packet.now c.args.source.now c.args.hearers.now c.args.owed.now)
     (shared_links c.args.packet.now c.args.source.now c.args.hearers.now c.args.owed.now hs ss c.self.invariant.0.match c.self.invariant.0.rising)
     (ap (λ put. more put c.self.inside.queued) (shared_put c.args.packet.now c.args.source.now c.args.hearers.now c.args.owed.now hs ss c.self.invariant.0.match c.self.invariant.0.rising) ∙ more_later n (put_in ss) c.self.inside.queued ∙ ap (λ ls. more (length ls) (more (put_in ss) c.self.inside.queued)) same)
-    c.come.ensures.halves (met c) c.come.ensures.settled c.self.view_is
+    c.come.ensures.halves (met c) c.come.ensures.waiting c.self.view_is

@@ -6,11 +6,11 @@ use Rattle.aprs_history.specs.Stands.{LinkSeen}
 use Rattle.served_links.specs.Links.{has_that}
 use Rattle.served_links.specs.Changes.{with_text}
 use Rattle.served_links.proofs.HereLemmas.{named_text}
-use Rattle.served_links.proofs.ServedSteps.{changed_nobody, links_of, settled_of, told_are, told_seen, within_feeds, within_halves}
+use Rattle.served_links.proofs.ServedSteps.{changed_nobody, links_of, waiting_of, told_are, told_seen, within_feeds, within_halves}
 use Rattle.served_links.proofs.served.Served.tell.Goals as goal
 
 pub tell-requires-clause-settled : goal.tell-requires-clause-settled
-tell-requires-clause-settled c = ap settled_of c.self.view_is ∙ c.requires
+tell-requires-clause-settled c = ap waiting_of c.self.view_is ∙ c.requires
 
 pub tell-requires-clause-within : goal.tell-requires-clause-within
 tell-requires-clause-within c =

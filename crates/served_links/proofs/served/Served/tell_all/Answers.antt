@@ -12,7 +12,7 @@ use Rattle.served_links.proofs.served.Served.tell_all.Goals as goal
 pub invariant_of-self : goal.invariant_of-self
 invariant_of-self c =
     met_are c.come.result c.self.inside c.come.new.halves c.come.new.feeds (ToldAll (arc_value c.args.line)) c.self.invariant.0 (λ h s m. date_matches h (arc_value c.args.line) s m)
-    c.come.ensures.halves c.come.ensures.links c.come.ensures.settled c.come.ensures.cleared c.self.invariant.1
+    c.come.ensures.halves c.come.ensures.links c.come.ensures.waiting c.come.ensures.cleared c.self.invariant.1
 
 pub returns-clause-rises : goal.returns-clause-rises
 returns-clause-rises c =
@@ -24,4 +24,4 @@ returns-clause-ok c =
     let ss = c.self.inside.feeds.links in
     met_seen c.come.result (with_date (arc_value c.args.line)) (λ (s : ServedSeen). s.queued) c.self.inside c.come.new.halves c.come.new.feeds (ToldAll (arc_value c.args.line)) (named_date (arc_value c.args.line))
     (dated_links (arc_value c.args.line) hs ss c.self.invariant.0.match) (ap (λ put. more put c.self.inside.queued) (dated_put (arc_value c.args.line) hs ss c.self.invariant.0.match))
-    c.come.ensures.halves c.come.ensures.links c.come.ensures.settled c.self.view_is
+    c.come.ensures.halves c.come.ensures.links c.come.ensures.waiting c.self.view_is
