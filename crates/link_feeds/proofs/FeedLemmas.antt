@@ -1,5 +1,5 @@
 -- What comes to links, matched at once or later.
-use Rattle.std.proofs.Common.{◌≡◌, ℕ, ◌+◌, ◌-◌, ◌^◌, ◌<◌, List, [], ◌∷◌, ◌++◌, length, map, refl, sym, ap, ◌∙◌, subst, take, drop, take_all, append-nil, arith, slice_set, slice_get, get_or, Some, min}
+use Rattle.std.proofs.Common.{◌≡◌, ℕ, ◌+◌, ◌-◌, ◌^◌, ◌<◌, List, [], ◌∷◌, ◌++◌, length, map, sym, ap, ◌∙◌, subst, take, drop, take_all, append-nil, arith, slice_set, slice_get, get_or, Some, min}
 use Rattle.std.specs.List.{sum_by}
 use Rattle.std.proofs.lemmas.Option.{get_or_from_slice_get}
 use Rattle.std.proofs.lemmas.List.Sums.{sum_by_more}
@@ -97,11 +97,14 @@ module _ (items : List ItemSeen) (states : List LinkSeen) (seen : FeedsSeen) (is
   pub written_at : (place : ℕ) (changed new : LinkSeen) → new ≡ changed → seen_after (slice_set states place new) items ≡ record seen { links = slice_set seen.links place changed }
   written_at place changed new is = written (λ links. slice_set links place changed) (slice_set states place new) (ap (slice_set states place) is)
 
+  -- the link at a place
+  pub found_there : (place : ℕ) (link found : LinkSeen) → slice_get seen.links place ≡ Some link → found ≡ get_or states place found → found ≡ link
+  found_there place link found there at = at ∙ get_or_from_slice_get states place link found (ap (λ links. slice_get links place) (sym seen_standing) ∙ there)
+
   pub changed_there : (f : LinkSeen → LinkSeen) (place : ℕ) (link old new : LinkSeen) → slice_get seen.links place ≡ Some link → old ≡ get_or states place old → new ≡ f old
       → seen_after (slice_set states place new) items ≡ record seen { links = slice_set seen.links place (f link) }
   changed_there f place link old new there at changed =
-      let same : old ≡ link = at ∙ get_or_from_slice_get states place link old (ap (λ links. slice_get links place) (sym seen_standing) ∙ there) in
-      written_at place (f link) new (changed ∙ ap f same)
+      written_at place (f link) new (changed ∙ ap f (found_there place link old there at))
 
 -- ---- what was put
 

@@ -124,13 +124,15 @@ impl Feeds {
     }
 
     /// What came is matched with the links by the crew. Links that have come since count as things that came. After `Memory`
-    /// nothing is said of the links.
+    /// there are as many links and as much waits, but what the links are isn't known: some may have met what came. They can only be
+    /// cleared then.
     pub fn settle<R: Threads + Sync, G: Gate + Sync>(
         &mut self,
         crew: &Crew<R, G>,
     ) -> Result<(), Memory>
         requires { (1 ≤ crew.now.workers) × (crew.now.workers ≤ 64) }
-        ensures { OnOk result (self.new ≡ record self.old { waiting = 0 }) }
+        ensures ok { OnOk result (self.new ≡ record self.old { waiting = 0 }) }
+        ensures err { OnErr result ((length self.new.links ≡ length self.old.links) × (self.new.waiting ≡ self.old.waiting)) }
     {
         let things = self.items.len().saturating_add(self.news);
         if things == 0 {
@@ -151,7 +153,8 @@ impl Feeds {
 
     /// The same by this thread alone, through no gate.
     pub fn settle_alone(&mut self) -> Result<(), Memory>
-        ensures { OnOk result (self.new ≡ record self.old { waiting = 0 }) }
+        ensures ok { OnOk result (self.new ≡ record self.old { waiting = 0 }) }
+        ensures err { OnErr result ((length self.new.links ≡ length self.old.links) × (self.new.waiting ≡ self.old.waiting)) }
     {
         if self.items.is_empty() {
             return Ok(());

@@ -1,5 +1,5 @@
 -- What comes to a link, by what it is fed.
-use Rattle.std.proofs.Common.{◌≡◌, ℕ, Bool, true, false, not, ◌&&◌, ◌||◌, ◌==◌, List, [], ◌∷◌, length, map, refl, sym, ap, ◌∙◌, Option, Some, None, ⊎_elim, is_some, arith, if◌then◌else◌, eq-eqb, Result, Ok, Err, IfOk}
+use Rattle.std.proofs.Common.{◌≡◌, ℕ, Bool, true, false, not, ◌&&◌, ◌||◌, ◌==◌, List, [], ◌∷◌, length, map, refl, sym, ap, ◌∙◌, Option, Some, None, ⊎_elim, is_some, arith, if◌then◌else◌, eq-eqb, Result, Ok, Err, IfOk, OnErr}
 use Rattle.std.specs.List.{list_any, zip}
 use Rattle.std.proofs.Math.Bool.{and-false}
 use Rattle.std.proofs.lemmas.Bool.{cases_Bool}
@@ -33,6 +33,10 @@ use Rattle.served_links.proofs.OverLemmas.{copy_over, fits_not_after, over_unsee
 pub if_ok : {T E : Type 0} {P Q : T → Type 0} (r : Result T E) → ((x : T) → P x → Q x) → IfOk r P → IfOk r Q
 if_ok (Ok x) f p = f x p
 if_ok (Err e) f p = p
+
+pub on_err : {T E P : Type 0} (r : Result T E) → P → OnErr r P
+on_err (Ok x) p = tt
+on_err (Err e) p = p
 
 from_same : (link : ℕ) (from : Source) → walk.is_from link from ≡ is_from link from
 from_same link (source.Link number) = refl

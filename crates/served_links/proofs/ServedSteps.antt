@@ -24,7 +24,7 @@ use Rattle.worker_match.specs.Seen.{Came, ToldAll}
 use Rattle.worker_match.specs.Seen as worker
 use Rattle.worker_match.specs.Walk.{after}
 use Rattle.served_links.specs.Fed.{AllMatch, Matches, feed_of, joined, joined_all, new_half, offer_of, opening_feed, refused_of, shows_kept}
-use Rattle.served_links.specs.Halves.{AreHalves, AtRest, ServedSeen, served_seen, waiting_after}
+use Rattle.served_links.specs.Halves.{AreHalves, AtRest, IsEmptied, ServedSeen, served_seen, waiting_after}
 use Rattle.served_links.specs.Links.{Rises, has_that, here, is_at, is_here, is_none_of, is_whole, named_of, number_of, numbers, pending_at, pending_of, when_left}
 use Rattle.served_links.specs.Changes.{at_link, at_moment, has_room, is_asked_at, is_shown_at, takes_packet, takes_shown, with_date, with_packet, with_shown, with_text}
 use Rattle.served_links.specs.Halves.{more}
@@ -103,6 +103,23 @@ met_are (Ok done) inside left_hs left item are kept same met settled gone restin
   (λ rest. settled ∙ ap (λ b. waiting_after b inside.feeds.waiting) rest, λ rest. ap is_whole same ∙ resting.1 rest),
 )
 met_are (Err e) inside left_hs left item are kept same met settled gone resting = (none_left left_hs left gone, none_rests inside.rests left_hs left gone)
+
+pub emptied : {E : Type 0} (r : Result ⊤ E) (inside : Inside) (left_hs : List LinkSeen) (left : FeedsSeen) {now : ServedSeen} → served_seen inside.halves inside.feeds inside.queued inside.rests ≡ now
+    → OnErr r ((left_hs ≡ []) × (left ≡ record { links = []; waiting = 0 })) → OnErr r (IsEmptied now (served_seen left_hs left inside.queued inside.rests))
+emptied (Ok done) inside left_hs left view gone = tt
+emptied (Err e) inside left_hs left view gone =
+    let none : put_in left.links ≡ 0 = ap (λ (f : FeedsSeen). put_in f.links) gone.1 in
+    let total = ap (λ (s : ServedSeen). s.queued) view in
+    record {
+      links = ap (λ ls. here (joined_all ls left.links)) gone.0;
+      waiting = ap (λ (f : FeedsSeen). f.waiting) gone.1;
+      queued = omega (arith, none, total);
+      rests = ap rests_of view;
+    }
+
+-- whose numbers rise
+pub emptied_rises : {old new : ServedSeen} → IsEmptied old new → (high : ℕ) → Rises 0 (numbers new.links) high
+emptied_rises gone high = subst (λ (links : List LinkSeen). Rises 0 (numbers links) high) (sym gone.links) (omega arith)
 
 -- the numbers of those that are here, as they are kept
 pub numbers_here : (hs : List LinkSeen) (ss : List worker.LinkSeen) → AllMatch hs ss → numbers (here (joined_all hs ss)) ≡ numbers (here hs)

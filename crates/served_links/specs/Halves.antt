@@ -1,5 +1,5 @@
 -- The links that are served, whose halves are kept side by side.
-use Rattle.std.specs.Prelude.{◌≡◌, true, ℕ, ◌+◌, ◌-◌, ◌^◌, Bool, List, if◌then◌else◌, min}
+use Rattle.std.specs.Prelude.{◌≡◌, true, ℕ, ◌+◌, ◌-◌, ◌^◌, ◌≤◌, Bool, List, [], if◌then◌else◌, min}
 use Rattle.aprs_history.specs.Stands.{LinkSeen}
 use Rattle.link_feeds.specs.Feeds.{FeedsSeen, put_in}
 use Rattle.served_links.specs.Fed.{AllMatch, joined_all}
@@ -29,6 +29,13 @@ served_seen halves feeds queued rests = record {
   waiting = feeds.waiting;
   rests = rests;
 }
+
+-- no link is left, and nothing waits. They rest as they did. What was put and not counted before isn't counted any more.
+pub record IsEmptied (old new : ServedSeen) : Type 0 where
+  pub links : new.links ≡ []
+  pub waiting : new.waiting ≡ 0
+  pub queued : new.queued ≤ old.queued
+  pub rests : new.rests ≡ old.rests
 
 -- the halves stand in the order of their numbers
 pub record AreHalves (halves : List LinkSeen) (feeds : FeedsSeen) : Type 0 where

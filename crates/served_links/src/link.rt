@@ -1,5 +1,5 @@
 //! What is kept of a link and its session.
-ghost use Rattle.std.specs.Prelude.{◌≡◌, ◌||◌, ◌++◌, IsTrue, List, ℕ, OnOk, Some, nat_lt};
+ghost use Rattle.std.specs.Prelude.{◌≡◌, ◌||◌, ◌++◌, IsTrue, List, ℕ, OnErr, OnOk, Some, nat_lt};
 ghost use Rattle.std.specs.List.Sorted.{IsStrictlyIncreasing};
 ghost use Rattle.aprs_base.specs.Bytes.{is_station};
 ghost use Rattle.aprs_base.specs.Cuts.{cuts_by};
@@ -137,7 +137,7 @@ impl Link {
         }
     }
 
-    /// Bytes came: they are cut into lines.
+    /// Bytes came: they are cut into lines. `Memory` changes nothing.
     pub fn bring(
         &mut self,
         alloc: Global,
@@ -148,6 +148,7 @@ impl Link {
         ensures frame { self.new ≡ record self.old { last = self.new.last; held = self.new.held } }
         ensures brought { (before : List ℕ) → self.old.held ≡ held_after before
             → OnOk result ((self.new ≡ with_bytes moment (held_after (before ++ bytes.now)) self.old) × (cuts.new.items ≡ cuts.old.items ++ cuts_by before bytes.now)) }
+        ensures err { OnErr result (self.new ≡ self.old) }
     {
         self.cutter.feed(alloc, bytes, cuts)?;
         self.last = moment;

@@ -1,5 +1,5 @@
 //! Links that are served, in the order of their numbers.
-ghost use Rattle.std.specs.Prelude.{◌≡◌, ◌++◌, ◌^◌, ℕ, [], IfOk, IsTrue, List, None, OnOk, Some, filter, map, position};
+ghost use Rattle.std.specs.Prelude.{◌≡◌, ◌++◌, ◌^◌, ℕ, [], IfOk, IsTrue, List, None, OnErr, OnOk, Some, filter, map, position};
 ghost use Rattle.std.specs.Arc.{arc_value};
 ghost use Rattle.std.specs.List.{list_any};
 ghost use Rattle.std.specs.List.Sorted.{IsStrictlyIncreasing};
@@ -291,7 +291,7 @@ pub(crate) fn has_filters_at(links: &[Link], number: u32) -> bool
     }
 }
 
-/// The link of that number brought bytes: what they cut.
+/// The link of that number brought bytes: what they cut. `Memory` changes nothing.
 pub(crate) fn bring(
     alloc: Global,
     links: &mut Vec<Link>,
@@ -306,6 +306,7 @@ pub(crate) fn bring(
         → OnOk result (links.new.items ≡ map (at_link number (with_bytes moment (held_after (before ++ bytes.now)))) links.old.items) }
     ensures cuts { (before : List ℕ) → held_at number (here links.old.items) ≡ Some (held_after before) → IfOk result (λ cuts. cuts.items ≡ cuts_by before bytes.now) }
     ensures nowhere { held_at number (here links.old.items) ≡ None → IfOk result (λ cuts. (cuts.items ≡ []) × (links.new.items ≡ links.old.items)) }
+    ensures err { OnErr result (links.new.items ≡ links.old.items) }
 {
     let mut cuts = Vec::new(alloc);
     match place_here(links.as_slice(), number) {

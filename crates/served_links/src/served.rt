@@ -1,5 +1,5 @@
 //! The links that are served, in the order of their numbers: what is kept of their sessions, and what they are fed.
-ghost use Rattle.std.specs.Prelude.{◌≡◌, ◌==◌, ◌≤◌, ◌<◌, ◌∷◌, ◌++◌, ℕ, [], IfOk, IfSome, IsTrue, List, None, OnErr, OnOk, Some, drop, false, filter, length, map, min, slice_get, take, true};
+ghost use Rattle.std.specs.Prelude.{◌≡◌, ◌==◌, ◌≤◌, ◌<◌, ◌∷◌, ◌++◌, ◌⊎◌, ℕ, [], IfOk, IfSome, IsTrue, List, None, OnErr, OnOk, Some, drop, false, filter, length, map, min, slice_get, take, true};
 ghost use Rattle.std.specs.Arc.{arc_value};
 ghost use Rattle.std.specs.List.Sorted.{IsStrictlyIncreasing};
 ghost use Rattle.aprs_base.specs.Bytes.{is_station};
@@ -11,7 +11,7 @@ ghost use Rattle.link_feeds.specs.Feeds.{met_by};
 ghost use Rattle.served_links.specs.Fed.{AllMatch, joined, joined_all, refused_of};
 ghost use Rattle.served_links.specs.Links.{Rises, client_at, clients_in, filters_at, has_number, held_at, here, is_late_link, is_lost, is_none_of, is_overfull, is_ready, numbers, others_from, pending_at, speaker_at, submitted_from};
 ghost use Rattle.served_links.specs.Changes.{at_link, at_moment, new_link_seen, takes_packet, takes_shown, when_gone, with_bytes, with_date, with_filter, with_packet, with_room, with_session, with_shown, with_taken, with_text};
-ghost use Rattle.served_links.specs.Halves.{AreHalves, IsSwept, more, waiting_after};
+ghost use Rattle.served_links.specs.Halves.{AreHalves, IsEmptied, IsSwept, more, waiting_after};
 ghost use Rattle.served_links.specs.EndLines.{late_line, lost_line, stop_line};
 ghost use Rattle.worker_match.specs.Items.{item_seen};
 ghost use Rattle.worker_match.specs.Seen.{Came};
@@ -96,6 +96,7 @@ impl Served {
         requires { (1 ≤ crew.now.workers) × (crew.now.workers ≤ 64) }
         ensures rises { (high : ℕ) → Rises 0 (numbers self.old.links) high → Rises 0 (numbers self.new.links) high }
         ensures ok { OnOk result (self.new ≡ record self.old { waiting = 0 }) }
+        ensures err { OnErr result (IsEmptied self.old self.new) }
     {
         settle(&mut self.halves, &mut self.feeds, crew)
     }
@@ -104,6 +105,7 @@ impl Served {
     fn settle_alone(&mut self) -> Result<(), Memory>
         ensures rises { (high : ℕ) → Rises 0 (numbers self.old.links) high → Rises 0 (numbers self.new.links) high }
         ensures ok { OnOk result (self.new ≡ record self.old { waiting = 0 }) }
+        ensures err { OnErr result (IsEmptied self.old self.new) }
     {
         settle_alone(&mut self.halves, &mut self.feeds)
     }
@@ -136,7 +138,8 @@ impl Served {
         self.queued.saturating_add(self.feeds.put())
     }
 
-    /// A link comes, with its first line in its queue. After `Memory` no link is left, or all are as they were.
+    /// A link comes, with its first line in its queue. After `Memory` no link is left, or all are as they were, and all that came to
+    /// them is matched.
     pub fn open(
         &mut self,
         alloc: Global,
@@ -147,8 +150,8 @@ impl Served {
         first: Line,
     ) -> Result<(), Memory>
         requires { (high : ℕ) × Rises 0 (numbers self.old.links) high × (high < number) }
-        ensures rises { OnErr result ((high : ℕ) → Rises 0 (numbers self.old.links) high → Rises 0 (numbers self.new.links) high) }
         ensures ok { OnOk result (self.new ≡ record self.old { links = self.old.links ++ new_link_seen number (record { kind = kind; from = from; moment = moment }) first ∷ []; waiting = 0 }) }
+        ensures err { OnErr result (IsEmptied self.old self.new ⊎ (self.new ≡ record self.old { waiting = 0 })) }
     {
         self.settle_alone()?;
         self.push(alloc, number, kind, from, moment, first)
@@ -323,7 +326,7 @@ impl Served {
         self.halves.lose(number);
     }
 
-    /// The link of that number brought bytes: what they cut.
+    /// The link of that number brought bytes: what they cut. `Memory` changes nothing.
     pub fn bring(
         &mut self,
         alloc: Global,
@@ -336,6 +339,7 @@ impl Served {
             → OnOk result (self.new ≡ record self.old { links = map (at_link number (with_bytes moment (held_after (before ++ bytes.now)))) self.old.links }) }
         ensures cuts { (before : List ℕ) → held_at number self.old.links ≡ Some (held_after before) → IfOk result (λ cuts. cuts.items ≡ cuts_by before bytes.now) }
         ensures nowhere { held_at number self.old.links ≡ None → IfOk result (λ cuts. (cuts.items ≡ []) × (self.new ≡ self.old)) }
+        ensures err { OnErr result (self.new ≡ self.old) }
     {
         self.halves.bring(alloc, number, moment, bytes)
     }
@@ -349,8 +353,8 @@ impl Served {
         reply: Arc<Line>,
     ) -> Result<(), Memory>
         requires { IsTrue (is_station session.call) }
-        ensures rises { OnErr result ((high : ℕ) → Rises 0 (numbers self.old.links) high → Rises 0 (numbers self.new.links) high) }
         ensures ok { OnOk result (self.new ≡ record self.old { links = map (at_link number (with_session session mine (arc_value reply))) self.old.links; waiting = 0 }) }
+        ensures err { OnErr result (IsEmptied self.old self.new) }
     {
         self.settle_alone()?;
         self.begin_session(number, session, mine, reply);
@@ -383,8 +387,8 @@ impl Served {
         reply: Arc<Line>,
     ) -> Result<(), Memory>
         requires { length friends ≡ length (arc_value filter) }
-        ensures rises { OnErr result ((high : ℕ) → Rises 0 (numbers self.old.links) high → Rises 0 (numbers self.new.links) high) }
         ensures ok { OnOk result (self.new ≡ record self.old { links = map (at_link number (with_filter (arc_value filter) friends (arc_value reply))) self.old.links; waiting = 0 }) }
+        ensures err { OnErr result (IsEmptied self.old self.new) }
     {
         self.settle_alone()?;
         self.put_filter(number, filter, friends, reply);
@@ -413,8 +417,8 @@ impl Served {
 
     /// A line for the link of that number. After `Memory` no link is left.
     pub fn reply(&mut self, number: u32, line: Arc<Line>) -> Result<(), Memory>
-        ensures rises { OnErr result ((high : ℕ) → Rises 0 (numbers self.old.links) high → Rises 0 (numbers self.new.links) high) }
         ensures ok { OnOk result (self.new ≡ record self.old { links = map (at_link number (with_text (arc_value line))) self.old.links; waiting = 0 }) }
+        ensures err { OnErr result (IsEmptied self.old self.new) }
     {
         self.settle_alone()?;
         self.tell(number, line);
@@ -454,6 +458,7 @@ impl Served {
           queued = more (length (filter (takes_packet packet.now source.now hearers.now owed.now) self.old.links)) self.old.queued;
           waiting = waiting_after self.old.rests self.old.waiting;
         }) }
+        ensures err { OnErr result (IsEmptied self.old self.new ⊎ (self.new ≡ self.old)) }
     {
         let item = offered(
             alloc,
@@ -479,6 +484,7 @@ impl Served {
         ensures rises { (high : ℕ) → Rises 0 (numbers self.old.links) high → Rises 0 (numbers self.new.links) high }
         ensures ok { OnOk result ((self.new.links ≡ map (with_shown from.now line) self.old.links)
             × (self.new.queued ≡ more (length (filter (takes_shown from.now) self.old.links)) self.old.queued) × (self.new.rests ≡ self.old.rests)) }
+        ensures err { OnErr result (IsEmptied self.old self.new ⊎ (self.new ≡ self.old)) }
     {
         if shows_any(self.halves.as_slice()) {
             self.show_all(alloc, *from, parts, line)
@@ -501,15 +507,17 @@ impl Served {
           queued = more (length (filter (takes_shown from) self.old.links)) self.old.queued;
           waiting = waiting_after self.old.rests self.old.waiting;
         }) }
+        ensures err { OnErr result (IsEmptied self.old self.new ⊎ (self.new ≡ self.old)) }
     {
         let item = refused(alloc, from, parts, line)?;
         come(&mut self.halves, &mut self.feeds, self.rests, item)
     }
 
-    /// The clients are told the date. After `Memory` no link is left, or all are as they were.
+    /// The clients are told the date. After `Memory` no link is left.
     pub fn tell_all(&mut self, line: Arc<Line>) -> Result<(), Memory>
         ensures rises { (high : ℕ) → Rises 0 (numbers self.old.links) high → Rises 0 (numbers self.new.links) high }
         ensures ok { OnOk result (self.new ≡ record self.old { links = map (with_date (arc_value line)) self.old.links; waiting = waiting_after self.old.rests self.old.waiting }) }
+        ensures err { OnErr result (IsEmptied self.old self.new) }
     {
         come(
             &mut self.halves,
@@ -521,8 +529,8 @@ impl Served {
 
     /// Positions that count no more are let go. After `Memory` no link is left.
     pub fn forget(&mut self, now: u64) -> Result<(), Memory>
-        ensures rises { OnErr result ((high : ℕ) → Rises 0 (numbers self.old.links) high → Rises 0 (numbers self.new.links) high) }
         ensures ok { OnOk result (self.new ≡ record self.old { links = map (at_moment now) self.old.links; waiting = 0 }) }
+        ensures err { OnErr result (IsEmptied self.old self.new) }
     {
         self.settle_alone()?;
         self.let_fade(now);
@@ -539,8 +547,8 @@ impl Served {
 
     /// The links of these numbers leave. After `Memory` no link is left.
     pub fn drop_these(&mut self, ends: &[u32]) -> Result<(), Memory>
-        ensures rises { OnErr result ((high : ℕ) → Rises 0 (numbers self.old.links) high → Rises 0 (numbers self.new.links) high) }
         ensures ok { OnOk result (self.new ≡ record self.old { links = filter (is_none_of ends.now) self.old.links; waiting = 0 }) }
+        ensures err { OnErr result (IsEmptied self.old self.new) }
     {
         self.settle_alone()?;
         self.part_from(ends);
@@ -563,8 +571,8 @@ impl Served {
 
     /// The link of that number leaves. After `Memory` no link is left.
     pub fn leave(&mut self, number: u32) -> Result<(), Memory>
-        ensures rises { OnErr result ((high : ℕ) → Rises 0 (numbers self.old.links) high → Rises 0 (numbers self.new.links) high) }
         ensures ok { OnOk result (self.new ≡ record self.old { links = filter (is_none_of (number ∷ [])) self.old.links; waiting = 0 }) }
+        ensures err { OnErr result (IsEmptied self.old self.new) }
     {
         self.settle_alone()?;
         if self.rests {

@@ -130,7 +130,7 @@ impl Sessions {
         lose(&mut self.links, number);
     }
 
-    /// The link of that number brought bytes: what they cut.
+    /// The link of that number brought bytes: what they cut. `Memory` changes nothing.
     pub fn bring(
         &mut self,
         alloc: Global,
@@ -145,6 +145,7 @@ impl Sessions {
             → OnOk result (self.new ≡ map (at_link number (with_bytes moment (held_after (before ++ bytes.now)))) self.old) }
         ensures cuts { (before : List ℕ) → held_at number (here self.old) ≡ Some (held_after before) → IfOk result (λ cuts. cuts.items ≡ cuts_by before bytes.now) }
         ensures nowhere { held_at number (here self.old) ≡ None → IfOk result (λ cuts. (cuts.items ≡ []) × (self.new ≡ self.old)) }
+        ensures err { OnErr result (self.new ≡ self.old) }
     {
         bring(alloc, &mut self.links, number, moment, bytes)
     }

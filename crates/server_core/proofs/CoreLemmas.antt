@@ -37,7 +37,8 @@ use Rattle.server_core.specs.LinkSteps.{is_in_time, is_there, IsDatagram, admitt
 use Rattle.heard_routing.specs.Heard.{HeardSeen, without_link}
 use Rattle.aprs_conf.specs.Seen.{ConfSeen}
 use Rattle.server_core.specs.Meaning.{CoreMeaning, setting_of, timeouts_of}
-use Rattle.served_links.specs.Halves.{ServedSeen}
+use Rattle.served_links.specs.Halves.{IsEmptied, ServedSeen}
+use Rattle.served_links.proofs.ServedSteps.{emptied_rises}
 use Rattle.server_core.specs.Kept.{IsKept}
 use Rattle.server_core.specs.Steps.{SameRest, Walks, carried_at, scene_at, with_verdict}
 use Rattle.served_links.proofs.LinkLemmas.{changed_none, rises_at, rises_filter, rises_push}
@@ -393,11 +394,11 @@ kept_risen core served rises kept = record { rising = rises; small = kept.small;
 
 -- a link changes, or want of memory leaves fewer
 pub risen_by : {E : Type 0} (r : Result ⊤ E) (number : ℕ) (step : LinkSeen → LinkSeen) (old new : ServedSeen) (high : ℕ) → ((link : LinkSeen) → (step link).link ≡ link.link)
-    → OnErr r ((high : ℕ) → Rises 0 (numbers old.links) high → Rises 0 (numbers new.links) high) → OnOk r (new ≡ record old { links = map (at_link number step) old.links; waiting = 0 })
+    → OnErr r (IsEmptied old new) → OnOk r (new ≡ record old { links = map (at_link number step) old.links; waiting = 0 })
     → Rises 0 (numbers old.links) high → Rises 0 (numbers new.links) high
 risen_by (Ok done) number step old new high same gone is rises =
     subst (λ (s : ServedSeen). Rises 0 (numbers s.links) high) (sym is) (rises_at number step same high old.links (map (at_link number step) old.links) refl rises)
-risen_by (Err e) number step old new high same gone is rises = gone high rises
+risen_by (Err e) number step old new high same gone is rises = emptied_rises gone high
 
 pub kept_pushed : (core : CoreMeaning) (k : ℕ) (link : LinkSeen) (links : List LinkSeen) → IsKept core → core.seen.greatest < k → k < 2 ^ 32 → link.link ≡ k → links ≡ core.seen.links ++ link ∷ []
     → IsKept (record core { seen = record core.seen { links = links; greatest = k } })
@@ -418,10 +419,10 @@ pub kept_left : (core : CoreMeaning) (served : ServedSeen) (heard : HeardSeen) (
 kept_left core served heard reach turned closing rises kept = record { rising = rises; small = kept.small; station = kept.station; group = kept.group; few = kept.few; window = kept.window }
 
 -- some links leave, or want of memory leaves fewer
-pub left_by : {E : Type 0} (r : Result ⊤ E) (keep : LinkSeen → Bool) (old new : ServedSeen) (high : ℕ) → OnErr r ((high : ℕ) → Rises 0 (numbers old.links) high → Rises 0 (numbers new.links) high)
+pub left_by : {E : Type 0} (r : Result ⊤ E) (keep : LinkSeen → Bool) (old new : ServedSeen) (high : ℕ) → OnErr r (IsEmptied old new)
     → OnOk r (new ≡ record old { links = filter keep old.links; waiting = 0 }) → Rises 0 (numbers old.links) high → Rises 0 (numbers new.links) high
 left_by (Ok done) keep old new high gone is rises = subst (λ (s : ServedSeen). Rises 0 (numbers s.links) high) (sym is) (rises_filter keep 0 high old.links rises)
-left_by (Err e) keep old new high gone is rises = gone high rises
+left_by (Err e) keep old new high gone is rises = emptied_rises gone high
 
 -- that the links rest is no part of it
 pub walks_resting : (core : CoreMeaning) (t : Trace) (rests : Bool) → Walks core t → Walks (record core { rests = rests }) t

@@ -1,9 +1,11 @@
-use Rattle.std.proofs.Common.{◌≡◌, ◌^◌, ◌++◌, ap, sym, ◌∙◌, Some, None}
+use Rattle.std.proofs.Common.{◌≡◌, ◌^◌, ◌++◌, ap, slice_set, sym, ◌∙◌, Some, None}
 use Rattle.std.specs.List.{position}
+use Rattle.std.proofs.lemmas.List.{set-get_or}
 use Rattle.aprs_base.specs.Held.{Held, held_after}
 use Rattle.aprs_base.specs.Cuts.{cuts_by}
 use Rattle.served_links.specs.Links.{held_kept, is_at, named_of}
 use Rattle.served_links.specs.Changes.{with_bytes}
+use Rattle.served_links.proofs.FedLemmas.{on_err}
 use Rattle.served_links.proofs.HereLemmas.{named_set, picked_missing, picked_there}
 use Rattle.served_links.proofs.LinkLemmas.{changed_by}
 use Rattle.served_links.proofs.PlaceLemmas.{place_any}
@@ -61,3 +63,8 @@ returns-in_ok-bring-in-Some-clause-halves c states all =
 pub returns-in_err-bring-in-Some-clause-halves : goal.returns-in_err-bring-in-Some-clause-halves
 returns-in_err-bring-in-Some-clause-halves c states all =
     half_changed c.args.links.now.items states c.in-Some.place c.index_mut.result.now c.bring.new.self all c.index_mut.ensures.value (λ s m. brought_matches c.index_mut.result.now c.bring.new.self s c.bring.ensures.frame m)
+
+pub returns-in_err-bring-in-Some-clause-err : goal.returns-in_err-bring-in-Some-clause-err
+returns-in_err-bring-in-Some-clause-err c =
+    let links = c.args.links.now.items in
+    on_err c.from_residual.result (ap (slice_set links c.in-Some.place) (c.in_err-bring-in-Some.ensures.err ∙ c.index_mut.ensures.value) ∙ set-get_or links c.in-Some.place c.index_mut.result.now)

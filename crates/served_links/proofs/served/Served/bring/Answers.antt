@@ -1,5 +1,5 @@
 use Rattle.std.proofs.Common.{◌≡◌, ap, refl, subst, sym, ◌∙◌, ◌++◌, None}
-use Rattle.std.proofs.lemmas.Result.{on_ok_weaker}
+use Rattle.std.proofs.lemmas.Result.{on_err_weaker, on_ok_weaker}
 use Rattle.aprs_base.specs.Held.{held_after}
 use Rattle.served_links.specs.Fed.{joined_all}
 use Rattle.served_links.specs.Halves.{served_seen}
@@ -48,3 +48,6 @@ returns-clause-cuts c before is = c.bring.ensures.cuts before (held_same c ∙ i
 pub returns-clause-nowhere : goal.returns-clause-nowhere
 returns-clause-nowhere c none =
     if_ok c.bring.result (λ cuts same. (same.0, ap (λ ls. served_seen ls c.self.inside.feeds c.self.inside.queued c.self.inside.rests) same.1 ∙ c.self.view_is)) (c.bring.ensures.nowhere (held_same c ∙ none))
+
+pub returns-clause-err : goal.returns-clause-err
+returns-clause-err c = on_err_weaker c.bring.result (λ same. ap (λ ls. served_seen ls c.self.inside.feeds c.self.inside.queued c.self.inside.rests) same ∙ c.self.view_is) c.bring.ensures.err

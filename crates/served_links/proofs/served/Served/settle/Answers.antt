@@ -1,4 +1,4 @@
-use Rattle.served_links.proofs.ServedSteps.{met_rises, settled_are, settled_seen}
+use Rattle.served_links.proofs.ServedSteps.{emptied, met_rises, settled_are, settled_seen}
 use Rattle.served_links.proofs.served.Served.settle.Goals as goal
 
 pub invariant_of-self : goal.invariant_of-self
@@ -10,3 +10,6 @@ returns-clause-rises g c =
 
 pub returns-clause-ok : goal.returns-clause-ok
 returns-clause-ok g c = settled_seen c.settle.result c.self.inside c.settle.new.halves c.settle.new.feeds c.settle.ensures.halves c.settle.ensures.feeds c.self.view_is
+
+pub returns-clause-err : goal.returns-clause-err
+returns-clause-err g c = emptied c.settle.result c.self.inside c.settle.new.halves c.settle.new.feeds c.self.view_is c.settle.ensures.cleared

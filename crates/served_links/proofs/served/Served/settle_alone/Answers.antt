@@ -1,4 +1,4 @@
-use Rattle.served_links.proofs.ServedSteps.{met_rises, settled_are, settled_seen}
+use Rattle.served_links.proofs.ServedSteps.{emptied, met_rises, settled_are, settled_seen}
 use Rattle.served_links.proofs.served.Served.settle_alone.Goals as goal
 
 pub invariant_of-self : goal.invariant_of-self
@@ -10,3 +10,6 @@ returns-clause-rises c =
 
 pub returns-clause-ok : goal.returns-clause-ok
 returns-clause-ok c = settled_seen c.settle_alone.result c.self.inside c.settle_alone.new.halves c.settle_alone.new.feeds c.settle_alone.ensures.halves c.settle_alone.ensures.feeds c.self.view_is
+
+pub returns-clause-err : goal.returns-clause-err
+returns-clause-err c = emptied c.settle_alone.result c.self.inside c.settle_alone.new.halves c.settle_alone.new.feeds c.self.view_is c.settle_alone.ensures.cleared

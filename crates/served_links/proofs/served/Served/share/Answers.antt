@@ -1,4 +1,5 @@
-use Rattle.std.proofs.Common.{◌≡◌, ap, filter, length, subst, sym, ◌∙◌, OnOk, List}
+use Rattle.std.proofs.Common.{◌≡◌, ap, filter, inl, length, subst, sym, ◌∙◌, OnOk, List}
+use Rattle.std.proofs.lemmas.Result.{on_err_weaker}
 use Rattle.aprs_history.specs.Stands.{LinkSeen}
 use Rattle.link_feeds.specs.Feeds.{met_by, put_in}
 use Rattle.worker_match.specs.Seen.{OfferSeen, Came}
@@ -8,7 +9,7 @@ use Rattle.served_links.specs.Changes.{is_asked_at, takes_packet, with_packet}
 use Rattle.served_links.specs.Halves.{more}
 use Rattle.served_links.specs.Links.{numbers}
 use Rattle.served_links.proofs.FedLemmas.{offer_matches}
-use Rattle.served_links.proofs.ServedSteps.{met_are, met_rises, met_seen, more_later, shared_links, shared_put}
+use Rattle.served_links.proofs.ServedSteps.{emptied, met_are, met_rises, met_seen, more_later, shared_links, shared_put}
 use Rattle.served_links.proofs.HereLemmas.{named_packet, none_taking}
 use Rattle.served_links.proofs.served.Served.share.Goals as goal
 
@@ -46,3 +47,6 @@ returns-clause-ok c =
     (shared_links c.args.packet.now c.args.source.now c.args.hearers.now c.args.owed.now hs ss c.self.invariant.0.match c.self.invariant.0.rising)
     (ap (λ put. more put c.self.inside.queued) (shared_put c.args.packet.now c.args.source.now c.args.hearers.now c.args.owed.now hs ss c.self.invariant.0.match c.self.invariant.0.rising) ∙ more_later n (put_in ss) c.self.inside.queued ∙ ap (λ ls. more (length ls) (more (put_in ss) c.self.inside.queued)) same)
     c.come.ensures.halves (met c) c.come.ensures.waiting c.self.view_is
+
+pub returns-clause-err : goal.returns-clause-err
+returns-clause-err c = on_err_weaker c.come.result inl (emptied c.come.result c.self.inside c.come.new.halves c.come.new.feeds c.self.view_is c.come.ensures.cleared)

@@ -1,4 +1,5 @@
-use Rattle.std.proofs.Common.{◌≡◌, ap, filter, length, map, subst, sym, ◌∙◌, OnOk, List, ℕ}
+use Rattle.std.proofs.Common.{◌≡◌, ap, filter, inl, length, map, subst, sym, ◌∙◌, OnOk, List, ℕ}
+use Rattle.std.proofs.lemmas.Result.{on_err_weaker}
 use Rattle.aprs_base.specs.declared.packets.Source.{Source}
 use Rattle.aprs_base.specs.PacketSeen.{PacketSeen}
 use Rattle.link_feeds.specs.Feeds.{met_by, put_in}
@@ -8,7 +9,7 @@ use Rattle.served_links.specs.Halves.{ServedSeen, served_seen}
 use Rattle.served_links.specs.Halves.{more, waiting_after}
 use Rattle.served_links.specs.Changes.{takes_shown, with_shown}
 use Rattle.served_links.proofs.FedLemmas.{offer_matches}
-use Rattle.served_links.proofs.ServedSteps.{met_are, met_rises, met_seen, more_later, shown_links, shown_put}
+use Rattle.served_links.proofs.ServedSteps.{emptied, met_are, met_rises, met_seen, more_later, shown_links, shown_put}
 use Rattle.served_links.proofs.HereLemmas.{named_shown, none_showing}
 use Rattle.served_links.proofs.served.Served.show_all.Goals as goal
 
@@ -45,3 +46,6 @@ returns-clause-ok c =
     (ap (λ put. more put c.self.inside.queued) (shown_put seen hs ss c.self.invariant.0.match) ∙ more_later (length (filter (takes_shown seen.from) (joined_all hs ss))) (put_in ss) c.self.inside.queued
     ∙ ap (λ ls. more (length ls) (more (put_in ss) c.self.inside.queued)) (sym (none_showing seen.from (joined_all hs ss))))
     c.come.ensures.halves (met c) c.come.ensures.waiting c.self.view_is))
+
+pub returns-clause-err : goal.returns-clause-err
+returns-clause-err c = on_err_weaker c.come.result inl (emptied c.come.result c.self.inside c.come.new.halves c.come.new.feeds c.self.view_is c.come.ensures.cleared)

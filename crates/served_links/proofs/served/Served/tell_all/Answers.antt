@@ -5,7 +5,7 @@ use Rattle.served_links.specs.Halves.{ServedSeen}
 use Rattle.served_links.specs.Halves.{more}
 use Rattle.served_links.specs.Changes.{with_date}
 use Rattle.served_links.proofs.FedLemmas.{date_matches}
-use Rattle.served_links.proofs.ServedSteps.{dated_links, dated_put, met_are, met_rises, met_seen}
+use Rattle.served_links.proofs.ServedSteps.{dated_links, dated_put, emptied, met_are, met_rises, met_seen}
 use Rattle.served_links.proofs.HereLemmas.{named_date}
 use Rattle.served_links.proofs.served.Served.tell_all.Goals as goal
 
@@ -25,3 +25,6 @@ returns-clause-ok c =
     met_seen c.come.result (with_date (arc_value c.args.line)) (λ (s : ServedSeen). s.queued) c.self.inside c.come.new.halves c.come.new.feeds (ToldAll (arc_value c.args.line)) (named_date (arc_value c.args.line))
     (dated_links (arc_value c.args.line) hs ss c.self.invariant.0.match) (ap (λ put. more put c.self.inside.queued) (dated_put (arc_value c.args.line) hs ss c.self.invariant.0.match))
     c.come.ensures.halves c.come.ensures.links c.come.ensures.waiting c.self.view_is
+
+pub returns-clause-err : goal.returns-clause-err
+returns-clause-err c = emptied c.come.result c.self.inside c.come.new.halves c.come.new.feeds c.self.view_is c.come.ensures.cleared

@@ -28,11 +28,11 @@ invariant_of-self c =
     let line = arc_value c.in_ok-line-in-Denied.line in
     kept_risen _ c.reply.new.self
     (risen_by c.reply.result c.args.number (with_text line) c.self.inside.links c.reply.new.self c.self.inside.greatest (λ link. text_number line link)
-    c.reply.ensures.rises c.reply.ensures.ok c.self.invariant.rising) c.self.invariant
+    c.reply.ensures.err c.reply.ensures.ok c.self.invariant.rising) c.self.invariant
 
 pub invariant_of-self-in-Denied : goal.invariant_of-self-in-Denied
 invariant_of-self-in-Denied c =
     let line = arc_value c.in_ok-line-in-Denied.line in
     kept_risen _ c.reply.new.self
     (risen_by c.reply.result c.args.number (with_text line) c.self.inside.links c.reply.new.self c.self.inside.greatest (λ link. text_number line link)
-    c.reply.ensures.rises c.reply.ensures.ok c.self.invariant.rising) c.self.invariant
+    c.reply.ensures.err c.reply.ensures.ok c.self.invariant.rising) c.self.invariant

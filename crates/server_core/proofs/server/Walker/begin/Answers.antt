@@ -7,13 +7,14 @@ use Rattle.server_core.specs.Meaning.{CoreMeaning}
 use Rattle.server_core.specs.Steps.{Walks}
 use Rattle.server_core.proofs.CoreLemmas.{kept_left, walks_begun, walks_resting}
 use Rattle.server_core.proofs.LeftLemmas.{passing_left}
+use Rattle.served_links.proofs.ServedSteps.{emptied_rises}
 use Rattle.served_links.proofs.LinkLemmas.{rises_filter}
 use Rattle.server_core.proofs.server.Walker.begin.Goals as goal
 
 pub invariant_of-self : goal.invariant_of-self
 invariant_of-self c =
     kept_left _ c.drop_these.new.self c.forget_all.new.heard c.end_all.new.self c.clear.new.self.items c.clear-2.new.self.items
-    (c.in_err-drop_these.ensures.rises c.self.inside.greatest c.self.invariant.rising) c.self.invariant
+    (emptied_rises c.in_err-drop_these.ensures.err c.self.inside.greatest) c.self.invariant
 
 pub invariant_of-self-2 : goal.invariant_of-self-2
 invariant_of-self-2 c =

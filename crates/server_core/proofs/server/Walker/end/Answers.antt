@@ -9,7 +9,7 @@ use Rattle.server_core.proofs.server.Walker.end.Goals as goal
 pub invariant_of-self : goal.invariant_of-self
 invariant_of-self c =
     kept_left _ c.leave.new.self c.forget.new.self c.end_at.new.self c.self.inside.turned.items c.self.inside.closing.items
-    (left_by c.leave.result (is_none_of (c.args.number ∷ [])) c.self.inside.links c.leave.new.self c.self.inside.greatest c.leave.ensures.rises c.leave.ensures.ok c.self.invariant.rising) c.self.invariant
+    (left_by c.leave.result (is_none_of (c.args.number ∷ [])) c.self.inside.links c.leave.new.self c.self.inside.greatest c.leave.ensures.err c.leave.ensures.ok c.self.invariant.rising) c.self.invariant
 
 pub returns-clause-live : goal.returns-clause-live
 returns-clause-live c = λ t walks live.

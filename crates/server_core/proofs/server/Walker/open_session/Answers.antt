@@ -34,4 +34,4 @@ invariant_of-self c =
     kept_risen _ c.log_in.new.self
     (risen_by c.log_in.result c.args.number (with_session c.args.session c.place_of-mine.result line) c.self.inside.links c.log_in.new.self c.self.inside.greatest
     (λ link. text_number line (record link { session = Some c.args.session; mine = place_kept link.over c.place_of-mine.result }))
-    c.log_in.ensures.rises c.log_in.ensures.ok c.self.invariant.rising) c.self.invariant
+    c.log_in.ensures.err c.log_in.ensures.ok c.self.invariant.rising) c.self.invariant

@@ -5,12 +5,13 @@ use Rattle.served_links.specs.Links.{Rises, numbers}
 use Rattle.served_links.specs.Changes.{at_moment}
 use Rattle.server_core.specs.Meaning.{CoreMeaning}
 use Rattle.server_core.proofs.CoreLemmas.{kept_risen}
+use Rattle.served_links.proofs.ServedSteps.{emptied_rises}
 use Rattle.served_links.proofs.LinkLemmas.{numbers_kept}
 use Rattle.server_core.proofs.WindowLemmas.{current_passed}
 use Rattle.server_core.proofs.server.Walker.pass.Goals as goal
 
 pub invariant_of-self : goal.invariant_of-self
-invariant_of-self c = kept_risen _ c.forget.new.self (c.in_err-forget.ensures.rises c.self.inside.greatest c.self.invariant.rising) c.self.invariant
+invariant_of-self c = kept_risen _ c.forget.new.self (emptied_rises c.in_err-forget.ensures.err c.self.inside.greatest) c.self.invariant
 
 pub invariant_of-self-2 : goal.invariant_of-self-2
 invariant_of-self-2 c =

@@ -33,4 +33,4 @@ invariant_of-self c =
     kept_risen _ c.set_filter.new.self
     (risen_by c.set_filter.result c.args.number (with_filter (arc_value c.in_ok-filter.filter) c.friends_found-friends.result line) c.self.inside.links c.set_filter.new.self c.self.inside.greatest
     (λ link. text_number line (record link { filter = arc_value c.in_ok-filter.filter; friends = friends_kept link.over c.friends_found-friends.result }))
-    c.set_filter.ensures.rises c.set_filter.ensures.ok c.self.invariant.rising) c.self.invariant
+    c.set_filter.ensures.err c.set_filter.ensures.ok c.self.invariant.rising) c.self.invariant
