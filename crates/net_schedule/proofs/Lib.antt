@@ -1,0 +1,14 @@
+pub mod ArmLemmas
+pub mod CarryLemmas
+pub mod DriveLemmas
+pub mod FactLemmas
+pub mod FlowLemmas
+pub mod JoinLemmas
+pub mod KeepLemmas
+pub mod ListLemmas
+pub mod RoundLemmas
+pub mod RunLemmas
+pub mod StandLemmas
+pub mod StepLemmas
+pub mod ThereLemmas
+pub mod TurnLemmas

@@ -1,0 +1,9 @@
+pub mod Asked
+pub mod Joined
+pub mod Kept
+pub mod Networks
+pub mod Reported
+pub mod Rounds
+pub mod Running
+pub mod Standing
+pub mod Waiting
