@@ -13,12 +13,12 @@ use Rattle.aprs_base.specs.declared.events.Sent.TheVariants as sent
 use Rattle.aprsc_daemon.specs.Phases.{Brings, events_in}
 use Rattle.aprs_conf.specs.declared.errors.ConfFault.TheVariants as fault
 use Rattle.aprs_conf.specs.declared.errors.ConfWord.TheVariants as word
-use Rattle.aprsc_daemon.specs.Saying.{trouble_text, listen_failed_text}
+use Rattle.aprsc_daemon.specs.Saying.{bad_step_text, trouble_text, listen_failed_text}
 use Rattle.aprsc_daemon.specs.declared.configuring.Trouble.TheVariants as trouble
 use Rattle.clap.proofs.OnLiterals.{clap_on_literals}
 use Rattle.login_pass.specs.Passcode.{passcode_of}
 use Rattle.aprsc_daemon.specs.Drill.{drill_setting}
-use Rattle.aprsc_daemon.specs.Words.{asked_of, bare_app, check_rule, drill_of, file_rule, number_rule, workers_rule}
+use Rattle.aprsc_daemon.specs.Words.{asked_of, bare_app, check_rule, drill_of, file_rule, net_of, number_rule, script_rule, workers_rule}
 use Rattle.aprsc_daemon.specs.declared.words.Task.TheVariants as task
 
 good_words : asked_of (codes "-c" ∷ codes "aprsc.conf" ∷ []) ≡ Some (record { file = codes "aprsc.conf"; workers = 1; task = task.Serve })
@@ -75,9 +75,28 @@ no_numbers : drill_of (codes "drill" ∷ []) ≡ None
 unfolding clap_on_literals drill_of bare_app check_rule file_rule number_rule workers_rule
 no_numbers = refl
 
-other_than_drill : drill_of (codes "net" ∷ codes "x" ∷ []) ≡ None
+another_mode : drill_of (codes "net" ∷ codes "x" ∷ []) ≡ None
 unfolding drill_of
-other_than_drill = refl
+another_mode = refl
+
+a_network : net_of (codes "net" ∷ codes "s" ∷ []) ≡ Some (record { file = codes "s" })
+unfolding clap_on_literals net_of bare_app script_rule
+a_network = refl
+
+no_script : net_of (codes "net" ∷ []) ≡ None
+unfolding clap_on_literals net_of bare_app script_rule
+no_script = refl
+
+two_scripts : net_of (codes "net" ∷ codes "a" ∷ codes "b" ∷ []) ≡ None
+unfolding clap_on_literals net_of bare_app script_rule
+two_scripts = refl
+
+other_than_network : net_of (codes "drill" ∷ codes "x" ∷ []) ≡ None
+unfolding net_of
+other_than_network = refl
+
+bad_script_line : bad_step_text (codes "s") 4 ≡ codes "s: line 4: bad step\n"
+bad_script_line = let four : decimal 4 ≡ 52 ∷ [] = decimal_digit 4 (lit< tt) in rw four refl
 
 -- the code of the drill's setting
 drill_passcode : passcode_of drill_setting.server ≡ drill_setting.code

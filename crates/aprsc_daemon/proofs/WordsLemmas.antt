@@ -1,13 +1,14 @@
 -- From the values that `clap` found in the words to what they ask for.
-use Rattle.std.proofs.Common.{◌≡◌, ℕ, ◌≤◌, ◌<◌, ◌^◌, Bool, true, false, List, [], ◌∷◌, Option, Some, None, Result, Ok, refl, sym, ap, ◌∙◌, arith, codes, drop}
+use Rattle.std.proofs.Common.{◌≡◌, ◌||◌, ℕ, ◌≤◌, ◌<◌, ◌^◌, Bool, true, false, List, [], ◌∷◌, Option, Some, None, Result, Ok, refl, sym, ap, ◌∙◌, arith, codes, drop}
 use Rattle.std.specs.Option.{option_and_then, option_map_or}
+use Rattle.std.proofs.lemmas.Slice.Eq.{bytes_eq-Decides}
 use Rattle.std.specs.Str.Parse.{ParsesUnsigned, digits_value, without_leading_plus}
 use Rattle.clap.specs.ValueTests.{is_unsigned_in}
 use Rattle.std.specs.Prelude.{if◌then◌else◌}
 use Rattle.clap.specs.Words.{IsUnsignedIn, Kinds, ReadsOne, Row, fault_of, matches_of}
 use Rattle.clap.specs.declared.builder.value_parser.ValueParser.TheVariants as vp
 use Rattle.clap.proofs.ValueTestLemmas.{accepts-Accepts, Accepts-accepts}
-use Rattle.aprsc_daemon.specs.Words.{ServerWordsSeen, asked_of, begins_with, drill_app, drill_in, drill_of, drill_said_by, if_small, names_mode, number_in, said_by, server_app, without_fault}
+use Rattle.aprsc_daemon.specs.Words.{NetWordsSeen, ServerWordsSeen, asked_of, begins_with, drill_app, drill_in, drill_of, drill_said_by, if_small, names_mode, net_app, net_in, net_of, net_said_by, number_in, said_by, server_app, without_fault}
 use Rattle.aprsc_daemon.specs.declared.words.DrillWords.{DrillWords}
 
 -- a number of a range that a text reads as is its number
@@ -101,8 +102,12 @@ no_mode words other = rw other refl
 pub begins_drill : (words : List (List ℕ)) → begins_with (codes "drill") words ≡ true → asked_of words ≡ None
 begins_drill words is = other_mode words (rw is refl)
 
-pub begins_net : (words : List (List ℕ)) → begins_with (codes "drill") words ≡ false → begins_with (codes "net") words ≡ true → asked_of words ≡ None
-begins_net words other is = other_mode words (rw (other, is) refl)
+pub begins_net : (words : List (List ℕ)) → begins_with (codes "net") words ≡ true → asked_of words ≡ None
+begins_net words is = other_mode words (by (begins_with (codes "drill") words))
+  where
+    by : (b : Bool) → b || begins_with (codes "net") words ≡ true
+    by true = refl
+    by false = is
 
 -- words that ask for a drill ask nothing of the server
 pub only_drill : (words : List (List ℕ)) (asked : DrillWords) → drill_of words ≡ Some asked → asked_of words ≡ None
@@ -114,3 +119,52 @@ only_drill words asked drill = by_name (begins_with (codes "drill") words) refl
     by_name : (b : Bool) → begins_with (codes "drill") words ≡ b → asked_of words ≡ None
     by_name true is = begins_drill words is
     by_name false is = absurd (nothing (sym (no_mode words is) ∙ drill))
+
+-- ---- what they ask of a network
+
+pub no_net : (words : List (List ℕ)) → (fault_of net_app words ≡ [] → ⊥) → net_in words ≡ None
+no_net words bad = none_by_fault (fault_of net_app words) (net_said_by (matches_of net_app words)) bad
+
+pub asks_net : (words : List (List ℕ)) (rows : List Row) (said : NetWordsSeen) → fault_of net_app words ≡ [] → rows ≡ matches_of net_app words → said ≡ net_said_by rows → net_in words ≡ Some said
+asks_net words rows said good found is = rw (good, is, found) refl
+
+pub net_after : (words : List (List ℕ)) → begins_with (codes "net") words ≡ true → net_of words ≡ net_in (drop 1 words)
+unfolding net_of
+net_after words is = rw is refl
+
+pub no_net_mode : (words : List (List ℕ)) → begins_with (codes "net") words ≡ false → net_of words ≡ None
+unfolding net_of
+no_net_mode words other = rw other refl
+
+-- a word is no more than one of the names
+begins_once : (words : List (List ℕ)) → begins_with (codes "net") words ≡ true → begins_with (codes "drill") words ≡ false
+begins_once [] is = cc
+begins_once (first ∷ others) is = rw ((bytes_eq-Decides first (codes "net")).0 is) refl
+
+-- words that begin with a mode's name ask nothing by the other's
+pub drill_not_net : (words : List (List ℕ)) → begins_with (codes "drill") words ≡ true → net_of words ≡ None
+drill_not_net words is = by (begins_with (codes "net") words) refl
+  where
+    wrong : false ≡ true → ⊥
+    wrong e = cc
+
+    by : (b : Bool) → begins_with (codes "net") words ≡ b → net_of words ≡ None
+    by true net = absurd (wrong (sym (begins_once words net) ∙ is))
+    by false other = no_net_mode words other
+
+-- what asks for a network asks for nothing else
+begins_by_net : (words : List (List ℕ)) (asked : NetWordsSeen) → net_of words ≡ Some asked → begins_with (codes "net") words ≡ true
+begins_by_net words asked net = by (begins_with (codes "net") words) refl
+  where
+    nothing : None ≡ Some asked → ⊥
+    nothing e = cc
+
+    by : (b : Bool) → begins_with (codes "net") words ≡ b → b ≡ true
+    by true is = refl
+    by false is = absurd (nothing (sym (no_net_mode words is) ∙ net))
+
+pub only_net : (words : List (List ℕ)) (asked : NetWordsSeen) → net_of words ≡ Some asked → asked_of words ≡ None
+only_net words asked net = begins_net words (begins_by_net words asked net)
+
+pub drill_or_net : (words : List (List ℕ)) (asked : NetWordsSeen) → net_of words ≡ Some asked → drill_of words ≡ None
+drill_or_net words asked net = no_mode words (begins_once words (begins_by_net words asked net))

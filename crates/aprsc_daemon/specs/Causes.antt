@@ -1,5 +1,5 @@
 -- Why the program ends with each of its statuses, and what it leaves.
-use Rattle.std.specs.Prelude.{◌≡◌, ◌⊎◌, ◌==◌, ◌||◌, ℕ, ◌<◌, ◌≤◌, Bool, List, take, length, true, false, if◌then◌else◌, ◌∷◌, ◌++◌, Option, Some, None, Ok}
+use Rattle.std.specs.Prelude.{◌≡◌, ◌⊎◌, ◌==◌, ◌||◌, ℕ, ◌<◌, ◌≤◌, Bool, List, take, length, true, false, if◌then◌else◌, ◌∷◌, ◌++◌, Option, Some, None, Ok, Err}
 use Rattle.std.specs.List.{All}
 use Rattle.aprs_base.specs.Outside.{WireShown, one_more}
 use Rattle.aprs_base.specs.Stores.{FilesShown, Holds, SinkShown, place_named}
@@ -17,13 +17,18 @@ use Rattle.aprs_conf.specs.Seen.{ConfSeen}
 use Rattle.aprs_conf.specs.Grammar.{conf_of}
 use Rattle.server_core.specs.Meaning.{setting_of}
 use Rattle.aprsc_daemon.specs.Phases.{Finished, Idle}
-use Rattle.aprsc_daemon.specs.Saying.{Grew, listen_failed_text, trouble_text, too_large_text, unread_text, usage_text, valid_text}
+use Rattle.aprsc_daemon.specs.Saying.{Grew, bad_step_text, listen_failed_text, trouble_text, too_large_text, unread_text, usage_text, valid_text}
 use Rattle.drill_plan.specs.declared.plan.Plan.{Plan}
+use Rattle.net_script.specs.declared.errors.ScriptError.TheVariants as script_error
+use Rattle.net_script.specs.Reading.{script_of}
+use Rattle.net_script.specs.Running.{script_text}
+use Rattle.net_script.specs.Seen.{ScriptSeen}
 use Rattle.aprsc_daemon.specs.Configuring.{IsTrouble}
 use Rattle.aprsc_daemon.specs.Drill.{IsSummary}
 use Rattle.aprsc_daemon.specs.declared.words.DrillWords.{DrillWords}
 use Rattle.aprsc_daemon.specs.declared.configuring.Trouble.{Trouble}
-use Rattle.aprsc_daemon.specs.Words.{ServerWordsSeen, asked_of, drill_of}
+use Rattle.aprsc_daemon.specs.Asked.{AskNothing}
+use Rattle.aprsc_daemon.specs.Words.{NetWordsSeen, ServerWordsSeen, asked_of, drill_of, net_of}
 use Rattle.aprsc_daemon.specs.declared.words.Task.{Task}
 use Rattle.aprsc_daemon.specs.declared.words.Task.TheVariants as task
 use Rattle.aprsc_daemon.specs.declared.serving.End.{End}
@@ -64,9 +69,15 @@ ReadsNone old new = (new.told ≡ old.told) × (new.last ≡ old.last) × (new.r
 abbrev pub ReadsOne : List ℕ → FilesShown → FilesShown → Type 0
 ReadsOne name old new = (new.told ≡ old.told) × (new.last ≡ place_named name old.told) × (new.reads ≡ one_more old.reads)
 
+-- the words name this file, of the server's configuration or of a network's script
+abbrev pub NamesFile : List (List ℕ) → List ℕ → Type 0
+NamesFile words file =
+    ((asked : ServerWordsSeen) × (asked_of words ≡ Some asked) × (asked.file ≡ file))
+    ⊎ ((asked : NetWordsSeen) × (net_of words ≡ Some asked) × (asked.file ≡ file))
+
 -- no file was read, or that which the words name, once
 abbrev pub ReadsNamed : List (List ℕ) → FilesShown → FilesShown → Type 0
-ReadsNamed words old new = ReadsNone old new ⊎ ((asked : ServerWordsSeen) × (asked_of words ≡ Some asked) × ReadsOne asked.file old new)
+ReadsNamed words old new = ReadsNone old new ⊎ ((file : List ℕ) × NamesFile words file × ReadsOne file old new)
 
 -- and the reading didn't fail
 abbrev pub ReadsWell : List (List ℕ) → FilesShown → FilesShown → Type 0
@@ -118,10 +129,24 @@ pub record HasDrilled (o : Outside) (text : List ℕ) : Type 0 where
   pub unused : IsUnused o
   pub summary : IsSummary asked.plan text
 
--- 1: the words ask neither for the server nor for a drill
+-- the words ask for a network, and the file that they name holds this script, as far as the files tell
+pub record HasScript (words : List (List ℕ)) (told : Option (List MemFile)) (script : ScriptSeen) : Type 0 where
+  pub asked : NetWordsSeen
+  pub bytes : List ℕ
+  pub named : net_of words ≡ Some asked
+  pub holds : Holds told asked.file bytes
+  pub reads : script_of bytes ≡ Ok script
+
+-- 0 with `net`: the named file holds a script, and the text is what this comes to
+pub record HasReported (o : Outside) (text : List ℕ) : Type 0 where
+  pub script : ScriptSeen
+  pub read : HasScript o.words o.files.told script
+  pub unused : IsUnused o
+  pub line : text ≡ script_text script
+
+-- 1: the words ask neither for the server nor for a drill nor for a network
 pub record HasBadWords (o : Outside) (text : List ℕ) : Type 0 where
-  pub bad : asked_of o.words ≡ None
-  pub no_drill : drill_of o.words ≡ None
+  pub bad : AskNothing o.words
   pub unused : IsUnused o
   pub line : text ≡ usage_text
 
@@ -139,17 +164,31 @@ pub record HasRefused (words : List (List ℕ)) (told : Option (List MemFile)) (
   pub holds : Holds told asked.file bytes
   pub off : IsOff asked.file bytes text
 
+-- these bytes of the file are too many, or no script; and the text that says which
+abbrev pub IsOffScript : List ℕ → List ℕ → List ℕ → Type 0
+IsOffScript file bytes text =
+    ((script_of bytes ≡ Err script_error.TooLarge) × (text ≡ too_large_text file))
+    ⊎ ((n : ℕ) × (script_of bytes ≡ Err (script_error.BadStep n)) × (text ≡ bad_step_text file n))
+
+-- the words ask for a network, and name a file that holds such bytes, as far as the files tell
+pub record HasBadScript (words : List (List ℕ)) (told : Option (List MemFile)) (text : List ℕ) : Type 0 where
+  pub asked : NetWordsSeen
+  pub bytes : List ℕ
+  pub named : net_of words ≡ Some asked
+  pub holds : Holds told asked.file bytes
+  pub off : IsOffScript asked.file bytes text
+
 -- 2: the words are good, and the named file is too large or off its grammar
 pub record HasBadFile (o : Outside) (text : List ℕ) : Type 0 where
-  pub read : HasRefused o.words o.files.told text
+  pub read : HasRefused o.words o.files.told text ⊎ HasBadScript o.words o.files.told text
   pub unused : IsUnused o
 
 -- 3: the words are good, and the files failed
 pub record HasUnreadFile (o : Outside) (text : List ℕ) : Type 0 where
-  pub asked : ServerWordsSeen
-  pub named : asked_of o.words ≡ Some asked
+  pub file : List ℕ
+  pub named : NamesFile o.words file
   pub unused : IsUnused o
-  pub line : text ≡ unread_text asked.file
+  pub line : text ≡ unread_text file
 
 -- so many listeners were opened, and nothing else happened
 abbrev pub OpensOnly : ℕ → History → Type 0
@@ -167,6 +206,7 @@ abbrev pub IsDue : Status → Outside → List ℕ → Type 0
 IsDue status.Stopped o text = ⊥
 IsDue status.Checked o text = HasValidFile o text
 IsDue status.Drilled o text = HasDrilled o text
+IsDue status.Reported o text = HasReported o text
 IsDue status.BadWords o text = HasBadWords o text
 IsDue status.BadFile o text = HasBadFile o text
 IsDue status.UnreadFile o text = HasUnreadFile o text
@@ -249,6 +289,7 @@ abbrev pub Cause : Status → Outside → Type 0
 Cause status.Stopped o = HasStopped o
 Cause status.Checked o = Reports status.Checked o
 Cause status.Drilled o = Reports status.Drilled o
+Cause status.Reported o = Reports status.Reported o
 Cause status.BadWords o = Reports status.BadWords o
 Cause status.BadFile o = Reports status.BadFile o
 Cause status.UnreadFile o = Reports status.UnreadFile o
@@ -261,6 +302,7 @@ abbrev pub code_of_status : Status → ℕ
 code_of_status status.Stopped = 0
 code_of_status status.Checked = 0
 code_of_status status.Drilled = 0
+code_of_status status.Reported = 0
 code_of_status status.BadWords = 1
 code_of_status status.BadFile = 2
 code_of_status status.UnreadFile = 3
@@ -312,15 +354,12 @@ Opening setting more = listens_in more < length setting.listens
 
 -- ---- completeness
 
--- the words ask for nothing, and for a drill
-abbrev pub AskNothing : List (List ℕ) → Type 0
-AskNothing words = (asked_of words ≡ None) × (drill_of words ≡ None)
-
+-- the words ask for a drill
 abbrev pub AskDrill : List (List ℕ) → Type 0
 AskDrill words = (asked : DrillWords) × (drill_of words ≡ Some asked)
 
 -- the status that the words ask for, and the file where the files tell it: 1 for bad words, 2 for a file that is off, 0 for
--- a configuration, whether it is to be served or checked, and for a drill
+-- a configuration, whether it is to be served or checked, for a drill, and for a script
 abbrev pub Asks : List (List ℕ) → Option (List MemFile) → ℕ → Type 0
 Asks words None code =
     ((code ≡ 1) × AskNothing words)
@@ -330,6 +369,8 @@ Asks words (Some files) code =
     ⊎ ((code ≡ 2) × (text : List ℕ) × HasRefused words (Some files) text)
     ⊎ ((code ≡ 0) × (asked_task : Task) × (conf : ConfSeen) × HasNamed asked_task words (Some files) conf)
     ⊎ ((code ≡ 0) × AskDrill words)
+    ⊎ ((code ≡ 2) × (text : List ℕ) × HasBadScript words (Some files) text)
+    ⊎ ((code ≡ 0) × (script : ScriptSeen) × HasScript words (Some files) script)
 
 -- ---- a drill
 
@@ -337,6 +378,18 @@ Asks words (Some files) code =
 abbrev pub DrillEnds : ℕ → Plan → SinkShown → SinkShown → Type 0
 DrillEnds code plan old new =
     ((code ≡ 0) × (text : List ℕ) × IsSummary plan text × Grew old new text)
+    ⊎ (code ≡ 6)
+    ⊎ ((code ≡ 7) × (new.faults ≡ one_more old.faults))
+
+-- ---- a network
+
+-- it ends with what the file's script comes to on the sink, with what is wrong with the file, for want of memory, or where the
+-- sink failed
+abbrev pub NetEnds : ℕ → List ℕ → Option (List MemFile) → SinkShown → SinkShown → Type 0
+NetEnds code file told old new =
+    ((code ≡ 0) × (bytes : List ℕ) × (script : ScriptSeen) × Holds told file bytes × (script_of bytes ≡ Ok script) × Grew old new (script_text script))
+    ⊎ ((code ≡ 2) × (bytes : List ℕ) × (text : List ℕ) × Holds told file bytes × IsOffScript file bytes text × Grew old new text)
+    ⊎ ((code ≡ 3) × Grew old new (unread_text file))
     ⊎ (code ≡ 6)
     ⊎ ((code ≡ 7) × (new.faults ≡ one_more old.faults))
 

@@ -43,6 +43,9 @@ valid_text file = file ++ codes ": configuration is valid\n"
 abbrev pub too_large_text : List ℕ → List ℕ
 too_large_text file = file ++ codes ": too large\n"
 
+abbrev pub bad_step_text : List ℕ → ℕ → List ℕ
+bad_step_text file line = file ++ (codes ": line " ++ (decimal line ++ codes ": bad step\n"))
+
 abbrev pub unread_text : List ℕ → List ℕ
 unread_text file = file ++ codes ": cannot be read\n"
 

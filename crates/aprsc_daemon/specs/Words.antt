@@ -17,6 +17,10 @@ pub record ServerWordsSeen : Type 0 where
   pub workers : ℕ
   pub task : Task
 
+-- what they ask of a network: the file of its script
+pub record NetWordsSeen : Type 0 where
+  pub file : List ℕ
+
 -- ---- the server's command
 
 -- `-c FILE`, once
@@ -57,6 +61,15 @@ links_rule = number_rule (codes "links") 2 1000
 
 abbrev pub drill_app : App
 drill_app = with_rule (with_rule (with_rule (with_rule bare_app seed_rule) lines_rule) links_rule) workers_rule
+
+-- ---- the network's command
+
+-- the name of a file, as a word of its own
+unfoldable pub script_rule : Rule
+script_rule = record (new_rule (codes "file")) { action = Some Set; required = true }
+
+abbrev pub net_app : App
+net_app = with_rule bare_app script_rule
 
 -- ---- what the words ask for
 
@@ -99,6 +112,9 @@ drill_said_by rows = record {
   workers = number_of rows (codes "workers") 1 64;
 }
 
+abbrev pub net_said_by : List Row → NetWordsSeen
+net_said_by rows = record { file = unwrap_or (first_of (codes "file") rows) [] }
+
 -- this, unless there is a fault
 abbrev pub without_fault : {A : Type 0} → Kinds → A → Option A
 without_fault [] x = Some x
@@ -122,3 +138,11 @@ drill_in words = option_and_then if_small (without_fault (fault_of drill_app wor
 -- what the words ask of a drill
 unfoldable pub drill_of : List (List ℕ) → Option DrillWords
 drill_of words = if begins_with (codes "drill") words then drill_in (drop 1 words) else None
+
+-- what the words after the mode's name ask of a network, where `clap` takes them
+abbrev pub net_in : List (List ℕ) → Option NetWordsSeen
+net_in words = without_fault (fault_of net_app words) (net_said_by (matches_of net_app words))
+
+-- what the words ask of a network
+unfoldable pub net_of : List (List ℕ) → Option NetWordsSeen
+net_of words = if begins_with (codes "net") words then net_in (drop 1 words) else None

@@ -14,5 +14,5 @@ pub use configuring::Trouble;
 pub use journals::{ErrorJournal, FileJournal, tell_all};
 pub use program::aprsc;
 pub use real::{RealFiles, RealSink};
-pub use saying::{listen_failed, too_large, trouble, unread, usage, valid, write_all};
-pub use words::{DrillWords, ServerWords, Task, Words, WordsError, read_words};
+pub use saying::{bad_step, listen_failed, too_large, trouble, unread, usage, valid, write_all};
+pub use words::{DrillWords, NetWords, ServerWords, Task, Words, WordsError, read_words};

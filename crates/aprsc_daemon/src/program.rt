@@ -11,18 +11,22 @@ ghost use Rattle.aprs_conf.specs.Seen.{ConfSeen};
 ghost use Rattle.aprs_conf.specs.Sound.{IsSound};
 ghost use Rattle.aprs_conf.specs.Grammar.{conf_of};
 ghost use Rattle.server_core.specs.Meaning.{setting_of};
-ghost use Rattle.aprsc_daemon.specs.Causes.{Asks, Cause, CountsOnce, DrillEnds, Ended, HasCause, HasNamed, KeepsPromise, NamesNone, Opening, ReadsWell, Said, code_of_status, is_before_serving, outside_of, status_of};
+ghost use Rattle.aprsc_daemon.specs.Causes.{Asks, Cause, CountsOnce, DrillEnds, Ended, HasCause, HasNamed, KeepsPromise, NamesNone, NetEnds, Opening, ReadsWell, Said, code_of_status, is_before_serving, outside_of, status_of};
 ghost use Rattle.aprsc_daemon.specs.Phases.{JournalTold};
 ghost use Rattle.aprsc_daemon.specs.Asked.{IsBounded};
-ghost use Rattle.aprsc_daemon.specs.Words.{ServerWordsSeen, asked_of, drill_of};
+ghost use Rattle.aprsc_daemon.specs.Words.{NetWordsSeen, ServerWordsSeen, asked_of, drill_of, net_of};
 
 use crate::configuring::{Unfit, read_conf};
 use crate::drill::drill;
-use crate::saying::{listen_failed, summary, too_large, trouble, unread, usage, valid, write_all};
+use crate::saying::{
+    bad_step, listen_failed, summary, too_large, trouble, unread, usage, valid, write_all,
+};
 use crate::serving::{End, ListenError, open, serve};
-use crate::words::{DrillWords, ServerWords, Task, Words, WordsError, read_words};
+use crate::words::{DrillWords, NetWords, ServerWords, Task, Words, WordsError, read_words};
 use aprs_base::{FileError, Files, Gate, Memory, Sink, SinkError, Slot, Wire};
 use aprs_conf::Conf;
+use net_report::text_of;
+use net_script::ScriptError;
 use std::alloc::Global;
 use std::hash::RandomState;
 use std::marker::Sync;
@@ -30,7 +34,7 @@ use std::mem::forget;
 use std::sync::Wait;
 use std::thread::Threads;
 
-/// The most bytes of a configuration.
+/// The most bytes of a configuration or a script.
 const MOST_READ: usize = 65_536;
 
 /// How the program ends.
@@ -39,6 +43,7 @@ pub(crate) enum Status {
     Stopped,
     Checked,
     Drilled,
+    Reported,
     BadWords,
     BadFile,
     UnreadFile,
@@ -53,7 +58,7 @@ impl Status {
         ensures { result ≡ code_of_status self }
     {
         match self {
-            Status::Stopped | Status::Checked | Status::Drilled => 0,
+            Status::Stopped | Status::Checked | Status::Drilled | Status::Reported => 0,
             Status::BadWords => 1,
             Status::BadFile => 2,
             Status::UnreadFile => 3,
@@ -238,6 +243,49 @@ fn run_drill<R: Threads + Sync + Wait, S: Sink>(
     }
 }
 
+/// Runs the script that a text is, and writes what it comes to.
+fn run_script<R: Threads + Sync, S: Sink>(
+    rt: &R,
+    alloc: Global,
+    asked: &NetWords<'_>,
+    text: &[u8],
+    out: &mut S,
+    hasher: &RandomState,
+) -> Status
+    ensures { (words : List (List ℕ)) (files files_after : FilesShown) (wire : WireShown) → net_of words ≡ Some asked.now → Holds files.told asked.now.file text.now
+        → ReadsWell words files files_after → Cause result (outside_of words files files_after wire wire (S.shown out.old) (S.shown out.new)) }
+{
+    match text_of(rt, alloc, hasher, text) {
+        Ok(report) => say(out, report.as_slice(), Status::Reported),
+        Err(ScriptError::TooLarge) => say_made(out, too_large(alloc, asked.file), Status::BadFile),
+        Err(ScriptError::BadStep(line)) => {
+            say_made(out, bad_step(alloc, asked.file, line), Status::BadFile)
+        }
+        Err(ScriptError::Memory) => Status::NoMemory,
+    }
+}
+
+/// Runs the script that a file holds.
+fn run_net<R: Threads + Sync, F: Files, S: Sink>(
+    rt: &R,
+    alloc: Global,
+    asked: &NetWords<'_>,
+    files: &mut F,
+    out: &mut S,
+    hasher: &RandomState,
+) -> Status
+    ensures { (words : List (List ℕ)) (wire : WireShown) → net_of words ≡ Some asked.now
+        → Cause result (outside_of words (F.shown files.old) (F.shown files.new) wire wire (S.shown out.old) (S.shown out.new)) }
+{
+    let mut script = Vec::new(alloc);
+    match files.read(asked.file, MOST_READ, &mut script) {
+        Ok(()) => run_script(rt, alloc, asked, script.as_slice(), out, hasher),
+        Err(FileError::Big) => say_made(out, too_large(alloc, asked.file), Status::BadFile),
+        Err(FileError::Failed) => say_made(out, unread(alloc, asked.file), Status::UnreadFile),
+        Err(FileError::Memory) => Status::NoMemory,
+    }
+}
+
 fn run<R: Threads + Sync + Wait, F: Files, W: Wire, S: Sink, G: Gate + Sync>(
     rt: &R,
     alloc: Global,
@@ -257,6 +305,7 @@ fn run<R: Threads + Sync + Wait, F: Files, W: Wire, S: Sink, G: Gate + Sync>(
         → (wire.new ≡ wire.old) × (journals.new ≡ journals.old) }
     ensures drill { (asked : DrillWords) → drill_of (map string_bytes words.now) ≡ Some asked
         → (wire.new ≡ wire.old) × (files.new ≡ files.old) × DrillEnds (code_of_status result) asked.plan (S.shown out.old) (S.shown out.new) }
+    ensures net { (asked : NetWordsSeen) → net_of (map string_bytes words.now) ≡ Some asked → (wire.new ≡ wire.old) × (journals.new ≡ journals.old) }
     ensures still { is_before_serving (code_of_status result) ≡ true → journals.new ≡ journals.old }
     ensures unnamed { NamesNone (map string_bytes words.now) (F.shown files.old).told → journals.new ≡ journals.old }
     ensures cause { Cause result (outside_of (map string_bytes words.now) (F.shown files.old) (F.shown files.new)
@@ -267,6 +316,7 @@ fn run<R: Threads + Sync + Wait, F: Files, W: Wire, S: Sink, G: Gate + Sync>(
             rt, alloc, &asked, files, wire, out, hasher, journals, gate,
         ),
         Ok(Words::Drill(asked)) => run_drill(rt, alloc, asked, out, hasher),
+        Ok(Words::Net(asked)) => run_net(rt, alloc, &asked, files, out, hasher),
         Err(WordsError::Refused) => say(out, usage(), Status::BadWords),
         Err(WordsError::Memory) => Status::NoMemory,
     }
@@ -280,10 +330,13 @@ fn run<R: Threads + Sync + Wait, F: Files, W: Wire, S: Sink, G: Gate + Sync>(
 /// With `drill SEED LINES LINKS` and perhaps `-w N` in their place, the events of that drill are run over a wire of its own, and
 /// a line says what was counted. It depends on the three numbers alone.
 ///
-/// The status is 0 after a stop, for a valid configuration with `-y`, or for a drill; 1 for words that `clap` refuses, that
-/// call for another mode by `net`, or whose drill has more than 4,000,000 lines times links; 2 for a bad configuration; 3
+/// With `net FILE` in their place, the file holds a script: its steps are done in a network of servers in memory, and a text says
+/// which of them were not there, and what each server accepted.
+///
+/// The status is 0 after a stop, for a valid configuration with `-y`, for a drill, or for a script; 1 for words that `clap`
+/// refuses, or whose drill has more than 4,000,000 lines times links; 2 for a bad configuration or script; 3
 /// where its file can't be read; 4 where a listener failed; 5 where the wire failed; 6 for want of memory; and 7 where the
-/// sink failed in the writing of a text for 0 to 4. A file of more than 65,536 bytes is a bad configuration.
+/// sink failed in the writing of a text for 0 to 4. A file of more than 65,536 bytes is bad.
 pub fn aprsc<R: Threads + Sync + Wait, F: Files, W: Wire, S: Sink, G: Gate + Sync>(
     rt: &R,
     alloc: Global,
@@ -318,6 +371,11 @@ pub fn aprsc<R: Threads + Sync + Wait, F: Files, W: Wire, S: Sink, G: Gate + Syn
     ensures drill { (asked : DrillWords) → drill_of (map string_bytes words.now) ≡ Some asked
         → (wire.new ≡ wire.old) × (files.new ≡ files.old) × (journals.new ≡ journals.old)
         × DrillEnds result asked.plan (S.shown out.old) (S.shown out.new) }
+    // Where they ask for a network, the wire and the journals stay so, and the call ends with what the file's script comes to on
+    // the sink, with what is wrong with the file, for want of memory, or where the sink failed.
+    ensures net { (asked : NetWordsSeen) → net_of (map string_bytes words.now) ≡ Some asked
+        → (wire.new ≡ wire.old) × (journals.new ≡ journals.old)
+        × NetEnds result asked.file (F.shown files.old).told (S.shown out.old) (S.shown out.new) }
     // And so the journals do whenever they ask for no run or the file holds no configuration, and whenever the call ended
     // before it served.
     ensures unnamed { NamesNone (map string_bytes words.now) (F.shown files.old).told → journals.new ≡ journals.old }

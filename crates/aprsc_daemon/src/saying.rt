@@ -1,7 +1,7 @@
 //! What the program writes on its standard output.
 ghost use Rattle.std.specs.Prelude.{◌≡◌, IfOk, string_bytes};
 ghost use Rattle.aprsc_daemon.specs.Configuring.{fault_name, word_name};
-ghost use Rattle.aprsc_daemon.specs.Saying.{AfterSaying, drill_name, listen_failed_text, summary_text, totals_text, trouble_text, too_large_text, unread_text, usage_text, valid_text};
+ghost use Rattle.aprsc_daemon.specs.Saying.{AfterSaying, bad_step_text, drill_name, listen_failed_text, summary_text, totals_text, trouble_text, too_large_text, unread_text, usage_text, valid_text};
 
 use crate::configuring::Trouble;
 use crate::drill::Counts;
@@ -92,14 +92,21 @@ pub fn valid(alloc: Global, file: &str) -> Result<Vec<u8>, Memory>
     Ok(format!(in alloc; "{file}: configuration is valid\n")?.into_bytes())
 }
 
-/// The line that says that the configuration is too large.
+/// The line that names the first bad line of a script.
+pub fn bad_step(alloc: Global, file: &str, line: u32) -> Result<Vec<u8>, Memory>
+    ensures { IfOk result (λ t. t.items ≡ bad_step_text file.now line) }
+{
+    Ok(format!(in alloc; "{file}: line {line}: bad step\n")?.into_bytes())
+}
+
+/// The line that says that a file is too large.
 pub fn too_large(alloc: Global, file: &str) -> Result<Vec<u8>, Memory>
     ensures { IfOk result (λ t. t.items ≡ too_large_text file.now) }
 {
     Ok(format!(in alloc; "{file}: too large\n")?.into_bytes())
 }
 
-/// The line that says that the configuration can't be read.
+/// The line that says that a file can't be read.
 pub fn unread(alloc: Global, file: &str) -> Result<Vec<u8>, Memory>
     ensures { IfOk result (λ t. t.items ≡ unread_text file.now) }
 {

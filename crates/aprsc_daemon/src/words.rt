@@ -2,8 +2,8 @@
 ghost use Rattle.std.specs.Prelude.{◌≡◌, ◌≢◌, ◌≤◌, ◌<◌, ◌^◌, [], None, Some, IfOk, IsErrOf, OnOk, codes, drop, false, map, string_bytes, true, unwrap_or};
 ghost use Rattle.std.specs.Option.{option_map_or};
 ghost use Rattle.clap.specs.Words.{app_of, fault_of, first_value, found_of, is_simple, is_simple_and_free, matches_of, one_text, rows_of, rule_of};
-ghost use Rattle.aprsc_daemon.specs.Asked.{AskFor, IsBounded};
-ghost use Rattle.aprsc_daemon.specs.Words.{asked_of, bare_app, begins_with, check_rule, drill_app, drill_in, drill_of, drill_said_by, file_rule, is_small, names_mode, number_in, number_rule, said_by, server_app, task_of, workers_rule};
+ghost use Rattle.aprsc_daemon.specs.Asked.{AskFor, AskNothing, IsBounded};
+ghost use Rattle.aprsc_daemon.specs.Words.{asked_of, bare_app, begins_with, check_rule, drill_app, drill_in, drill_said_by, file_rule, is_small, names_mode, net_app, net_in, net_said_by, number_in, number_rule, said_by, script_rule, server_app, task_of, workers_rule};
 
 use clap::builder::ValueParser;
 use clap::error::ErrorKind;
@@ -47,11 +47,27 @@ pub struct DrillWords {
     pub workers: u32,
 }
 
+/// What the words ask of a network.
+#[derive(Drop)]
+pub struct NetWords<'a> {
+    /// The name of the file that holds the script.
+    pub file: &'a str,
+}
+
+impl<'a> Model for NetWords<'a> {
+    ghost use Rattle.aprsc_daemon.specs.Words.{NetWordsSeen};
+
+    ghost Value = { NetWordsSeen };
+
+    ghost view = { λ w. record { file = w.file.now } };
+}
+
 /// What the words ask for.
 #[derive(Drop)]
 pub enum Words<'a> {
     Server(ServerWords<'a>),
     Drill(DrillWords),
+    Net(NetWords<'a>),
 }
 
 /// Why the words ask for nothing.
@@ -107,6 +123,17 @@ fn number_arg<'a>(alloc: Global, id: &'a str, low: u64, high: u64) -> Arg<'a>
         .value_parser(ValueParser::unsigned(low, high))
 }
 
+/// The name of a file, as a word of its own.
+#[tactic(auto, unfolding(crate::specs::Words::script_rule))]
+fn script_arg<'a>(alloc: Global) -> Arg<'a>
+    ensures rule { rule_of result ≡ script_rule }
+    ensures local { result.global ≡ false }
+{
+    Arg::new(alloc, "file")
+        .action(ArgAction::Set)
+        .required(true)
+}
+
 #[tactic(auto, unfolding(crate::specs::Words::bare_app))]
 fn bare_command<'a>(alloc: Global) -> Command<'a>
     ensures { app_of result ≡ bare_app }
@@ -134,6 +161,12 @@ fn drill_command<'a>(alloc: Global) -> Result<Command<'a>, AllocError>
         .arg(number_arg(alloc, "lines", 1, 100_000))?
         .arg(number_arg(alloc, "links", 2, 1000))?
         .arg(workers_arg(alloc))
+}
+
+fn net_command<'a>(alloc: Global) -> Result<Command<'a>, AllocError>
+    ensures { IfOk result (λ command. app_of command ≡ net_app) }
+{
+    bare_command(alloc).arg(script_arg(alloc))
 }
 
 /// What a command finds in the words.
@@ -177,7 +210,20 @@ fn drill_matches<'a>(alloc: Global, words: &'a [String]) -> Result<ArgMatches<'a
     }
 }
 
-/// The file that `-c` names; the command wants one.
+/// What the network's command finds in the words.
+#[tactic(auto, unfolding(crate::specs::Words::bare_app, crate::specs::Words::script_rule))]
+fn net_matches<'a>(alloc: Global, words: &'a [String]) -> Result<ArgMatches<'a>, WordsError>
+    ensures good { OnOk result (fault_of net_app (map string_bytes words.entry.now) ≡ []) }
+    ensures rows { IfOk result (λ m. rows_of (found_of m) ≡ matches_of net_app (map string_bytes words.entry.now)) }
+    ensures refused { IsErrOf result WordsError.Refused → fault_of net_app (map string_bytes words.entry.now) ≢ [] }
+{
+    match net_command(alloc) {
+        Ok(command) => matches_by(command, words),
+        Err(_) => Err(WordsError::Memory),
+    }
+}
+
+/// The file that the words name; the command wants one.
 fn file_of<'a>(matches: &ArgMatches<'a>) -> &'a str
     ensures { result.now ≡ unwrap_or (first_value (found_of matches.now) (codes "file")) [] }
 {
@@ -232,6 +278,15 @@ fn drill_said_by(matches: &ArgMatches<'_>) -> DrillWords
             links: number_of(matches, "links", 2, 1000),
         },
         workers: number_of(matches, "workers", 1, 64),
+    }
+}
+
+/// What the value of the argument of the network's command says.
+fn net_said_by<'a>(matches: &ArgMatches<'a>) -> NetWords<'a>
+    ensures { result ≡ net_said_by (rows_of (found_of matches.now)) }
+{
+    NetWords {
+        file: file_of(matches),
     }
 }
 
@@ -294,12 +349,22 @@ fn read_drill(alloc: Global, words: &[String]) -> Result<DrillWords, WordsError>
     }
 }
 
+/// What the words after the mode's name ask of a network.
+fn read_net<'a>(alloc: Global, words: &'a [String]) -> Result<NetWords<'a>, WordsError>
+    ensures value { IfOk result (λ asked. net_in (map string_bytes words.entry.now) ≡ Some asked) }
+    ensures refused { IsErrOf result WordsError.Refused → net_in (map string_bytes words.entry.now) ≡ None }
+{
+    match net_matches(alloc, words) {
+        Ok(matches) => Ok(net_said_by(&matches)),
+        Err(error) => Err(error),
+    }
+}
+
 /// What the words ask for. `Refused` comes exactly where they ask for nothing.
 pub fn read_words<'a>(alloc: Global, words: &'a [String]) -> Result<Words<'a>, WordsError>
     ensures value { IfOk result (AskFor (map string_bytes words.entry.now)) }
     ensures bounded { IfOk result IsBounded }
-    ensures refused { IsErrOf result WordsError.Refused
-        → (asked_of (map string_bytes words.entry.now) ≡ None) × (drill_of (map string_bytes words.entry.now) ≡ None) }
+    ensures refused { IsErrOf result WordsError.Refused → AskNothing (map string_bytes words.entry.now) }
 {
     if begins_with(words, "drill") {
         return match read_drill(alloc, later(words)) {
@@ -308,7 +373,10 @@ pub fn read_words<'a>(alloc: Global, words: &'a [String]) -> Result<Words<'a>, W
         };
     }
     if begins_with(words, "net") {
-        return Err(WordsError::Refused);
+        return match read_net(alloc, later(words)) {
+            Ok(asked) => Ok(Words::Net(asked)),
+            Err(error) => Err(error),
+        };
     }
     match read_server(alloc, words) {
         Ok(asked) => Ok(Words::Server(asked)),

@@ -30,6 +30,7 @@ fn asked(alloc: Global, row: &str) -> Result<String, RowError> {
                 plan.seed, plan.lines, plan.links, asked.workers
             )?
         }
+        Ok(Words::Net(asked)) => format!(in alloc; "Net of '{}'", asked.file)?,
         Err(WordsError::Refused) => String::from_str(alloc, "refused")?,
         Err(WordsError::Memory) => String::from_str(alloc, "no memory")?,
     };

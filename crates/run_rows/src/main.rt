@@ -14,7 +14,8 @@
 //! data/, and `conf LINE` for a line more; `takes all`, `takes most N` and `takes gone`, for one send each, of which those
 //! past the last are taken whole; `fails listen N`, or `next`, `read`, `sink`, for the call before which N were made; `most N`
 //! for the bytes that the sink takes in a call; and the journals `journal KINDS ROOM`, `failing KINDS N`, which fails the line
-//! before which N were told, and `counting KINDS N`, which takes N lines.
+//! before which N were told, and `counting KINDS N`, which takes N lines. `report FILE` names a file of data/: where the run
+//! writes its text, that name is told in place of the text.
 //!
 //! `short` tells only how much each link took. `each next` tries the run again with each call of `next` failing, and
 //! `prefixes LINK TEXT` with the link saying each beginning of the text and ending.

@@ -30,6 +30,13 @@ pub struct Prefixes {
     pub text: Vec<u8>,
 }
 
+/// The text that a run is to write, and the file that holds it.
+#[derive(Drop)]
+pub struct Report {
+    pub name: String,
+    pub text: Vec<u8>,
+}
+
 /// The calls that fail, by how many were made before.
 #[derive(Drop)]
 pub struct Fails {
@@ -42,7 +49,7 @@ pub struct Fails {
 #[derive(Drop)]
 pub struct Script {
     pub words: Vec<String>,
-    /// The name of the file, and the configuration that it holds.
+    /// The name of the file, and the configuration or the network's script that it holds.
     pub name: String,
     pub conf: Vec<u8>,
     pub events: Vec<Event>,
@@ -56,6 +63,7 @@ pub struct Script {
     /// Whether the run is tried again with each call of `next` failing.
     pub each_next: bool,
     pub prefixes: Option<Prefixes>,
+    pub report: Option<Report>,
 }
 
 impl Script {
@@ -77,6 +85,7 @@ impl Script {
             short: false,
             each_next: false,
             prefixes: None,
+            report: None,
         })
     }
 }
@@ -129,6 +138,13 @@ fn prefixes_of(alloc: Global, row: &str) -> Result<Prefixes, RowError> {
     Ok(Prefixes { link, text })
 }
 
+fn report_of<R: AllocGlobal + Files>(rt: &R, name: &str) -> Result<Report, RowError> {
+    Ok(Report {
+        name: String::from_str(rt.alloc(), name)?,
+        text: fs::read(rt, name).map_err(|_| RowError::Word)?,
+    })
+}
+
 /// Adds a line to the configuration.
 fn add_conf(alloc: Global, conf: &mut Vec<u8>, line: &str) -> Result<(), RowError> {
     conf.extend_from_slice(read_bytes(alloc, line)?.as_slice())?;
@@ -142,6 +158,7 @@ fn add<R: AllocGlobal + Files>(rt: &R, script: &mut Script, row: &str) -> Result
     match word {
         "file" => script.conf = fs::read(rt, rest).map_err(|_| RowError::Word)?,
         "conf" => add_conf(alloc, &mut script.conf, rest)?,
+        "report" => script.report = Some(report_of(rt, rest)?),
         "name" => script.name = String::from_str(alloc, rest)?,
         "words" => script.words = words_of(alloc, rest)?,
         "takes" => push(&mut script.takes, take_of(rest)?)?,

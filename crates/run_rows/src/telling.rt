@@ -247,6 +247,16 @@ fn tell_journal<R: AllocGlobal + Print>(rt: &R, journal: &Kept) -> io::Result<()
     Ok(())
 }
 
+/// The text that a run wrote, or the file that holds it.
+fn written(alloc: Global, script: &Script, left: &Left) -> Result<String, AllocError> {
+    match &script.report {
+        Some(report) if report.text.as_slice() == left.text.as_slice() => {
+            format!(in alloc; "as in {}", report.name)
+        }
+        _ => text_of(alloc, left.text.as_slice()),
+    }
+}
+
 /// Tells what a run left. So many events are told already.
 pub fn tell<R: AllocGlobal + Print>(
     rt: &R,
@@ -263,7 +273,7 @@ pub fn tell<R: AllocGlobal + Print>(
     }
     println!(rt; "    status {}", left.status)?;
     if !left.text.is_empty() {
-        println!(rt; "    text {}", text_of(rt.alloc(), left.text.as_slice())?)?;
+        println!(rt; "    text {}", written(rt.alloc(), script, left)?)?;
     }
     for journal in &left.journals {
         tell_journal(rt, journal)?;

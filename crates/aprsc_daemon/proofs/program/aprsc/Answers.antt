@@ -4,8 +4,8 @@ use Rattle.aprs_history.specs.Runs.{AppendsRun}
 use Rattle.aprs_base.proofs.SlotLemmas.{each_takes_due}
 use Rattle.server_core.specs.Meaning.{setting_of}
 use Rattle.aprsc_daemon.specs.Phases.{JournalTold}
-use Rattle.aprsc_daemon.specs.Causes.{CountsOnce, DrillEnds, Ended, Outside, is_before_serving, outside_of}
-use Rattle.aprsc_daemon.proofs.CauseLemmas.{complete, counts, early, headline, keeps_promise, not_named}
+use Rattle.aprsc_daemon.specs.Causes.{CountsOnce, DrillEnds, Ended, NetEnds, Outside, is_before_serving, outside_of}
+use Rattle.aprsc_daemon.proofs.CauseLemmas.{complete, counts, early, headline, keeps_promise, net_ends, not_named}
 use Rattle.aprsc_daemon.proofs.WordsLemmas.{only_drill}
 use Rattle.aprsc_daemon.proofs.program.aprsc.Goals as goal
 
@@ -55,3 +55,11 @@ returns-clause-drill g c = λ asked drilled.
 
 pub returns-clause-still : goal.returns-clause-still
 returns-clause-still g c = λ before. c.run.ensures.still (ap is_before_serving (sym c.code.ensures) ∙ before)
+
+pub returns-clause-net : goal.returns-clause-net
+returns-clause-net g c = λ asked is.
+    let kept = c.run.ensures.net asked is in (
+      kept.0,
+      kept.1,
+      subst (λ n. NetEnds n asked.file (g.F.Files.shown c.args.files.now).told (g.S.Sink.shown c.args.out.now) (g.S.Sink.shown c.run.new.out)) (sym c.code.ensures) (net_ends _ asked c.run.result is c.run.ensures.cause),
+    )

@@ -17,14 +17,14 @@ returns-in-Err-Big-clause-cause g c = λ words named.
     let text = too_large_text c.asked.inside.file.now in
     off_cause _ _ big.0 text c.say_made.result (named ∙ ap Some (sym c.asked.view_is)) big.1 (inl (big.2, refl)) refl
     (let read = read_as c.in-Err-Big.field-0 file_error.Big c.in-Err-Big.field-0-is c.in-Err-Big.ensures in
-    fails_read _ _ status.BadFile (named ∙ ap Some (sym c.asked.view_is)) read.told read.last read.reads read.faults refl refl) (c.say_made.ensures text c.too_large.ensures)
+    fails_read _ _ status.BadFile (inl (_, named ∙ ap Some (sym c.asked.view_is), refl)) read.told read.last read.reads read.faults refl refl) (c.say_made.ensures text c.too_large.ensures)
 
 pub returns-in-Err-Failed-clause-cause : goal.returns-in-Err-Failed-clause-cause
 returns-in-Err-Failed-clause-cause g c = λ words named.
     let text = unread_text c.asked.inside.file.now in
-    unread_cause _ _ c.say_made-in-Err-Failed.result (named ∙ ap Some (sym c.asked.view_is)) refl
+    unread_cause _ _ c.say_made-in-Err-Failed.result (inl (_, named ∙ ap Some (sym c.asked.view_is), refl)) refl
     (let read = read_as c.in-Err-Failed.field-0 file_error.Failed c.in-Err-Failed.field-0-is c.in-Err-Failed.ensures in
-    fails_read _ _ status.UnreadFile (named ∙ ap Some (sym c.asked.view_is)) read.told read.last read.reads read.faults refl refl) (c.say_made-in-Err-Failed.ensures text c.unread.ensures)
+    fails_read _ _ status.UnreadFile (inl (_, named ∙ ap Some (sym c.asked.view_is), refl)) read.told read.last read.reads read.faults refl refl) (c.say_made-in-Err-Failed.ensures text c.unread.ensures)
 
 pub returns-clause-cause : goal.returns-clause-cause
 returns-clause-cause g c = λ words named.
@@ -54,7 +54,7 @@ returns-in-Ok-clause-cause g c = λ words named.
     let text : c.as_slice.result.now ≡ found.0 = c.as_slice.ensures.value ∙ found.3 ∙ ap (λ front. front ++ found.0) c.new-text.ensures.items in
     c.run_text.ensures.cause words (g.F.Files.shown c.args.files.now) (g.F.Files.shown c.read.new.self) named
     (subst (λ bytes. Holds (g.F.Files.shown c.args.files.now).told c.args.asked.now.file bytes) (sym text) (subst (λ asked. Holds (g.F.Files.shown c.args.files.now).told asked.file found.0) c.asked.view_is found.1))
-    (inr (c.args.asked.now, named, (c.in-Ok.ensures.told, c.in-Ok.ensures.last ∙ ap (λ asked. place_named asked.file (g.F.Files.shown c.args.files.now).told) c.asked.view_is, c.in-Ok.ensures.reads)), c.in-Ok.ensures.faults)
+    (inr (c.args.asked.now.file, inl (c.args.asked.now, named, refl), (c.in-Ok.ensures.told, c.in-Ok.ensures.last ∙ ap (λ asked. place_named asked.file (g.F.Files.shown c.args.files.now).told) c.asked.view_is, c.in-Ok.ensures.reads)), c.in-Ok.ensures.faults)
 
 pub returns-in-Ok-clause-unnamed : goal.returns-in-Ok-clause-unnamed
 returns-in-Ok-clause-unnamed g c = λ words named none.
