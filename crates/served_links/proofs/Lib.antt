@@ -1,4 +1,5 @@
 pub mod AskedLemmas
+pub mod CountLemmas
 pub mod FedLemmas
 pub mod HereLemmas
 pub mod LinkLemmas

@@ -1,4 +1,5 @@
 pub mod Changes
+pub mod Counts
 pub mod EndLines
 pub mod Fed
 pub mod Halves

@@ -1,6 +1,7 @@
 //! The links that are served: what is kept of their sessions, and what they are fed.
 #![tactic(auto)]
 
+mod counts;
 mod link;
 mod links;
 mod logins;

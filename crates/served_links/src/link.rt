@@ -217,13 +217,24 @@ impl Link {
         }
     }
 
+    /// What its login is by that session, where this is verified and the link hasn't left.
+    pub fn login_by(&self, session: &Session) -> Option<Call>
+        ensures { list_of result ≡ login_here (record self.now { session = Some session.now }) }
+    {
+        if session.verified && self.is_here() {
+            Some(copy_call(&session.call))
+        } else {
+            None
+        }
+    }
+
     /// Its login, where it is verified and hasn't left.
     pub fn verified_call(&self) -> Option<Call>
         ensures { list_of result ≡ login_here self.now }
     {
         match &self.session {
-            Some(session) if session.verified && self.is_here() => Some(copy_call(&session.call)),
-            _ => None,
+            Some(session) => self.login_by(session),
+            None => None,
         }
     }
 

@@ -8,7 +8,7 @@ ghost use Rattle.aprs_base.specs.Held.{held_after};
 ghost use Rattle.aprs_history.specs.Stands.{LinkSeen};
 ghost use Rattle.line_verdict.specs.Voices.{HasStation, voice_of};
 ghost use Rattle.served_links.specs.Fed.{AllMatch, offer_of, shows_kept};
-ghost use Rattle.served_links.specs.Links.{Rises, client_at, clients_in, filters_at, has_number, has_that, held_at, here, is_at, is_late_here, is_lost_here, is_none_of, named_of, numbers, speaker_at, submitted_from};
+ghost use Rattle.served_links.specs.Links.{Rises, client_at, clients_in, filters_at, has_number, has_that, held_at, here, is_at, is_late_here, is_lost_here, is_none_of, login_here, named_of, numbers, speaker_at, submitted_from};
 ghost use Rattle.served_links.specs.Changes.{at_link, is_asked_at, when_gone, with_bytes, with_room};
 ghost use Rattle.uplinks_peers.specs.Sides.{is_passed_on};
 ghost use Rattle.uplinks_peers.specs.declared.sides.Side.TheVariants as side;
@@ -301,6 +301,7 @@ pub(crate) fn bring(
 ) -> Result<Vec<Cut>, Memory>
     requires { Rises 0 (numbers links.old.items) (2 ^ 32) }
     ensures named { map named_of links.new.items ≡ map named_of links.old.items }
+    ensures logins { map login_here links.new.items ≡ map login_here links.old.items }
     ensures halves { (states : List worker.LinkSeen) → AllMatch links.old.items states → AllMatch links.new.items states }
     ensures links { (before : List ℕ) → held_at number (here links.old.items) ≡ Some (held_after before)
         → OnOk result (links.new.items ≡ map (at_link number (with_bytes moment (held_after (before ++ bytes.now)))) links.old.items) }

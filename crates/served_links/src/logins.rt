@@ -5,13 +5,14 @@ ghost use Rattle.q_construct.specs.Rule.{among};
 ghost use Rattle.served_links.specs.Links.{here, login_here, logins_at, other_here, others_at};
 
 use crate::link::Link;
+use crate::sessions::Sessions;
 use aprs_base::{Call, Source};
 use q_construct::Calls;
 
 /// The logins of the verified links, but of the one that a line came from.
 #[derive(Drop)]
 pub struct Logins<'a> {
-    pub links: &'a [Link],
+    pub links: &'a Sessions,
     pub from: Source,
 }
 
@@ -33,12 +34,6 @@ fn has_other_login(link: &Link, number: u32, call: &Call) -> bool
 }
 
 /// Whether one of the links has, link by link.
-fn any_has_login(links: &[Link], call: &Call) -> bool
-    ensures { result ≡ list_any (λ link. among call.now (login_here link)) links.now }
-{
-    links.iter().any(|link| has_login(link, call))
-}
-
 fn any_other_has_login(links: &[Link], number: u32, call: &Call) -> bool
     ensures { result ≡ list_any (λ link. among call.now (other_here number link)) links.now }
 {
@@ -46,17 +41,17 @@ fn any_other_has_login(links: &[Link], number: u32, call: &Call) -> bool
 }
 
 /// Whether a verified link has logged in with this call.
-fn have_login(links: &[Link], call: &Call) -> bool
+fn have_login(links: &Sessions, call: &Call) -> bool
     ensures { result ≡ among call.now (logins_at (here links.now)) }
 {
-    any_has_login(links, call)
+    links.count_login(call) > 0
 }
 
 /// Whether a verified link of another number has.
-fn have_other_login(links: &[Link], number: u32, call: &Call) -> bool
+fn have_other_login(links: &Sessions, number: u32, call: &Call) -> bool
     ensures { result ≡ among call.now (others_at number (here links.now)) }
 {
-    any_other_has_login(links, number, call)
+    links.count_login(call) > 0 && any_other_has_login(links.as_slice(), number, call)
 }
 
 impl<'a> Calls for Logins<'a> {

@@ -36,6 +36,7 @@ use filter_lang::FilterSet;
 use line_verdict::Voice;
 use link_feeds::{Crew, Feeds};
 use std::alloc::Global;
+use std::hash::RandomState;
 use std::marker::{Model, Sync};
 use std::sync::Arc;
 use std::thread::Threads;
@@ -62,12 +63,12 @@ impl Model for Served {
 }
 
 impl Served {
-    /// No links, at rest.
-    pub fn new(alloc: Global) -> Served
+    /// No links, at rest. The table of logins has a copy of the hasher.
+    pub fn new(alloc: Global, hasher: &RandomState) -> Served
         ensures { result ≡ record { links = []; queued = 0; waiting = 0; rests = true } }
     {
         Served {
-            halves: Sessions::new(alloc),
+            halves: Sessions::new(alloc, hasher),
             feeds: Feeds::new(alloc),
             queued: 0,
             rests: true,
@@ -244,7 +245,7 @@ impl Served {
         ensures { others_from result.from (here result.links.now) ≡ others_from from self.now.links }
     {
         Logins {
-            links: self.halves.as_slice(),
+            links: &self.halves,
             from,
         }
     }
@@ -357,24 +358,45 @@ impl Served {
         ensures err { OnErr result (IsEmptied self.old self.new) }
     {
         self.settle_alone()?;
-        self.begin_session(number, session, mine, reply);
-        Ok(())
+        match self.begin_session(number, session, mine, reply) {
+            Ok(()) => Ok(()),
+            Err(memory) => {
+                self.give_up();
+                Err(memory)
+            }
+        }
     }
 
-    /// The same where all that came is matched.
-    fn begin_session(&mut self, number: u32, session: Session, mine: Option<Seen>, reply: Arc<Line>)
+    /// The same where all that came is matched. `Memory` changes nothing.
+    fn begin_session(
+        &mut self,
+        number: u32,
+        session: Session,
+        mine: Option<Seen>,
+        reply: Arc<Line>,
+    ) -> Result<(), Memory>
         requires station { IsTrue (is_station session.call) }
         requires settled { self.old.waiting ≡ 0 }
-        ensures { self.new ≡ record self.old { links = map (at_link number (with_session session mine (arc_value reply))) self.old.links } }
+        ensures ok { OnOk result (self.new ≡ record self.old { links = map (at_link number (with_session session mine (arc_value reply))) self.old.links }) }
+        ensures err { OnErr result (self.new ≡ self.old) }
     {
         let call = copy_call(&session.call);
         match place_of(self.halves.as_slice(), number) {
             Some(place) => {
-                let feed = self.halves.log_in(place, session);
+                let feed = self.halves.log_in(place, session)?;
                 self.feeds.log_in(place, feed, call, mine, reply);
+                Ok(())
             }
-            None => {}
+            None => Ok(()),
         }
+    }
+
+    /// No link is left, and they rest as they did.
+    fn give_up(&mut self)
+        ensures { IsEmptied self.old self.new }
+    {
+        self.halves.clear();
+        self.feeds.clear();
     }
 
     /// The link of that number has another filter, and is told so. The calls of its terms were last seen there. After `Memory` no

@@ -4,23 +4,29 @@ ghost use Rattle.aprs_base.specs.Bytes.{is_station};
 ghost use Rattle.aprs_base.specs.Cuts.{cuts_by};
 ghost use Rattle.aprs_base.specs.Held.{held_after};
 ghost use Rattle.aprs_history.specs.Stands.{LinkSeen};
+ghost use Rattle.served_links.specs.Counts.{having};
 ghost use Rattle.served_links.specs.Changes.{at_link, when_gone, with_bytes, with_room};
 ghost use Rattle.served_links.specs.Fed.{AllMatch, new_half, opening_feed};
 ghost use Rattle.served_links.specs.Links.{Rises, clients_in, held_at, here, is_none_of, is_whole, named_of, numbers, when_left};
 ghost use Rattle.worker_match.specs.Seen as worker;
 
+use crate::counts::{Counts, count_of, lower, lower_these, raise};
 use crate::link::{Link, is_inbound};
 use crate::links::{bring, count_clients, drop_these, give_room, lose, sweep};
-use aprs_base::{Addr, Cut, Memory};
+use aprs_base::{Addr, Call, Cut, Memory};
 use aprs_history::{LinkKind, Session};
+use indexmap::IndexMap;
 use std::alloc::Global;
+use std::hash::RandomState;
 use std::marker::Model;
 use worker_match::Feed;
 
 /// What is kept of all sessions. A link that leaves keeps its place until all that left are let go, in one pass.
 #[derive(Drop)]
-pub(crate) struct Sessions {
+pub struct Sessions {
     links: Vec<Link>,
+    /// How many verified ones have logged in with each call.
+    counts: Counts,
     /// How many are clients.
     clients: usize,
     /// Whether some may have left.
@@ -30,21 +36,24 @@ pub(crate) struct Sessions {
 impl Model for Sessions {
     ghost use Rattle.std.specs.Prelude.{◌≡◌, List, false, true};
     ghost use Rattle.aprs_history.specs.Stands.{LinkSeen};
+    ghost use Rattle.served_links.specs.Counts.{CountsLogins};
     ghost use Rattle.served_links.specs.Links.{clients_in, is_whole};
 
     ghost Value = { List LinkSeen };
 
     ghost view = { λ s. s.links.items };
 
-    ghost invariant = { λ s. (s.clients ≡ clients_in s.links.items) × (s.parted ≡ false → is_whole s.links.items ≡ true) };
+    ghost invariant = { λ s. (s.clients ≡ clients_in s.links.items) × (s.parted ≡ false → is_whole s.links.items ≡ true) × CountsLogins s.counts.entries s.links.items };
 }
 
 impl Sessions {
-    pub fn new(alloc: Global) -> Sessions
+    /// None. The table of logins has a copy of the hasher.
+    pub fn new(alloc: Global, hasher: &RandomState) -> Sessions
         ensures { result ≡ [] }
     {
         Sessions {
             links: Vec::new(alloc),
+            counts: IndexMap::with_hasher(alloc, *hasher),
             clients: 0,
             parted: false,
         }
@@ -61,6 +70,13 @@ impl Sessions {
         ensures { result ≡ clients_in self.now }
     {
         self.clients
+    }
+
+    /// How many verified ones that are here have logged in with the call.
+    pub fn count_login(&self, call: &Call) -> usize
+        ensures { result ≡ having call.now self.now }
+    {
+        count_of(&self.counts, call)
     }
 
     /// Whether it is known that none has left.
@@ -101,7 +117,9 @@ impl Sessions {
     pub fn take_back(&mut self)
         ensures { (links : List LinkSeen) (link : LinkSeen) → self.old ≡ links ++ link ∷ [] → self.new ≡ links }
     {
-        self.links.pop();
+        if let Some(link) = self.links.pop() {
+            lower(&mut self.counts, link.verified_call());
+        }
         self.clients = count_clients(self.links.as_slice());
     }
 
@@ -110,6 +128,7 @@ impl Sessions {
         ensures { self.new ≡ [] }
     {
         self.links.clear();
+        self.counts.clear();
         self.clients = 0;
         self.parted = false;
     }
@@ -150,14 +169,18 @@ impl Sessions {
         bring(alloc, &mut self.links, number, moment, bytes)
     }
 
-    /// The link at that place has logged in: what it is fed from then on.
-    pub fn log_in(&mut self, place: usize, session: Session) -> Feed
+    /// The link at that place has logged in: what it is fed from then on. `Memory` changes nothing.
+    pub fn log_in(&mut self, place: usize, session: Session) -> Result<Feed, Memory>
         requires station { IsTrue (is_station session.call) }
         requires within { place < length self.old }
-        ensures session { (link : LinkSeen) → slice_get self.old place ≡ Some link → self.new ≡ slice_set self.old place (record link { session = Some session }) }
-        ensures feed { (link : LinkSeen) → slice_get self.old place ≡ Some link → result ≡ opening_feed link.opening (Some session) }
+        ensures session { (link : LinkSeen) → slice_get self.old place ≡ Some link → OnOk result (self.new ≡ slice_set self.old place (record link { session = Some session })) }
+        ensures feed { (link : LinkSeen) → slice_get self.old place ≡ Some link → IfOk result (λ feed. feed ≡ opening_feed link.opening (Some session)) }
+        ensures err { OnErr result (self.new ≡ self.old) }
     {
-        self.links[place].log_in(session)
+        let link = &self.links[place];
+        raise(&mut self.counts, link.login_by(&session))?;
+        lower(&mut self.counts, link.verified_call());
+        Ok(self.links[place].log_in(session))
     }
 
     /// The link at that place took that many of the bytes that it was offered.
@@ -174,6 +197,7 @@ impl Sessions {
         ensures { (link : LinkSeen) → slice_get self.old place ≡ Some link → self.new ≡ slice_set self.old place (when_left link) }
     {
         let link = &mut self.links[place];
+        lower(&mut self.counts, link.verified_call());
         let client = link.is_client();
         link.leave();
         self.clients -= usize::from(client);
@@ -184,6 +208,7 @@ impl Sessions {
     pub fn drop_these(&mut self, numbers: &[u32])
         ensures { self.new ≡ filter (is_none_of numbers.now) self.old }
     {
+        lower_these(&mut self.counts, self.links.as_slice(), numbers);
         drop_these(&mut self.links, numbers);
         self.clients = count_clients(self.links.as_slice());
     }

@@ -123,7 +123,7 @@ impl Walker {
         Ok(Walker {
             conf,
             moment: 0,
-            links: Served::new(alloc),
+            links: Served::new(alloc, hasher),
             turned: Vec::new(alloc),
             closing: Vec::new(alloc),
             window: Window::new(alloc, *hasher, seconds),

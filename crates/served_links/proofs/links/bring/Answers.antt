@@ -3,8 +3,9 @@ use Rattle.std.specs.List.{position}
 use Rattle.std.proofs.lemmas.List.{set-get_or}
 use Rattle.aprs_base.specs.Held.{Held, held_after}
 use Rattle.aprs_base.specs.Cuts.{cuts_by}
-use Rattle.served_links.specs.Links.{held_kept, is_at, named_of}
+use Rattle.served_links.specs.Links.{held_kept, is_at, login_here, named_of}
 use Rattle.served_links.specs.Changes.{with_bytes}
+use Rattle.served_links.proofs.CountLemmas.{logins_set}
 use Rattle.served_links.proofs.FedLemmas.{on_err}
 use Rattle.served_links.proofs.HereLemmas.{named_set, picked_missing, picked_there}
 use Rattle.served_links.proofs.LinkLemmas.{changed_by}
@@ -55,6 +56,12 @@ returns-in_err-bring-in-Some-clause-named c = named_set c.args.links.now.items c
 
 pub returns-in_ok-bring-in-Some-clause-named : goal.returns-in_ok-bring-in-Some-clause-named
 returns-in_ok-bring-in-Some-clause-named c = named_set c.args.links.now.items c.in-Some.place c.bring.new.self c.index_mut.result.now c.index_mut.ensures.value (ap named_of c.bring.ensures.frame)
+
+pub returns-in_err-bring-in-Some-clause-logins : goal.returns-in_err-bring-in-Some-clause-logins
+returns-in_err-bring-in-Some-clause-logins c = logins_set c.args.links.now.items c.in-Some.place c.bring.new.self c.index_mut.result.now c.index_mut.ensures.value (ap login_here c.bring.ensures.frame)
+
+pub returns-in_ok-bring-in-Some-clause-logins : goal.returns-in_ok-bring-in-Some-clause-logins
+returns-in_ok-bring-in-Some-clause-logins c = logins_set c.args.links.now.items c.in-Some.place c.bring.new.self c.index_mut.result.now c.index_mut.ensures.value (ap login_here c.bring.ensures.frame)
 
 pub returns-in_ok-bring-in-Some-clause-halves : goal.returns-in_ok-bring-in-Some-clause-halves
 returns-in_ok-bring-in-Some-clause-halves c states all =

@@ -1,7 +1,6 @@
-use Rattle.std.proofs.Common.{ap, map, refl, ◌∙◌}
-use Rattle.served_links.specs.Changes.{at_link, with_room}
-use Rattle.served_links.specs.Links.{named_of}
-use Rattle.served_links.proofs.HereLemmas.{kept_right, named_all, named_at}
+use Rattle.std.proofs.Common.{refl}
+use Rattle.served_links.specs.Changes.{with_room}
+use Rattle.served_links.proofs.CountLemmas.{right_at}
 use Rattle.served_links.proofs.sessions.Sessions.give_room.Goals as goal
 
 pub give_room-requires : goal.give_room-requires
@@ -9,6 +8,4 @@ give_room-requires c = rw c.self.view_is c.requires
 
 pub invariant_of-self : goal.invariant_of-self
 invariant_of-self c =
-    let links = c.self.inside.links.items in
-    kept_right c.give_room.new.links.items links (ap (map named_of) c.give_room.ensures ∙ named_all (at_link c.args.number with_room) (named_at c.args.number with_room (λ link. refl)) links)
-    c.self.inside.clients c.self.inside.parted c.self.invariant
+    right_at c.args.number with_room (λ link. refl) (λ link. refl) c.self.inside.links.items c.give_room.new.links.items c.give_room.ensures c.self.inside.clients c.self.inside.parted c.self.inside.counts.entries c.self.invariant

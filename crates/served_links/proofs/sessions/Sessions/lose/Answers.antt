@@ -1,7 +1,6 @@
-use Rattle.std.proofs.Common.{ap, map, refl, ◌∙◌}
-use Rattle.served_links.specs.Changes.{at_link, when_gone}
-use Rattle.served_links.specs.Links.{named_of}
-use Rattle.served_links.proofs.HereLemmas.{kept_right, named_all, named_at}
+use Rattle.std.proofs.Common.{refl}
+use Rattle.served_links.specs.Changes.{when_gone}
+use Rattle.served_links.proofs.CountLemmas.{right_at}
 use Rattle.served_links.proofs.sessions.Sessions.lose.Goals as goal
 
 pub lose-requires : goal.lose-requires
@@ -9,6 +8,4 @@ lose-requires c = rw c.self.view_is c.requires
 
 pub invariant_of-self : goal.invariant_of-self
 invariant_of-self c =
-    let links = c.self.inside.links.items in
-    kept_right c.lose.new.links.items links (ap (map named_of) c.lose.ensures ∙ named_all (at_link c.args.number when_gone) (named_at c.args.number when_gone (λ link. refl)) links)
-    c.self.inside.clients c.self.inside.parted c.self.invariant
+    right_at c.args.number when_gone (λ link. refl) (λ link. refl) c.self.inside.links.items c.lose.new.links.items c.lose.ensures c.self.inside.clients c.self.inside.parted c.self.inside.counts.entries c.self.invariant
