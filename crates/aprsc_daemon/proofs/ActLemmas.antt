@@ -1,8 +1,7 @@
 -- A run goes on by a send or a close.
-use Rattle.std.proofs.Common.{◌≡◌, ℕ, zero, suc, ◌<◌, ◌==◌, Bool, true, false, ◌||◌, List, [], ◌∷◌, ◌++◌, length, take, drop, map, refl, sym, ap, ◌∙◌, subst, arith, Option, None, ⊎_elim, eq-eqb, min, get_or}
+use Rattle.std.proofs.Common.{◌≡◌, ℕ, ◌==◌, Bool, true, false, ◌||◌, List, [], ◌∷◌, ◌++◌, take, map, refl, sym, ap, ◌∙◌, subst, Option, None, ⊎_elim, min}
 use Rattle.std.specs.Option.{option_map}
-use Rattle.std.proofs.lemmas.Bool.{cases_Bool, eqb-true, false_from_ne_true, or_right, true≢false}
-use Rattle.std.proofs.Math.Seq.{drop-nil}
+use Rattle.std.proofs.lemmas.Bool.{cases_Bool, true≢false}
 use Rattle.aprs_base.specs.Outside.{Told, with_done, IsOutcome}
 use Rattle.aprs_base.specs.declared.events.Sent.{Sent}
 use Rattle.aprs_base.specs.declared.events.Sent.TheVariants as sent
@@ -15,9 +14,9 @@ use Rattle.aprs_history.specs.History.{History, is_stopped, trace_of}
 use Rattle.aprs_history.specs.Acts.{Act, Offers, Closes, MayCome, due, but_first, offer_to}
 use Rattle.aprs_history.specs.Journal.{journal_of}
 use Rattle.aprs_history.specs.Runs.{AppendsRun}
-use Rattle.server_core.specs.LinkSteps.{Rises}
 use Rattle.server_core.specs.Meaning.{CoreMeaning, Stands, setting_of}
-use Rattle.server_core.proofs.WalkLemmas.{member_below}
+use Rattle.aprs_history.proofs.NumberLemmas.{member_first}
+use Rattle.server_core.proofs.OfferLemmas.{left_by_other, member_differs}
 use Rattle.aprs_conf.specs.Seen.{ConfSeen}
 use Rattle.aprsc_daemon.specs.Phases.{Owing, Offering}
 use Rattle.aprsc_daemon.proofs.RunLemmas.{run_goes_on, tells_done}
@@ -28,16 +27,6 @@ send_comes acts stopped link bytes owed outcome rest is same part = subst (λ xs
 
 close_comes : (acts : List Act) (stopped : Bool) (link : ℕ) (rest : List Act) → acts ≡ Closes link ∷ rest → MayCome acts stopped (did.Closed link)
 close_comes acts stopped link rest is = subst (λ xs. MayCome xs stopped (did.Closed link)) (sym is) refl
-
--- a send to another link leaves what is left to a link
-left_by_other : (s : Setting) (h : History) (link k : ℕ) (bytes : List ℕ) (outcome : Sent) → (k == link) ≡ false → untaken s (trace_of s (did.Sent link bytes outcome ∷ h)) k ≡ untaken s (trace_of s h) k
-unfolding trace_of
-left_by_other s h link k bytes (sent.Took n) other = rw other refl
-left_by_other s h link k bytes sent.Gone other = refl
-
-member_differs : (link k : ℕ) (offers : List ℕ) → is_member link offers ≡ false → is_member k offers ≡ true → (k == link) ≡ false
-member_differs link k offers none member =
-    false_from_ne_true _ (λ is. let same : k ≡ link = eqb-true k link is in true≢false (sym member ∙ ap (λ n. is_member n offers) same ∙ none))
 
 owing_next : (conf : ConfSeen) (link : ℕ) (offers closes : List ℕ) (bytes : List ℕ) (outcome : Sent) (more : History) → is_member link offers ≡ false
     → Owing conf None [] (link ∷ offers) closes more → Owing conf None [] offers closes (did.Sent link bytes outcome ∷ more)
@@ -51,9 +40,6 @@ owing_next conf link offers closes bytes outcome more other owing = record {
   all = owing.all;
   fresh = owing.fresh;
 }
-
-member_first : (link : ℕ) (offers : List ℕ) → is_member link (link ∷ offers) ≡ true
-member_first link offers = ap (λ b. b || is_member link offers) (eq-eqb link link refl)
 
 -- one offer is made
 pub run_sends : (lines : List JournalLineSeen) (s : Setting) (start now next : Option Told) (core new : CoreMeaning) (link : ℕ) (offers closes : List ℕ) (bytes : List ℕ) (outcome : Sent) → setting_of core.conf ≡ s
@@ -96,18 +82,6 @@ run_closes lines s start now next core link closes same is run =
       record { stands = stands_closed core link more phase.stands; journal = phase.journal; owing = owing_closed core.conf link closes more phase.owing },
     )) run
 
--- ---- numbers that rise differ
-
-pub first_differs : (low high : ℕ) (ns : List ℕ) (i n : ℕ) (rest : List ℕ) → Rises low ns high → drop i ns ≡ n ∷ rest → is_member n rest ≡ false
-first_differs low high [] i n rest rises is = cc (drop-nil {A = ℕ} i)
-first_differs low high (x ∷ ns) zero n rest rises is =
-    let first : x ≡ n = cc in
-    let others : ns ≡ rest = cc in
-    false_from_ne_true _ (λ member.
-    let above = member_below x high ns n rises.1 (ap (is_member n) others ∙ member) in
-    let lt = above.0 in absurd (omega arith))
-first_differs low high (x ∷ ns) (suc i) n rest rises is = first_differs x high ns i n rest rises.1 is
-
 -- what was offered is what was asked for
 pub offered_bytes : (bytes left : List ℕ) (room : ℕ) → room ≡ 65536 → bytes ≡ take (min room 65536) left → bytes ≡ take 65536 left
 offered_bytes bytes left room is given = given ∙ ap (λ n. take (min n 65536) left) is
@@ -121,8 +95,3 @@ pub run_offered : (lines : List JournalLineSeen) (s : Setting) (start now next :
     → AppendsRun s start now (Offering lines core (link ∷ offers) closes) → AppendsRun s start next (Offering lines new offers closes)
 run_offered lines s start now next core new link offers closes bytes outcome said same conf other part is given stands =
     run_sends lines s start now next core new link offers closes bytes outcome same conf other part given (λ h st. subst (λ o. Stands new (did.Sent link bytes o ∷ h)) (sym is) (stands h st))
-
-pub member_at : (ns : List ℕ) (i d : ℕ) → i < length ns → is_member (get_or ns i d) ns ≡ true
-member_at [] i d lt = absurd (omega arith)
-member_at (n ∷ ns) zero d lt = member_first n ns
-member_at (n ∷ ns) (suc i) d lt = or_right (n == get_or ns i d) _ (member_at ns i d (omega arith))

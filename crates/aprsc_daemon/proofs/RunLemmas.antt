@@ -1,5 +1,5 @@
 -- A run goes on by one happening.
-use Rattle.std.proofs.Common.{◌≡◌, ℕ, zero, suc, ◌+◌, ◌<◌, Bool, List, [], ◌∷◌, length, drop, refl, sym, ap, ◌∙◌, subst, arith, append-nil, Option, Some, None, get_or, add-one, drop-cons}
+use Rattle.std.proofs.Common.{◌≡◌, ℕ, ◌+◌, ◌<◌, Bool, List, [], ◌∷◌, length, drop, refl, sym, ap, ◌∙◌, subst, append-nil, Option, Some, None, get_or, add-one, drop-cons}
 use Rattle.std.specs.Option.{option_map}
 use Rattle.std.specs.Prelude.{slice_get}
 use Rattle.std.proofs.lemmas.Option.{slice_get-get_or}
@@ -7,6 +7,7 @@ use Rattle.aprs_base.specs.Outside.{Told, with_done, with_listen}
 use Rattle.aprs_base.specs.declared.events.Happening.{Happening}
 use Rattle.aprs_base.specs.declared.events.Happening.TheVariants as did
 use Rattle.aprs_base.specs.declared.packets.ListenSpec.{ListenSpec}
+use Rattle.server_core.proofs.OfferLemmas.{same_at}
 use Rattle.aprs_history.specs.Setting.{Setting}
 use Rattle.aprs_history.specs.History.{History, is_stopped}
 use Rattle.aprs_history.specs.Rounds.{listens_after}
@@ -76,10 +77,5 @@ listened s start now next n spec listens is lt at comes run =
     run_listens s start now next n spec left found comes run
 
 -- an element at a place within a list, whatever stands past its end
-pub same_at : {X : Type 0} (xs : List X) (n : ℕ) (d e : X) → n < length xs → get_or xs n d ≡ get_or xs n e
-same_at [] n d e lt = absurd (omega arith)
-same_at (x ∷ xs) zero d e lt = refl
-same_at (x ∷ xs) (suc n) d e lt = same_at xs n d e (omega arith)
-
 pub listed_at : (listens : List ListenSpec) (n index : ℕ) (d : ListenSpec) → n ≡ index → n < length listens → get_or listens index d ≡ get_or listens n (get_or listens index d)
 listed_at listens n index d is lt = ap (λ m. get_or listens m d) (sym is) ∙ same_at listens n d (get_or listens index d) lt

@@ -1,8 +1,6 @@
 -- From one round to the next.
-use Rattle.std.proofs.Common.{Some, None, length-append, drop, le_refl, arith, ⊎_elim, ◌≡◌, ℕ, ◌≤◌, true, false, List, [], ◌∷◌, ◌++◌, length, refl, sym, ap, ◌∙◌, subst, Option}
-use Rattle.std.proofs.lemmas.Bool.{cases_Bool}
+use Rattle.std.proofs.Common.{Some, None, length-append, drop, le_refl, arith, ◌≡◌, ℕ, ◌≤◌, true, false, List, [], ◌++◌, length, refl, sym, ap, ◌∙◌, subst, Option}
 use Rattle.std.proofs.lemmas.List.{drop_all}
-use Rattle.aprs_conf.specs.declared.types.Listen.{Listen}
 use Rattle.aprs_conf.specs.Seen.{ConfSeen}
 use Rattle.aprs_conf.specs.Sound.{IsSound}
 use Rattle.aprs_base.specs.Outside.{Told}
@@ -16,6 +14,7 @@ use Rattle.aprs_history.specs.Rounds.{AreFresh, is_whole, with_events, listens_a
 use Rattle.aprs_history.specs.Journal.{journal_of}
 use Rattle.aprs_history.specs.Acts.{due, listens_from}
 use Rattle.aprs_history.specs.Runs.{AppendsRun}
+use Rattle.server_core.proofs.OfferLemmas.{numbered_short}
 use Rattle.server_core.specs.ActsSeen.{ActsSeen}
 use Rattle.server_core.specs.Meaning.{AreActs, CoreMeaning, Stands, group_listens, listeners, numbered, setting_of}
 use Rattle.aprs_history.specs.Stands.{StandsFor}
@@ -92,16 +91,6 @@ listening_rests core conf more same stands phase =
       all = phase.count ∙ ap (λ c. length (listeners c)) (sym same);
       fresh = phase.fresh;
     }
-
--- a listener has a number where it isn't idle
-pub numbered_short : (listens : List Listen) → length (numbered listens) ≤ length listens
-numbered_short [] = omega arith
-numbered_short (listen ∷ listens) =
-    let later = numbered_short listens in
-    ⊎_elim
-    (λ idle. rw idle (omega arith))
-    (λ busy. rw busy (omega arith))
-    (cases_Bool listen.idle)
 
 -- with the peer group's there is one more at most
 pub few_listeners : (conf : ConfSeen) → IsSound conf → length (listeners conf) ≤ 17

@@ -24,12 +24,11 @@ ghost use Rattle.std.specs.List.{AllZip};
 ghost use Rattle.server_core.specs.Meaning.{AreActs, Stands};
 ghost use Rattle.server_core.specs.Steps.{SameRest};
 
-use crate::configuring::listeners;
 use crate::journals::tell_all;
 use aprs_base::{Event, Gate, Line, ListenSpec, Memory, Sent, Slot, UplinkSpec, Wire, WireError};
 use aprs_conf::{Conf, PeerSpec};
 use arrayvec::ArrayVec;
-use server_core::{Acts, CastOut, Core};
+use server_core::{Acts, CastOut, Core, listeners};
 use std::alloc::Global;
 use std::hash::RandomState;
 use std::marker::Sync;

@@ -1,8 +1,8 @@
 -- The configurations of a script's servers are such as cores serve by, and have its layout's settings.
-use Rattle.std.proofs.Common.{◌≡◌, ℕ, zero, suc, ◌<◌, ◌≤◌, Bool, true, false, List, [], ◌∷◌, ◌++◌, length, map, refl, ap, ◌∙◌, subst, arith, Option, Some, None, IsTrue, ⊎_elim}
+use Rattle.std.proofs.Common.{◌≡◌, ℕ, zero, suc, ◌<◌, Bool, true, false, List, [], ◌∷◌, ◌++◌, length, map, refl, ap, ◌∙◌, subst, arith, Option, Some, None, IsTrue}
 use Rattle.std.specs.Prelude.{slice_get, not}
 use Rattle.std.specs.List.{AllZip, list_all}
-use Rattle.std.proofs.lemmas.Bool.{and_parts, cases_Bool}
+use Rattle.std.proofs.lemmas.Bool.{and_parts}
 use Rattle.std.proofs.lemmas.Option.{slice_get_within}
 use Rattle.aprs_base.specs.UplinkSeen.{UplinkSeen}
 use Rattle.aprs_base.specs.declared.packets.ListenSpec.{ListenSpec}
@@ -20,17 +20,9 @@ use Rattle.net_script.specs.Laws.{IsWired}
 use Rattle.net_script.specs.Layouts.{HasSetting, IsConfOf, group_ports, layout_of, peer_of}
 use Rattle.net_script.specs.Seen.{ScriptSeen}
 use Rattle.server_core.specs.Meaning.{group_listens, listeners, numbered, setting_of}
+use Rattle.server_core.proofs.OfferLemmas.{numbered_short}
 
 -- ---- what cores serve by
-
-numbered_short : (listens : List Listen) → length (numbered listens) ≤ length listens
-numbered_short [] = omega arith
-numbered_short (listen ∷ listens) =
-    let later = numbered_short listens in
-    ⊎_elim
-    (λ idle. rw idle (omega (arith, later)))
-    (λ busy. rw busy (omega (arith, later)))
-    (cases_Bool listen.idle)
 
 can_serve : (conf : ConfSeen) → IsSound conf → CanServe conf
 can_serve conf sound = record {

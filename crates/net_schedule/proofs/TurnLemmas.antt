@@ -1,17 +1,16 @@
 -- Within a round of one of its servers a running network goes on as the model does.
-use Rattle.std.proofs.Common.{◌≡◌, ℕ, zero, suc, ◌+◌, ◌<◌, ◌≤◌, ◌==◌, ◌&&◌, ◌||◌, Bool, true, false, List, [], ◌∷◌, ◌++◌, length, map, take, drop, refl, sym, ap, ◌∙◌, subst, arith, Option, Some, None, ◌⊎◌, inl, inr, ⊎_elim, append_assoc, eq-eqb, get_or, OnOk, Result}
+use Rattle.std.proofs.Common.{◌≡◌, ℕ, zero, suc, ◌+◌, ◌<◌, ◌==◌, ◌&&◌, ◌||◌, Bool, true, false, List, [], ◌∷◌, ◌++◌, length, map, take, refl, sym, ap, ◌∙◌, subst, Option, Some, None, ◌⊎◌, ⊎_elim, append_assoc, get_or, OnOk, Result}
 use Rattle.std.specs.Prelude.{slice_get, slice_set, if◌then◌else◌}
 use Rattle.std.specs.List.{AllZip}
 use Rattle.std.specs.Option.{option_map}
-use Rattle.std.proofs.Math.Seq.{drop-nil}
-use Rattle.std.proofs.lemmas.Bool.{cases_Bool, eqb-true, false_from_ne_true, or_right, true≢false}
+use Rattle.std.proofs.lemmas.Bool.{cases_Bool}
 use Rattle.std.proofs.lemmas.List.{map-append, take_more}
 use Rattle.aprs_base.specs.declared.events.Event.{Event}
 use Rattle.aprs_base.specs.declared.events.Event.TheVariants as event
 use Rattle.aprs_base.specs.declared.events.Happening.TheVariants as did
 use Rattle.aprs_base.specs.declared.events.Sent.{Sent}
 use Rattle.aprs_base.specs.declared.events.Sent.TheVariants as sent
-use Rattle.aprs_history.specs.Acts.{Act, Casts, Closes, Dials, Listens, Offers, cast_act, dials, due, offer_to}
+use Rattle.aprs_history.specs.Acts.{Closes, Offers, cast_act, dials, due, offer_to}
 use Rattle.aprs_history.specs.Dials.{CastSeen}
 use Rattle.aprs_history.specs.Headline.{taken_bytes}
 use Rattle.aprs_history.specs.History.{History, open_events, trace_of}
@@ -19,39 +18,28 @@ use Rattle.aprs_history.specs.Rounds.{is_whole, with_events}
 use Rattle.aprs_history.specs.Setting.{Setting}
 use Rattle.aprs_history.specs.Texts.{untaken}
 use Rattle.aprs_history.specs.Trace.{Trace, is_member}
-use Rattle.aprs_history.proofs.NumberLemmas.{member_first}
 use Rattle.server_core.specs.ActsSeen.{ActsSeen}
-use Rattle.server_core.specs.LinkSteps.{Rises}
-use Rattle.server_core.proofs.WalkLemmas.{member_below}
+use Rattle.server_core.proofs.OfferLemmas.{left_by_other, member_differs}
 use Rattle.server_core.specs.Meaning.{AreActs}
-use Rattle.net_history.specs.Network.{End, JoinedSeen, NetSeen, ServerSeen, at_server, changed_at, end_beyond, is_end, is_of_pair, number_of, parted_at, taken_at, trace_at, with_arrival}
+use Rattle.net_history.specs.Network.{End, NetSeen, ServerSeen, at_server, changed_at, end_beyond, is_end, is_of_pair, number_of, parted_at, taken_at, trace_at, with_arrival}
 use Rattle.net_history.specs.Places.{Each}
-use Rattle.net_history.specs.Serving.{arrivals_at, told_of_end, with_act, with_acts, with_all, with_happening, with_round, without_arrivals}
+use Rattle.net_history.specs.Serving.{told_of_end, with_act, with_acts, with_all, with_happening}
 use Rattle.net_history.proofs.BetweenLemmas.{changed_here, none_some, same_or_other}
 use Rattle.net_history.proofs.PlaceLemmas.{some_same}
 use Rattle.net_history.proofs.StreamLemmas.{eqb_other, eqb_same}
 use Rattle.net_schedule.specs.Kept.{kept_arrival, kept_told}
 use Rattle.net_schedule.specs.Rounds.{Drives, LeftSame, Sends, acted, all_acted, first_acts, next_bytes, ways_sent, with_round_events}
-use Rattle.net_schedule.specs.Running.{ServerKept, WayKept, all_with_taken, joined_of, joins_of, way_parted_at, with_taken}
-use Rattle.net_schedule.specs.Standing.{AllKeep, Goes, IsOnItsWay, Keeps, Turns, taken_in}
-use Rattle.net_schedule.proofs.DriveLemmas.{casts_keep, close_keeps}
-use Rattle.net_schedule.proofs.KeepLemmas.{arrives, arrives_behind, zip_changed}
+use Rattle.net_schedule.specs.Running.{ServerKept, WayKept, all_with_taken, joined_of, joins_of, way_parted_at}
+use Rattle.net_schedule.specs.Standing.{AllKeep, IsOnItsWay, Keeps, Turns, taken_in}
+use Rattle.net_schedule.proofs.DriveLemmas.{close_keeps}
+use Rattle.net_schedule.proofs.KeepLemmas.{arrives_behind, zip_changed}
 use Rattle.net_schedule.proofs.RoundLemmas.{NoCloses, acted_both, acts_alone, acts_both, at_twice, changed_as, changed_none, whole_round}
 
 -- ---- offers, one after another
 
--- a send to another link leaves what is left to a link
-left_by_other : (s : Setting) (h : History) (link k : ℕ) (bytes : List ℕ) (n : ℕ) → (k == link) ≡ false → untaken s (trace_of s (did.Sent link bytes (sent.Took n) ∷ h)) k ≡ untaken s (trace_of s h) k
-unfolding trace_of
-left_by_other s h link k bytes n other = rw other refl
-
-member_differs : (link k : ℕ) (offers : List ℕ) → is_member link offers ≡ false → is_member k offers ≡ true → (k == link) ≡ false
-member_differs link k offers none member =
-    false_from_ne_true _ (λ is. let same : k ≡ link = eqb-true k link is in true≢false (sym member ∙ ap (λ n. is_member n offers) same ∙ none))
-
 pub left_next : (round : Trace) (link : ℕ) (links : List ℕ) (s : ServerSeen) → is_member link links ≡ false → LeftSame round (link ∷ links) s → LeftSame round links (acted (offer_to s.setting round link) s)
 left_next round link links s other left k member =
-    left_by_other s.setting s.history link k (next_bytes s.setting round link) (length (next_bytes s.setting round link)) (member_differs link k links other member)
+    left_by_other s.setting s.history link k (next_bytes s.setting round link) (sent.Took (length (next_bytes s.setting round link))) (member_differs link k links other member)
     ∙ left k (⊎_elim (λ here. ap (λ b. b || is_member k links) here) (λ differ. ap (λ b. b || is_member k links) differ ∙ member) (cases_Bool (link == k)))
 
 -- a dial and casts leave it, too
@@ -331,28 +319,6 @@ closes_more number closes i d n lt =
     ap (λ links. with_acts number (map Closes links) n) (take_more closes i d lt)
     ∙ ap (λ acts. with_acts number acts n) (map-append Closes (take i closes) (get_or closes i d ∷ []))
     ∙ acts_both number (map Closes (take i closes)) (Closes (get_or closes i d) ∷ []) n
-
--- ---- each of rising links differs from those behind it
-
-pub first_differs : (low high : ℕ) (ns : List ℕ) (i n : ℕ) (rest : List ℕ) → Rises low ns high → drop i ns ≡ n ∷ rest → is_member n rest ≡ false
-first_differs low high [] i n rest rises is = cc (drop-nil {A = ℕ} i)
-first_differs low high (x ∷ ns) zero n rest rises is =
-    let first : x ≡ n = cc in
-    let others : ns ≡ rest = cc in
-    false_from_ne_true _ (λ member.
-    let above = member_below x high ns n rises.1 (ap (is_member n) others ∙ member) in
-    let lt = above.0 in absurd (omega arith))
-first_differs low high (x ∷ ns) (suc i) n rest rises is = first_differs x high ns i n rest rises.1 is
-
-pub member_at : (ns : List ℕ) (i d : ℕ) → i < length ns → is_member (get_or ns i d) ns ≡ true
-member_at [] i d lt = absurd (omega arith)
-member_at (n ∷ ns) zero d lt = member_first n ns
-member_at (n ∷ ns) (suc i) d lt = or_right (n == get_or ns i d) _ (member_at ns i d (omega arith))
-
-pub same_at : (xs : List ℕ) (n : ℕ) (d e : ℕ) → n < length xs → get_or xs n d ≡ get_or xs n e
-same_at [] n d e lt = absurd (omega arith)
-same_at (x ∷ xs) zero d e lt = refl
-same_at (x ∷ xs) (suc n) d e lt = same_at xs n d e (omega arith)
 
 -- one offer more is made
 pub sends_next : (number : ℕ) (rest : List Event) (round : Trace) (offers : List ℕ) (link : ℕ) (links : List ℕ) (s : ServerSeen) (kept new : ServerKept) (before ways after : List (Option WayKept)) → is_member link links ≡ false

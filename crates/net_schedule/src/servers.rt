@@ -8,15 +8,15 @@ ghost use Rattle.aprs_history.specs.Rounds.{AreFresh, greatest_after, is_whole, 
 ghost use Rattle.net_history.specs.Network.{ServerSeen, new_server};
 ghost use Rattle.net_history.specs.Report.{report_on};
 ghost use Rattle.net_history.specs.Steps.{but_first_of};
-ghost use Rattle.server_core.specs.Meaning.{listeners, numbered, setting_of};
+ghost use Rattle.server_core.specs.Meaning.{numbered, setting_of};
 ghost use Rattle.server_core.specs.LinkSteps.{has_number};
 ghost use Rattle.net_schedule.specs.Kept.{is_heard_by, kept_arrival, kept_client, kept_downlink, kept_ended, kept_link, kept_may_open, kept_may_say, kept_speaks, kept_uplink};
 ghost use Rattle.net_schedule.specs.Standing.{Keeps};
 
 use crate::texts::login;
 use aprs_base::{Addr, Call, Event, Line, ListenSpec, Memory, PortKind};
-use aprs_conf::{Conf, Listen};
-use server_core::Core;
+use aprs_conf::Conf;
+use server_core::{Core, listeners};
 use std::alloc::Global;
 use std::hash::RandomState;
 use std::marker::Model;
@@ -53,33 +53,6 @@ impl Model for Server {
     ghost Value = { ServerKept };
 
     ghost view = { λ s. record { core = s.core; listens = s.listens.items; arrivals = s.arrivals.items; made = s.made.items; dialled = s.dialled.items; casts = map arc_value s.casts.items; accepted = map arc_value s.accepted.items } };
-}
-
-/// The listeners that have a number, in order.
-fn numbered_listens(alloc: Global, listens: &[Listen]) -> Result<Vec<ListenSpec>, Memory>
-    ensures { IfOk result (λ specs. specs.items ≡ numbered listens.now) }
-{
-    let mut specs = Vec::new(alloc);
-    for listen in listens {
-        if !listen.idle {
-            specs.push(listen.spec)?;
-        }
-    }
-    Ok(specs)
-}
-
-/// All listeners, in the order of their numbers: those that aren't idle, and last that of the peer group.
-fn listeners(alloc: Global, conf: &Conf) -> Result<Vec<ListenSpec>, Memory>
-    ensures { IfOk result (λ specs. specs.items ≡ listeners conf.now) }
-{
-    let mut specs = numbered_listens(alloc, conf.listens.as_slice())?;
-    if let Some(at) = conf.group {
-        specs.push(ListenSpec {
-            kind: PortKind::Core,
-            at,
-        })?;
-    }
-    Ok(specs)
 }
 
 /// The first place of an uplink.

@@ -6,6 +6,7 @@ pub mod HeardLemmas
 pub mod LeftLemmas
 pub mod LinkLemmas
 pub mod MemberLemmas
+pub mod OfferLemmas
 pub mod RoundLemmas
 pub mod SendLemmas
 pub mod SightLemmas

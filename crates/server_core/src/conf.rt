@@ -4,11 +4,12 @@ ghost use Rattle.std.specs.List.{list_all};
 ghost use Rattle.aprs_base.specs.Bytes.{is_station};
 ghost use Rattle.aprs_history.specs.Setting.{is_client_kind, kind_at, peer_from};
 ghost use Rattle.aprs_history.specs.Journal.{group_of};
-ghost use Rattle.server_core.specs.Meaning.{numbered, peer_of, setting_of, timeouts_of};
+ghost use Rattle.server_core.specs.Meaning.{listeners, numbered, peer_of, setting_of, timeouts_of};
 
-use aprs_base::{Addr, Call, ListenSpec, PortKind};
+use aprs_base::{Addr, Call, ListenSpec, Memory, PortKind};
 use aprs_conf::{Conf, Listen, PeerSpec};
 use served_links::Timeouts;
+use std::alloc::Global;
 
 /// The server's call.
 pub(crate) fn server_of(conf: &Conf) -> &Call
@@ -66,6 +67,33 @@ pub(crate) fn peers_of(conf: &Conf) -> &[PeerSpec]
     ensures { result.now ≡ conf.now.peers }
 {
     conf.peers.as_slice()
+}
+
+/// The listeners that have a number, in order.
+fn numbered_listens(alloc: Global, listens: &[Listen]) -> Result<Vec<ListenSpec>, Memory>
+    ensures { IfOk result (λ specs. specs.items ≡ numbered listens.now) }
+{
+    let mut specs = Vec::new(alloc);
+    for listen in listens {
+        if !listen.idle {
+            specs.push(listen.spec)?;
+        }
+    }
+    Ok(specs)
+}
+
+/// All listeners, in the order of their numbers: those that aren't idle, and last that of the peer group.
+pub fn listeners(alloc: Global, conf: &Conf) -> Result<Vec<ListenSpec>, Memory>
+    ensures { IfOk result (λ specs. specs.items ≡ listeners conf.now) }
+{
+    let mut specs = numbered_listens(alloc, conf.listens.as_slice())?;
+    if let Some(at) = conf.group {
+        specs.push(ListenSpec {
+            kind: PortKind::Core,
+            at,
+        })?;
+    }
+    Ok(specs)
 }
 
 /// The listener of that number among those that aren't idle, or how many numbers further it is than they go.

@@ -12,4 +12,5 @@ mod server;
 mod telling;
 
 pub use acts::{Acts, CastOut};
+pub use conf::listeners;
 pub use cores::Core;

@@ -5,7 +5,7 @@ use Rattle.server_core.proofs.WholeRoundLemmas.{next_item}
 use Rattle.aprsc_daemon.specs.Phases.{Offering}
 use Rattle.aprsc_daemon.proofs.BringLemmas.{brings_on, brings_one}
 use Rattle.aprsc_daemon.proofs.ActLemmas.{run_closes}
-use Rattle.aprsc_daemon.proofs.RunLemmas.{same_at}
+use Rattle.server_core.proofs.OfferLemmas.{same_at}
 use Rattle.aprsc_daemon.specs.Phases.{Broken}
 use Rattle.aprsc_daemon.proofs.EventLemmas.{err_any}
 use Rattle.aprsc_daemon.proofs.JournalLemmas.{acts_broken}

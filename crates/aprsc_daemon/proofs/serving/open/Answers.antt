@@ -7,7 +7,8 @@ use Rattle.aprsc_daemon.specs.Causes.{OpensOnly}
 use Rattle.aprsc_daemon.specs.Phases.{Listening, Resting}
 use Rattle.aprsc_daemon.proofs.EventLemmas.{err_of}
 use Rattle.aprsc_daemon.proofs.RunLemmas.{run_weaker}
-use Rattle.aprsc_daemon.proofs.ServeLemmas.{few_listeners, listening_rests, numbered_short}
+use Rattle.server_core.proofs.OfferLemmas.{numbered_short}
+use Rattle.aprsc_daemon.proofs.ServeLemmas.{few_listeners, listening_rests}
 use Rattle.aprsc_daemon.proofs.serving.open.Goals as goal
 
 pub listen_all-requires : goal.listen_all-requires

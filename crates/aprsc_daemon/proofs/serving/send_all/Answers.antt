@@ -6,8 +6,7 @@ use Rattle.server_core.proofs.LinkLemmas.{served_numbers}
 use Rattle.server_core.proofs.WholeRoundLemmas.{next_item}
 use Rattle.aprsc_daemon.specs.Phases.{Offering}
 use Rattle.aprsc_daemon.proofs.BringLemmas.{brings_on}
-use Rattle.aprsc_daemon.proofs.ActLemmas.{first_differs, member_at}
-use Rattle.aprsc_daemon.proofs.RunLemmas.{same_at}
+use Rattle.server_core.proofs.OfferLemmas.{first_differs, member_at, same_at}
 use Rattle.aprsc_daemon.specs.Phases.{Broken}
 use Rattle.aprsc_daemon.proofs.EventLemmas.{err_any}
 use Rattle.aprsc_daemon.proofs.JournalLemmas.{acts_broken}

@@ -3,7 +3,8 @@ use Rattle.aprs_history.specs.Trace.{is_member}
 use Rattle.server_core.proofs.LinkLemmas.{served_numbers}
 use Rattle.server_core.proofs.WholeRoundLemmas.{next_item}
 use Rattle.net_schedule.proofs.ListLemmas.{drop_past}
-use Rattle.net_schedule.proofs.TurnLemmas.{first_differs, member_at, same_at, sends_end, sends_next}
+use Rattle.server_core.proofs.OfferLemmas.{first_differs, member_at, same_at}
+use Rattle.net_schedule.proofs.TurnLemmas.{sends_end, sends_next}
 use Rattle.net_schedule.proofs.rounds.send_all.Goals as goal
 
 pub send_one-requires-clause-served : goal.send_one-requires-clause-served
