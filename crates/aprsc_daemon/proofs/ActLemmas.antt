@@ -1,10 +1,9 @@
 -- A run goes on by a send or a close.
-use Rattle.std.proofs.Common.{◌≡◌, ℕ, ◌==◌, Bool, true, false, ◌||◌, List, [], ◌∷◌, ◌++◌, take, map, refl, sym, ap, ◌∙◌, subst, Option, None, ⊎_elim, min}
+use Rattle.std.proofs.Common.{◌≡◌, ℕ, ◌==◌, Bool, false, ◌||◌, List, [], ◌∷◌, ◌++◌, take, map, refl, sym, ap, ◌∙◌, subst, Option, None, ⊎_elim, min}
 use Rattle.std.specs.Option.{option_map}
 use Rattle.std.proofs.lemmas.Bool.{cases_Bool, true≢false}
 use Rattle.aprs_base.specs.Outside.{Told, with_done, IsOutcome}
 use Rattle.aprs_base.specs.declared.events.Sent.{Sent}
-use Rattle.aprs_base.specs.declared.events.Sent.TheVariants as sent
 use Rattle.aprs_base.specs.declared.events.Happening.TheVariants as did
 use Rattle.aprs_base.specs.Journals.{JournalLineSeen}
 use Rattle.aprs_history.specs.Setting.{Setting}

@@ -4,6 +4,7 @@ pub mod CauseLemmas
 pub mod DrillLemmas
 pub mod EventLemmas
 pub mod JournalLemmas
+pub mod LoadLemmas
 pub mod ReachLemmas
 mod Rows
 pub mod RunLemmas

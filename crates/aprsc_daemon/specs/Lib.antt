@@ -3,6 +3,7 @@ pub mod Causes
 pub mod Configuring
 pub mod Drill
 pub mod Failing
+pub mod Loading
 pub mod Phases
 pub mod Saying
 pub mod Telling

@@ -12,17 +12,18 @@ ghost use Rattle.aprs_conf.specs.Sound.{IsSound};
 ghost use Rattle.aprs_conf.specs.Grammar.{conf_of};
 ghost use Rattle.server_core.specs.Meaning.{setting_of};
 ghost use Rattle.aprsc_daemon.specs.Causes.{Asks, Cause, CountsOnce, DrillEnds, Ended, HasCause, HasNamed, KeepsPromise, NamesNone, NetEnds, Opening, ReadsWell, Said, code_of_status, is_before_serving, outside_of, status_of};
+ghost use Rattle.aprsc_daemon.specs.Loading.{SaysUnfit};
 ghost use Rattle.aprsc_daemon.specs.Phases.{JournalTold};
 ghost use Rattle.aprsc_daemon.specs.Asked.{IsBounded};
 ghost use Rattle.aprsc_daemon.specs.Words.{NetWordsSeen, ServerWordsSeen, asked_of, drill_of, net_of};
 
-use crate::configuring::{Unfit, read_conf};
+use crate::configuring::{MOST_READ, Unfit, load};
 use crate::drill::drill;
 use crate::saying::{
     bad_step, listen_failed, summary, too_large, trouble, unread, usage, valid, write_all,
 };
 use crate::serving::{End, ListenError, open, serve};
-use crate::words::{DrillWords, NetWords, ServerWords, Task, Words, WordsError, read_words};
+use crate::words::{DrillWords, NetWords, Task, Words, WordsError, read_words};
 use aprs_base::{FileError, Files, Gate, Memory, Sink, SinkError, Slot, Wire};
 use aprs_conf::Conf;
 use net_report::text_of;
@@ -33,9 +34,6 @@ use std::marker::Sync;
 use std::mem::forget;
 use std::sync::Wait;
 use std::thread::Threads;
-
-/// The most bytes of a configuration or a script.
-const MOST_READ: usize = 65_536;
 
 /// How the program ends.
 #[derive(Clone, Copy)]
@@ -135,92 +133,15 @@ fn run_conf<R: Threads + Sync + Wait, W: Wire, S: Sink, G: Gate + Sync>(
     }
 }
 
-/// Runs or checks the configuration that a text is.
-fn run_text<R: Threads + Sync + Wait, W: Wire, S: Sink, G: Gate + Sync>(
-    rt: &R,
-    alloc: Global,
-    asked: &ServerWords<'_>,
-    text: &[u8],
-    wire: &mut W,
-    out: &mut S,
-    hasher: &RandomState,
-    journals: &mut Vec<Slot>,
-    gate: &G,
-) -> Status
-    requires short { length text.now ≤ 65536 }
-    requires some { 1 ≤ asked.now.workers }
-    requires most { asked.now.workers ≤ 64 }
-    ensures journals { (conf : ConfSeen) → asked.now.task ≡ Task.Serve → conf_of text.now ≡ Ok conf
-        → (told : List JournalLineSeen) × AllZip (TakesLines journal_shown told) journals.old.items journals.new.items
-        × AppendsRun (setting_of conf) (W.shown wire.old).told (W.shown wire.new).told (JournalTold (code_of_status result) (setting_of conf) told) }
-    ensures checks { asked.now.task ≡ Task.Check → (wire.new ≡ wire.old) × (journals.new ≡ journals.old) }
-    ensures still { is_before_serving (code_of_status result) ≡ true → journals.new ≡ journals.old }
-    ensures unnamed { ((conf : ConfSeen) → asked.now.task ≡ Task.Serve → conf_of text.now ≡ Ok conf → ⊥) → journals.new ≡ journals.old }
-    ensures cause { (words : List (List ℕ)) (files files_after : FilesShown) → asked_of words ≡ Some asked.now → Holds files.told asked.now.file text.now
-        → ReadsWell words files files_after → Cause result (outside_of words files files_after
-        (W.shown wire.old) (W.shown wire.new) (S.shown out.old) (S.shown out.new)) }
+/// Says why a file gives no configuration.
+fn say_unfit<S: Sink>(alloc: Global, name: &str, why: Unfit, out: &mut S) -> Status
+    ensures { SaysUnfit (S.shown out.old) (S.shown out.new) name.now why result }
 {
-    match read_conf(alloc, text) {
-        Ok(conf) => match asked.task {
-            Task::Serve => run_conf(
-                rt,
-                alloc,
-                conf,
-                asked.workers,
-                wire,
-                out,
-                hasher,
-                journals,
-                gate,
-            ),
-            Task::Check => say_made(out, valid(alloc, asked.file), Status::Checked),
-        },
-        Err(Unfit::Trouble(why)) => say_made(out, trouble(alloc, asked.file, why), Status::BadFile),
-        Err(Unfit::Memory) => Status::NoMemory,
-    }
-}
-
-/// Runs or checks the configuration that a file holds.
-fn run_file<R: Threads + Sync + Wait, F: Files, W: Wire, S: Sink, G: Gate + Sync>(
-    rt: &R,
-    alloc: Global,
-    asked: &ServerWords<'_>,
-    files: &mut F,
-    wire: &mut W,
-    out: &mut S,
-    hasher: &RandomState,
-    journals: &mut Vec<Slot>,
-    gate: &G,
-) -> Status
-    requires some { 1 ≤ asked.now.workers }
-    requires most { asked.now.workers ≤ 64 }
-    ensures journals { (conf : ConfSeen) (told_files : List MemFile) (bytes : List ℕ) → (F.shown files.old).told ≡ Some told_files
-        → asked.now.task ≡ Task.Serve → bytes_named asked.now.file told_files ≡ Some bytes → conf_of bytes ≡ Ok conf
-        → (told : List JournalLineSeen) × AllZip (TakesLines journal_shown told) journals.old.items journals.new.items
-        × AppendsRun (setting_of conf) (W.shown wire.old).told (W.shown wire.new).told (JournalTold (code_of_status result) (setting_of conf) told) }
-    ensures checks { asked.now.task ≡ Task.Check → (wire.new ≡ wire.old) × (journals.new ≡ journals.old) }
-    ensures still { is_before_serving (code_of_status result) ≡ true → journals.new ≡ journals.old }
-    ensures unnamed { (words : List (List ℕ)) → asked_of words ≡ Some asked.now → NamesNone words (F.shown files.old).told → journals.new ≡ journals.old }
-    ensures cause { (words : List (List ℕ)) → asked_of words ≡ Some asked.now
-        → Cause result (outside_of words (F.shown files.old) (F.shown files.new)
-        (W.shown wire.old) (W.shown wire.new) (S.shown out.old) (S.shown out.new)) }
-{
-    let mut text = Vec::new(alloc);
-    match files.read(asked.file, MOST_READ, &mut text) {
-        Ok(()) => run_text(
-            rt,
-            alloc,
-            asked,
-            text.as_slice(),
-            wire,
-            out,
-            hasher,
-            journals,
-            gate,
-        ),
-        Err(FileError::Big) => say_made(out, too_large(alloc, asked.file), Status::BadFile),
-        Err(FileError::Failed) => say_made(out, unread(alloc, asked.file), Status::UnreadFile),
-        Err(FileError::Memory) => Status::NoMemory,
+    match why {
+        Unfit::TooLarge => say_made(out, too_large(alloc, name), Status::BadFile),
+        Unfit::Unread => say_made(out, unread(alloc, name), Status::UnreadFile),
+        Unfit::Trouble(why) => say_made(out, trouble(alloc, name, why), Status::BadFile),
+        Unfit::Memory => Status::NoMemory,
     }
 }
 
@@ -312,9 +233,23 @@ fn run<R: Threads + Sync + Wait, F: Files, W: Wire, S: Sink, G: Gate + Sync>(
         (W.shown wire.old) (W.shown wire.new) (S.shown out.old) (S.shown out.new)) }
 {
     match read_words(alloc, words) {
-        Ok(Words::Server(asked)) => run_file(
-            rt, alloc, &asked, files, wire, out, hasher, journals, gate,
-        ),
+        Ok(Words::Server(asked)) => match load(alloc, asked.file, files) {
+            Ok(conf) => match asked.task {
+                Task::Serve => run_conf(
+                    rt,
+                    alloc,
+                    conf,
+                    asked.workers,
+                    wire,
+                    out,
+                    hasher,
+                    journals,
+                    gate,
+                ),
+                Task::Check => say_made(out, valid(alloc, asked.file), Status::Checked),
+            },
+            Err(why) => say_unfit(alloc, asked.file, why, out),
+        },
         Ok(Words::Drill(asked)) => run_drill(rt, alloc, asked, out, hasher),
         Ok(Words::Net(asked)) => run_net(rt, alloc, &asked, files, out, hasher),
         Err(WordsError::Refused) => say(out, usage(), Status::BadWords),

@@ -1,5 +1,5 @@
 -- What is kept after each kind of step is the network after it.
-use Rattle.std.proofs.Common.{◌≡◌, ℕ, Bool, true, false, List, [], ◌∷◌, ◌++◌, length, map, take, refl, sym, ap, ◌∙◌, subst, ◌≤◌, Option, Some, None, OnOk, Result, Ok, Err}
+use Rattle.std.proofs.Common.{◌≡◌, ℕ, Bool, true, List, [], ◌∷◌, ◌++◌, length, map, take, refl, sym, ap, ◌∙◌, subst, ◌≤◌, Option, Some, None, OnOk, Result, Ok, Err}
 use Rattle.std.specs.Prelude.{slice_get}
 use Rattle.std.specs.Option.{option_map}
 use Rattle.std.proofs.lemmas.Bool.{false≢true}
@@ -13,7 +13,7 @@ use Rattle.net_schedule.specs.Waiting.{Waits}
 use Rattle.net_history.specs.declared.events.NetEvent.{NetEvent}
 use Rattle.net_history.specs.declared.events.NetEvent.TheVariants as net
 use Rattle.net_history.specs.declared.events.Pair.{Pair}
-use Rattle.net_history.specs.Network.{End, Layout, NetSeen, ServerSeen, address_of, at_server, changed_at}
+use Rattle.net_history.specs.Network.{Layout, NetSeen, ServerSeen, address_of, at_server, changed_at}
 use Rattle.net_history.specs.Serving.{arrivals_at, with_round, without_arrivals}
 use Rattle.net_history.proofs.StreamLemmas.{all_fewer, round_grows}
 use Rattle.net_history.specs.Steps.{is_there, joined_at, may_carry, network_of, peering, with_carry, with_cut, with_join, with_cast, with_step}

@@ -1,8 +1,6 @@
 -- Bytes and datagrams arrive in a running network as they do in the model.
-use Rattle.std.proofs.Common.{◌≡◌, ◌≢◌, ℕ, zero, suc, ◌+◌, ◌-◌, ◌<◌, ◌==◌, ◌≤◌, Bool, true, false, List, [], ◌∷◌, ◌++◌, length, map, take, drop, refl, sym, ap, ◌∙◌, subst, arith, Option, Some, None, ◌⊎◌, inl, inr, ⊎_elim, append-nil, append_assoc}
+use Rattle.std.proofs.Common.{◌≡◌, ◌≢◌, ℕ, zero, suc, ◌+◌, ◌-◌, ◌==◌, Bool, true, false, List, [], ◌∷◌, ◌++◌, length, map, take, drop, refl, sym, ap, ◌∙◌, subst, arith, Option, Some, None, inl, inr, ⊎_elim, append-nil, append_assoc}
 use Rattle.std.specs.Prelude.{slice_get, if◌then◌else◌}
-use Rattle.std.specs.List.{AllZip}
-use Rattle.net_history.specs.Places.{Each}
 use Rattle.std.specs.Option.{option_map}
 use Rattle.std.proofs.lemmas.List.{take-append-drop}
 use Rattle.aprs_base.specs.declared.events.Event.{Event}
@@ -10,15 +8,14 @@ use Rattle.aprs_base.specs.declared.events.Event.TheVariants as event
 use Rattle.link_queue.specs.Lines.{ended_line}
 use Rattle.aprs_history.specs.Casting.{casts_to_peer}
 use Rattle.aprs_history.proofs.CastingLemmas.{submissions_are_cast}
-use Rattle.net_history.specs.declared.events.PeerPair.{PeerPair}
 use Rattle.net_history.specs.Apart.{IsEndOf}
-use Rattle.net_history.specs.Network.{End, JoinedSeen, Layout, NetSeen, ServerSeen, at_server, brought_at, changed_at, far_end, number_of, on_its_way, trace_at, with_arrival}
-use Rattle.net_history.specs.Steps.{address_in, datagram_at, joined_at, peering, with_carry, with_cast, with_datagram, with_mail}
-use Rattle.net_history.proofs.BetweenLemmas.{at_changed, changed_here, none_some, same_elsewhere, same_or_other}
+use Rattle.net_history.specs.Network.{End, Layout, NetSeen, ServerSeen, at_server, brought_at, changed_at, far_end, number_of, on_its_way, with_arrival}
+use Rattle.net_history.specs.Steps.{address_in, datagram_at, with_carry, with_cast, with_datagram, with_mail}
+use Rattle.net_history.proofs.BetweenLemmas.{at_changed, changed_here}
 use Rattle.net_history.proofs.GrowthLemmas.{one_grows}
 use Rattle.net_history.proofs.PlaceLemmas.{some_same}
 use Rattle.net_history.proofs.StreamLemmas.{arrival_grows, brought_more, eqb_other, eqb_same}
-use Rattle.net_schedule.specs.Asked.{HasPeer, HavePeers, kept_datagram, on_way, way_at}
+use Rattle.net_schedule.specs.Asked.{HasPeer, kept_datagram, on_way}
 use Rattle.net_schedule.specs.Joined.{after_carry, after_mail, far_of, kept_mail, way_carried, without_first}
 use Rattle.net_schedule.specs.Kept.{kept_arrival}
 use Rattle.net_schedule.specs.Running.{NetKept, ServerKept, WayKept, joined_of, joins_of}

@@ -1,5 +1,5 @@
 -- What is kept of a server goes on as the model does, while a round of it comes.
-use Rattle.std.proofs.Common.{◌≡◌, ℕ, zero, suc, ◌+◌, ◌<◌, ◌≤◌, ◌==◌, Bool, true, false, List, [], ◌∷◌, ◌++◌, length, map, take, min, refl, sym, ap, ◌∙◌, subst, arith, Option, Some, None, ◌⊎◌, inl, inr, ⊎_elim, append_assoc, length-take}
+use Rattle.std.proofs.Common.{◌≡◌, ℕ, ◌+◌, ◌==◌, Bool, true, false, List, [], ◌∷◌, ◌++◌, length, map, take, min, refl, sym, ap, ◌∙◌, subst, arith, Option, Some, None, ◌⊎◌, inl, inr, ⊎_elim, append_assoc, length-take}
 use Rattle.std.specs.Prelude.{slice_get, if◌then◌else◌}
 use Rattle.std.proofs.lemmas.List.{map-append}
 use Rattle.aprs_base.specs.PacketSeen.{PacketSeen}
@@ -7,7 +7,7 @@ use Rattle.aprs_base.specs.declared.events.Event.{Event}
 use Rattle.aprs_base.specs.declared.events.Happening.TheVariants as did
 use Rattle.aprs_base.specs.declared.events.Sent.TheVariants as sent
 use Rattle.link_queue.specs.Lines.{ended_line}
-use Rattle.aprs_history.specs.Acts.{Act, Casts, Closes, Dials, Offers, cast_act, dials, offer_to}
+use Rattle.aprs_history.specs.Acts.{Closes, Dials, Offers, cast_act, dials, offer_to}
 use Rattle.aprs_history.specs.Casting.{casts_to_peer}
 use Rattle.aprs_history.specs.Dials.{CastSeen}
 use Rattle.aprs_history.specs.History.{History, trace_of}
@@ -15,16 +15,14 @@ use Rattle.aprs_history.specs.Rounds.{with_events}
 use Rattle.aprs_history.specs.Scenes.{accepted_of}
 use Rattle.aprs_history.specs.Setting.{Setting}
 use Rattle.aprs_history.specs.Texts.{untaken}
-use Rattle.aprs_history.specs.Trace.{Trace, is_member}
-use Rattle.server_core.specs.ActsSeen.{ActsSeen}
-use Rattle.server_core.specs.Meaning.{AreActs, CoreMeaning, Stands, setting_of}
+use Rattle.aprs_history.specs.Trace.{Trace}
+use Rattle.server_core.specs.Meaning.{Stands, setting_of}
 use Rattle.net_history.specs.Network.{ServerSeen, trace_at}
 use Rattle.net_history.specs.Openings.{WasOpened}
 use Rattle.net_history.specs.Report.{accepted_at}
-use Rattle.net_schedule.specs.Rounds.{Drives, LeftSame, acted, all_acted, first_acts, next_bytes, with_casts, with_dialled, with_round_events}
-use Rattle.net_schedule.specs.Running.{ServerKept, WayKept}
+use Rattle.net_schedule.specs.Rounds.{LeftSame, acted, all_acted, next_bytes, with_casts, with_dialled, with_round_events}
+use Rattle.net_schedule.specs.Running.{ServerKept}
 use Rattle.net_schedule.specs.Standing.{Keeps, WaitsToOpen}
-use Rattle.net_schedule.proofs.RoundLemmas.{acted_both}
 
 -- ---- events come
 

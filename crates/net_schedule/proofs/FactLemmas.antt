@@ -1,5 +1,5 @@
 -- What holds of the networks that steps make, as far as a running network needs it.
-use Rattle.std.proofs.Common.{◌≡◌, ℕ, ◌+◌, ◌<◌, ◌&&◌, true, false, not, List, [], length, refl, Option, Some, None}
+use Rattle.std.proofs.Common.{◌≡◌, ℕ, ◌<◌, ◌&&◌, true, false, not, List, [], length, refl, Option, Some, None}
 use Rattle.std.specs.Prelude.{slice_get, is_some}
 use Rattle.std.proofs.lemmas.Bool.{false≢true}
 use Rattle.aprs_history.specs.Headline.{taken_bytes}

@@ -1,11 +1,11 @@
 -- What is on its way between the ends of pairs, while no round comes.
-use Rattle.std.proofs.Common.{◌≡◌, ◌≢◌, ℕ, zero, suc, ◌+◌, List, [], ◌∷◌, ◌++◌, length, map, refl, sym, ap, ◌∙◌, subst, Option, Some, None, ◌⊎◌, inl, inr, ⊎_elim}
+use Rattle.std.proofs.Common.{◌≡◌, ℕ, zero, suc, List, [], ◌∷◌, ◌++◌, refl, sym, ap, ◌∙◌, subst, Option, Some, None}
 use Rattle.std.specs.Prelude.{slice_get}
 use Rattle.std.specs.Bool.{⊤}
 use Rattle.net_history.specs.Places.{Each}
 use Rattle.std.specs.Option.{option_map}
-use Rattle.net_history.specs.Network.{End, ForPair, JoinedSeen, NetSeen, ServerSeen, at_server, brought_at, changed_at, number_of, taken_at}
-use Rattle.net_history.proofs.BetweenLemmas.{at_mapped, none_some}
+use Rattle.net_history.specs.Network.{End, NetSeen, ServerSeen, brought_at, changed_at, number_of, taken_at}
+use Rattle.net_history.proofs.BetweenLemmas.{none_some}
 use Rattle.net_history.proofs.GrowthLemmas.{AllGrow, Ends, HasEnd, HasEnds}
 use Rattle.net_history.proofs.PlaceLemmas.{some_same}
 use Rattle.net_schedule.specs.Running.{WayKept, joined_of, joins_of}

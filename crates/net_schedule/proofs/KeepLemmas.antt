@@ -1,8 +1,7 @@
 -- What is kept of a server goes on as the model does, while no round of it comes.
-use Rattle.std.proofs.Common.{◌≡◌, ℕ, zero, suc, ◌+◌, List, [], ◌∷◌, ◌++◌, length, map, refl, sym, ap, ◌∙◌, subst, Option, Some, None, ◌⊎◌, inl, inr, ⊎_elim, append_assoc}
+use Rattle.std.proofs.Common.{◌≡◌, ℕ, zero, suc, ◌+◌, List, [], ◌∷◌, ◌++◌, length, map, refl, sym, ap, ◌∙◌, subst, Option, Some, None, inl, inr, ⊎_elim, append_assoc}
 use Rattle.std.specs.Prelude.{slice_get}
 use Rattle.std.specs.List.{AllZip}
-use Rattle.net_history.specs.Places.{Each}
 use Rattle.aprs_base.specs.declared.events.Event.{Event}
 use Rattle.aprs_base.specs.declared.events.Event.TheVariants as event
 use Rattle.aprs_base.specs.declared.texts.Addr.{Addr}
@@ -18,7 +17,7 @@ use Rattle.aprs_history.specs.Scenes.{accepted_of}
 use Rattle.aprs_history.specs.Setting.{Setting}
 use Rattle.server_core.specs.Meaning.{CoreMeaning, Stands, listeners, setting_of}
 use Rattle.net_history.specs.Network.{End, ForClient, ForPair, Made, ServerSeen, changed_at, new_server, with_arrival}
-use Rattle.net_history.specs.Openings.{IsOpening, WasOpened}
+use Rattle.net_history.specs.Openings.{IsOpening}
 use Rattle.net_history.specs.Steps.{but_first_of, login_line, next_link, with_client, with_downlink, with_link, with_uplink}
 use Rattle.net_history.proofs.BetweenLemmas.{none_some}
 use Rattle.net_history.proofs.PlaceLemmas.{some_same}

@@ -1,26 +1,18 @@
 -- A round of a running network is that of the model.
-use Rattle.std.proofs.Common.{◌≡◌, ℕ, zero, suc, ◌+◌, ◌-◌, ◌<◌, ◌≤◌, ◌==◌, ◌&&◌, ◌||◌, Bool, true, false, not, List, [], ◌∷◌, ◌++◌, length, map, take, drop, min, refl, sym, ap, ◌∙◌, subst, arith, Option, Some, None, ◌⊎◌, inl, inr, ⊎_elim, append-nil, append_assoc, eq-eqb, max}
-use Rattle.std.specs.Prelude.{slice_get, if◌then◌else◌, IfSome}
-use Rattle.std.specs.Bool.{⊤}
-use Rattle.std.specs.List.{AllZip}
+use Rattle.std.proofs.Common.{◌≡◌, ℕ, zero, suc, ◌+◌, ◌<◌, ◌==◌, ◌&&◌, ◌||◌, Bool, true, false, not, List, [], ◌∷◌, ◌++◌, length, take, drop, refl, sym, ap, ◌∙◌, arith, Some, eq-eqb}
+use Rattle.std.specs.Prelude.{slice_get, if◌then◌else◌}
 use Rattle.net_history.specs.Places.{Each}
-use Rattle.std.specs.Option.{option_map}
 use Rattle.std.proofs.lemmas.Bool.{and_parts, false≢true, not-true, true≢false}
-use Rattle.aprs_base.specs.Outside.{new_link}
 use Rattle.aprs_base.specs.declared.events.Event.{Event}
 use Rattle.aprs_base.specs.declared.events.Event.TheVariants as event
 use Rattle.aprs_base.specs.declared.events.Happening.TheVariants as did
-use Rattle.aprs_base.specs.declared.events.Sent.TheVariants as sent
-use Rattle.aprs_history.specs.Acts.{Act, Casts, Closes, Dials, Listens, Offers, acts_after, cast_act, dials, due, offer_to}
-use Rattle.aprs_history.specs.Dials.{CastSeen}
-use Rattle.aprs_history.specs.Headline.{taken_bytes}
-use Rattle.aprs_history.specs.History.{History, ends_round, greater_link, greatest_link, is_round_event, is_stop, is_stopped, open_events, trace_of}
-use Rattle.aprs_history.specs.Rounds.{AreFresh, greatest_after, is_whole, stopped_after, with_events}
+use Rattle.aprs_history.specs.Acts.{Act, Casts, Closes, Dials, Listens, Offers, acts_after, due}
+use Rattle.aprs_history.specs.History.{History, ends_round, is_round_event, open_events, trace_of}
+use Rattle.aprs_history.specs.Rounds.{is_whole, with_events}
 use Rattle.aprs_history.specs.Setting.{Setting}
-use Rattle.aprs_history.specs.Trace.{Trace}
-use Rattle.net_history.specs.Network.{End, JoinedSeen, NetSeen, ServerSeen, at_server, changed_at, end_beyond, number_of, parted_at, taken_at, with_arrival}
-use Rattle.net_history.specs.Serving.{due_at, happening_of, told_of_end, with_act, with_acts, with_all, with_dial, with_effect, with_event, with_happening}
-use Rattle.net_history.proofs.BetweenLemmas.{changed_here, none_some, same_elsewhere}
+use Rattle.net_history.specs.Network.{NetSeen, ServerSeen, at_server, changed_at}
+use Rattle.net_history.specs.Serving.{due_at, with_act, with_acts, with_all, with_dial, with_event, with_happening}
+use Rattle.net_history.proofs.BetweenLemmas.{changed_here}
 use Rattle.net_history.proofs.PlaceLemmas.{some_same}
 use Rattle.net_history.proofs.StreamLemmas.{eqb_other}
 use Rattle.net_schedule.specs.Waiting.{EndsByTick}

@@ -1,8 +1,7 @@
 -- The rounds by which what waits for a server comes.
-use Rattle.std.proofs.Common.{◌≡◌, ℕ, zero, suc, ◌+◌, ◌<◌, ◌≤◌, ◌||◌, Bool, true, false, List, [], ◌∷◌, ◌++◌, length, map, take, drop, min, refl, sym, ap, ◌∙◌, subst, arith, Option, Some, None, ◌⊎◌, inl, inr, ⊎_elim, append-nil}
-use Rattle.std.specs.Prelude.{slice_get, slice_set, if◌then◌else◌, IfSome}
+use Rattle.std.proofs.Common.{◌≡◌, ℕ, zero, suc, ◌+◌, ◌<◌, ◌≤◌, ◌||◌, true, false, List, [], ◌∷◌, ◌++◌, length, map, take, drop, min, refl, sym, ap, ◌∙◌, subst, arith, Option, Some, None, inl, inr, ⊎_elim, append-nil}
+use Rattle.std.specs.Prelude.{slice_get, slice_set, IfSome}
 use Rattle.std.specs.Bool.{⊤}
-use Rattle.std.specs.List.{AllZip}
 use Rattle.std.proofs.lemmas.List.{take-append-drop}
 use Rattle.aprs_base.specs.Outside.{new_link}
 use Rattle.aprs_base.specs.declared.events.Event.{Event}
@@ -11,8 +10,7 @@ use Rattle.aprs_base.specs.declared.events.Happening.TheVariants as did
 use Rattle.aprs_history.specs.Acts.{Act, Casts, Closes, Dials, Listens, Offers, due}
 use Rattle.aprs_history.specs.History.{History, greater_link, greatest_link, is_round_event, is_stop, is_stopped, open_events}
 use Rattle.aprs_history.specs.Rounds.{AreFresh, greatest_after, is_whole, with_events}
-use Rattle.net_history.specs.Network.{End, JoinedSeen, NetSeen, ServerSeen, at_server, changed_at, end_beyond, number_of, parted_at, with_arrival}
-use Rattle.net_history.specs.Places.{Each}
+use Rattle.net_history.specs.Network.{End, NetSeen, ServerSeen, at_server, changed_at, end_beyond, number_of, parted_at, with_arrival}
 use Rattle.net_history.specs.Serving.{arrivals_at, happening_of, told_of_end, with_act, with_acts, with_all, with_dial, with_effect, with_happening, with_round, without_arrivals}
 use Rattle.net_history.proofs.BetweenLemmas.{changed_here, none_some, same_elsewhere, same_or_other}
 use Rattle.net_history.proofs.PlaceLemmas.{some_same}
@@ -20,8 +18,7 @@ use Rattle.net_schedule.specs.Rounds.{with_round_events}
 use Rattle.net_schedule.specs.Running.{ServerKept, WayKept}
 use Rattle.net_schedule.specs.Standing.{AllKeep, Goes, Keeps, Turns, WaitsToOpen, taken_in}
 use Rattle.net_schedule.specs.Waiting.{AreCalm, EndsByTick, IsReady, MayCome, Ready, Runs, Waits}
-use Rattle.net_schedule.proofs.KeepLemmas.{zip_at}
-use Rattle.net_schedule.proofs.RoundLemmas.{all_both_events, first_whole, rest_ticks, ticks_last, whole_round}
+use Rattle.net_schedule.proofs.RoundLemmas.{all_both_events, ticks_last, whole_round}
 use Rattle.net_schedule.proofs.TurnLemmas.{all_keep, keep_at, keep_set, same_flows, zip_keep}
 
 -- ---- what comes later may come still

@@ -1,6 +1,6 @@
 -- A running network stands for one step more.
-use Rattle.std.proofs.Common.{◌≡◌, ℕ, ◌+◌, ◌≤◌, Bool, true, false, List, [], ◌∷◌, ◌++◌, length, map, refl, sym, ap, ◌∙◌, subst, arith, length-append, Option, Some, None, append_assoc}
-use Rattle.std.specs.Prelude.{slice_get, if◌then◌else◌, codes}
+use Rattle.std.proofs.Common.{◌≡◌, ℕ, ◌≤◌, true, List, [], ◌∷◌, ◌++◌, length, map, refl, sym, ap, ◌∙◌, subst, arith, length-append, Option, Some, None, append_assoc}
+use Rattle.std.specs.Prelude.{if◌then◌else◌, codes}
 use Rattle.std.specs.Fmt.{decimal}
 use Rattle.std.proofs.lemmas.List.{map-append}
 use Rattle.std.specs.List.{AllZip, flat_map}
@@ -20,8 +20,8 @@ use Rattle.net_schedule.specs.Asked.{CanServe, HaveFewListens, HavePeers, kept_i
 use Rattle.net_schedule.specs.Joined.{no_way}
 use Rattle.net_schedule.specs.Networks.{AreNew, IsSound}
 use Rattle.net_schedule.specs.Reported.{ended_by_feed, kept_report}
-use Rattle.net_schedule.specs.Running.{NetKept, ServerKept, WayKept, joins_of, layout_of, setting_in}
-use Rattle.net_schedule.specs.Standing.{Goes, IsNetwork, IsOnItsWay, Keeps, StandsFor, brought_in, taken_in}
+use Rattle.net_schedule.specs.Running.{NetKept, ServerKept, joins_of, layout_of, setting_in}
+use Rattle.net_schedule.specs.Standing.{IsNetwork, IsOnItsWay, Keeps, StandsFor, brought_in, taken_in}
 use Rattle.net_schedule.proofs.FactLemmas.{facts_of}
 use Rattle.net_schedule.proofs.KeepLemmas.{zip_push}
 use Rattle.net_schedule.proofs.ThereLemmas.{there_same}

@@ -1,26 +1,23 @@
 -- A running network goes on as the model does by each step but a round.
-use Rattle.std.proofs.Common.{◌≡◌, ◌≢◌, ℕ, zero, suc, ◌+◌, ◌-◌, ◌<◌, ◌≤◌, ◌==◌, Bool, true, false, List, [], ◌∷◌, ◌++◌, length, map, take, drop, refl, sym, ap, ◌∙◌, subst, arith, Option, Some, None, ◌⊎◌, inl, inr, ⊎_elim, append-nil, append_assoc}
+use Rattle.std.proofs.Common.{◌≡◌, ℕ, zero, suc, ◌+◌, ◌<◌, ◌≤◌, ◌==◌, true, List, [], ◌∷◌, ◌++◌, length, refl, sym, ap, ◌∙◌, subst, arith, Option, Some, None}
 use Rattle.std.specs.Prelude.{slice_get, if◌then◌else◌}
-use Rattle.std.specs.List.{AllZip}
 use Rattle.net_history.specs.Places.{Each}
-use Rattle.std.specs.Option.{option_and_then, option_map}
+use Rattle.std.specs.Option.{option_map}
 use Rattle.aprs_base.specs.declared.events.Event.{Event}
 use Rattle.aprs_base.specs.declared.events.Event.TheVariants as event
-use Rattle.link_queue.specs.Lines.{ended_line}
 use Rattle.aprs_history.specs.Arriving.{bytes_for}
 use Rattle.net_history.specs.declared.events.Pair.{Pair}
-use Rattle.net_history.specs.Network.{End, JoinedSeen, Layout, NetSeen, ServerSeen, address_of, at_server, brought_at, changed_at, far_end, number_of, taken_at, with_arrival}
-use Rattle.net_history.specs.Steps.{ends_at, high_end, joined_at, joined_by, low_end, may_join, may_say, next_place, with_client, with_cut, with_downlink, with_join, with_uplink}
-use Rattle.net_history.proofs.BetweenLemmas.{at_changed, none_some}
+use Rattle.net_history.specs.Network.{End, JoinedSeen, Layout, NetSeen, ServerSeen, address_of, at_server, brought_at, changed_at, number_of, taken_at, with_arrival}
+use Rattle.net_history.specs.Steps.{ends_at, high_end, joined_by, low_end, may_join, may_say, next_place, with_client, with_cut, with_downlink, with_join, with_uplink}
 use Rattle.net_history.proofs.GrowthLemmas.{AllGrow, HasEnd, all_both, one_grows}
 use Rattle.net_history.proofs.PlaceLemmas.{some_same}
 use Rattle.net_history.proofs.StreamLemmas.{arrival_grows, high_has, high_there, join_grows, low_has, low_there, opened_grows, say_grows}
 use Rattle.net_schedule.specs.Joined.{after_cut, after_join, links_at, way_joined}
 use Rattle.net_schedule.specs.Kept.{kept_arrival, kept_client, kept_downlink, kept_uplink}
-use Rattle.net_schedule.specs.Running.{NetKept, ServerKept, WayKept, joined_of, joins_of}
+use Rattle.net_schedule.specs.Running.{NetKept, WayKept, joined_of, joins_of}
 use Rattle.net_schedule.specs.Standing.{Goes, IsNetwork, IsOnItsWay, Keeps, brought_in, taken_in}
 use Rattle.net_schedule.proofs.FactLemmas.{Facts}
-use Rattle.net_schedule.proofs.FlowLemmas.{HasItsEnds, all_places, have_ends, places_all, quiet, same_taken}
+use Rattle.net_schedule.proofs.FlowLemmas.{HasItsEnds, have_ends, quiet, same_taken}
 use Rattle.net_schedule.proofs.KeepLemmas.{arrives, client_kept, downlink_kept, same_links, uplink_kept, zip_at, zip_changed}
 
 none_past : {X : Type 0} (xs : List X) (place : ℕ) → length xs ≤ place → slice_get xs place ≡ None

@@ -1,7 +1,7 @@
 -- A running network tells which steps are there as the model does.
-use Rattle.std.proofs.Common.{◌≡◌, ℕ, zero, suc, ◌+◌, ◌-◌, ◌<◌, ◌≤◌, ◌==◌, ◌&&◌, Bool, true, false, not, List, [], ◌∷◌, ◌++◌, length, map, refl, sym, ap, ◌∙◌, subst, arith, Option, Some, None, ◌⊎◌, inl, inr, ⊎_elim, nat_le, nat_lt}
+use Rattle.std.proofs.Common.{◌≡◌, ℕ, zero, suc, ◌+◌, ◌-◌, ◌<◌, ◌≤◌, ◌==◌, ◌&&◌, Bool, true, false, not, List, [], ◌∷◌, ◌++◌, length, refl, sym, ap, ◌∙◌, subst, arith, Option, Some, None, ◌⊎◌, inl, inr, nat_le, nat_lt}
 use Rattle.std.specs.Prelude.{slice_get, is_some, if◌then◌else◌}
-use Rattle.std.specs.List.{AllZip, list_any}
+use Rattle.std.specs.List.{list_any}
 use Rattle.net_history.specs.Places.{Each}
 use Rattle.std.specs.Option.{option_and_then, option_map}
 use Rattle.std.proofs.lemmas.Bool.{and_parts, eqb-true, leb-false, leb-true}
@@ -19,22 +19,22 @@ use Rattle.net_history.specs.declared.events.NetEvent.{NetEvent}
 use Rattle.net_history.specs.declared.events.NetEvent.TheVariants as net
 use Rattle.net_history.specs.declared.events.Pair.{Pair}
 use Rattle.net_history.specs.declared.events.PeerPair.{PeerPair}
-use Rattle.net_history.specs.Network.{ForClient, ForPair, JoinedSeen, Layout, Made, NetSeen, ServerSeen, trace_at}
+use Rattle.net_history.specs.Network.{ForClient, ForPair, Layout, Made, NetSeen, ServerSeen, trace_at}
 use Rattle.net_history.specs.Openings.{WasOpened, is_heard}
-use Rattle.net_history.specs.Steps.{datagram_at, has_ended, has_room, is_dialled, is_for_client, is_there, joined_at, may_carry, may_cast, may_join, may_open, may_say, peering}
+use Rattle.net_history.specs.Steps.{has_ended, has_room, is_dialled, is_for_client, is_there, joined_at, may_carry, may_cast, may_join, may_open, may_say, peering}
 use Rattle.net_schedule.specs.declared.servers.MadeFor.{MadeFor}
 use Rattle.net_schedule.specs.declared.servers.MadeFor.TheVariants as made_for
-use Rattle.net_schedule.specs.Asked.{HasPeer, HavePeers, kept_datagram, kept_has_room, kept_is_dialled, kept_is_there, kept_may_carry, kept_may_cast, kept_may_join, kept_opens, kept_says, on_way, way_at}
+use Rattle.net_schedule.specs.Asked.{HasPeer, HavePeers, kept_datagram, kept_has_room, kept_is_dialled, kept_is_there, kept_may_carry, kept_may_cast, kept_may_join, kept_opens, kept_says, way_at}
 use Rattle.net_schedule.specs.Kept.{is_heard_by, kept_ended, kept_may_say, kept_speaks}
 use Rattle.net_schedule.specs.Running.{NetKept, ServerKept, WayKept, joined_of, joins_of, setting_in}
-use Rattle.net_schedule.specs.Standing.{Goes, IsMadeFor, IsNetwork, Keeps, WaitsToOpen}
+use Rattle.net_schedule.specs.Standing.{IsMadeFor, IsNetwork, Keeps, WaitsToOpen}
 use Rattle.net_history.proofs.BetweenLemmas.{none_some}
 use Rattle.net_history.proofs.CountLemmas.{not_less}
 use Rattle.net_history.proofs.PlaceLemmas.{some_same}
 use Rattle.net_history.proofs.RunLemmas.{Comes}
 use Rattle.net_schedule.proofs.CarryLemmas.{datagram_kept, kept_flight}
 use Rattle.net_schedule.proofs.FactLemmas.{AtServer, Facts}
-use Rattle.net_schedule.proofs.KeepLemmas.{same_links, zip_at, zip_nowhere, zip_there}
+use Rattle.net_schedule.proofs.KeepLemmas.{same_links, zip_at, zip_nowhere}
 
 -- ---- a client says a line
 

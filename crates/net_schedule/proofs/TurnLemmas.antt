@@ -1,5 +1,5 @@
 -- Within a round of one of its servers a running network goes on as the model does.
-use Rattle.std.proofs.Common.{◌≡◌, ℕ, zero, suc, ◌+◌, ◌<◌, ◌==◌, ◌&&◌, ◌||◌, Bool, true, false, List, [], ◌∷◌, ◌++◌, length, map, take, refl, sym, ap, ◌∙◌, subst, Option, Some, None, ◌⊎◌, ⊎_elim, append_assoc, get_or, OnOk, Result}
+use Rattle.std.proofs.Common.{◌≡◌, ℕ, zero, suc, ◌+◌, ◌<◌, ◌==◌, ◌&&◌, ◌||◌, Bool, true, false, List, [], ◌∷◌, ◌++◌, length, map, take, refl, sym, ap, ◌∙◌, subst, Option, Some, None, ⊎_elim, append_assoc, get_or, OnOk, Result}
 use Rattle.std.specs.Prelude.{slice_get, slice_set, if◌then◌else◌}
 use Rattle.std.specs.List.{AllZip}
 use Rattle.std.specs.Option.{option_map}
@@ -8,9 +8,8 @@ use Rattle.std.proofs.lemmas.List.{map-append, take_more}
 use Rattle.aprs_base.specs.declared.events.Event.{Event}
 use Rattle.aprs_base.specs.declared.events.Event.TheVariants as event
 use Rattle.aprs_base.specs.declared.events.Happening.TheVariants as did
-use Rattle.aprs_base.specs.declared.events.Sent.{Sent}
 use Rattle.aprs_base.specs.declared.events.Sent.TheVariants as sent
-use Rattle.aprs_history.specs.Acts.{Closes, Offers, cast_act, dials, due, offer_to}
+use Rattle.aprs_history.specs.Acts.{Closes, Offers, cast_act, dials, offer_to}
 use Rattle.aprs_history.specs.Dials.{CastSeen}
 use Rattle.aprs_history.specs.Headline.{taken_bytes}
 use Rattle.aprs_history.specs.History.{History, open_events, trace_of}

@@ -1,5 +1,5 @@
 -- What is asked of a running network: whether a step is there.
-use Rattle.std.specs.Prelude.{◌≡◌, ℕ, ◌+◌, ◌-◌, ◌<◌, ◌≤◌, ◌==◌, ◌&&◌, Bool, true, false, nat_le, nat_lt, List, length, Option, Some, None, is_some, slice_get, if◌then◌else◌, IsTrue}
+use Rattle.std.specs.Prelude.{◌≡◌, ℕ, ◌+◌, ◌-◌, ◌<◌, ◌≤◌, ◌==◌, ◌&&◌, Bool, true, false, nat_le, List, length, Option, Some, None, is_some, slice_get, if◌then◌else◌, IsTrue}
 use Rattle.std.specs.List.{list_any}
 use Rattle.net_history.specs.Places.{Each}
 use Rattle.std.specs.Option.{option_and_then}
@@ -9,7 +9,6 @@ use Rattle.aprs_conf.specs.Sound.{IsGroup, IsWithin}
 use Rattle.aprs_history.specs.Setting.{Setting}
 use Rattle.server_core.specs.Meaning.{numbered}
 use Rattle.net_history.specs.declared.events.Pair.{Pair}
-use Rattle.net_history.specs.declared.events.PeerPair.{PeerPair}
 use Rattle.net_history.specs.declared.events.NetEvent.{NetEvent}
 use Rattle.net_history.specs.declared.events.NetEvent.TheVariants as net
 use Rattle.net_history.specs.Network.{Layout}

@@ -1,4 +1,4 @@
-use Rattle.std.proofs.Common.{sym, ap, ◌∙◌, Some}
+use Rattle.std.proofs.Common.{ap, ◌∙◌, Some}
 use Rattle.std.specs.Prelude.{slice_get}
 use Rattle.net_history.specs.Network.{address_of, changed_at}
 use Rattle.net_schedule.specs.Kept.{kept_downlink}

@@ -1,4 +1,4 @@
-use Rattle.std.proofs.Common.{◌≡◌, ◌<◌, ◌≤◌, ◌+◌, sym, ap, ◌∙◌, length, get_or, subst, Some, arith}
+use Rattle.std.proofs.Common.{◌≡◌, ◌<◌, ◌≤◌, ◌+◌, sym, ap, ◌∙◌, length, get_or, subst}
 use Rattle.net_history.specs.Network.{address_of, changed_at}
 use Rattle.net_schedule.specs.Kept.{kept_uplink}
 use Rattle.net_schedule.specs.Running.{ServerKept}

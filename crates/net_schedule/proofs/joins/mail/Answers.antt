@@ -1,4 +1,4 @@
-use Rattle.std.proofs.Common.{◌≡◌, sym, ap, ◌∙◌, ◌<◌, length, get_or, arith}
+use Rattle.std.proofs.Common.{sym, ap, ◌∙◌, ◌<◌, length, get_or}
 use Rattle.net_history.specs.Network.{changed_at}
 use Rattle.net_history.proofs.PlaceLemmas.{all_at}
 use Rattle.net_schedule.specs.Joined.{HasFewListens, after_mail, kept_mail}

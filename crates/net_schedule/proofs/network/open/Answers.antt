@@ -1,4 +1,4 @@
-use Rattle.std.proofs.Common.{◌≡◌, ◌<◌, ◌≤◌, ◌+◌, sym, ap, ◌∙◌, get_or, length, Some, arith, nat_lt, nat_le}
+use Rattle.std.proofs.Common.{◌<◌, sym, ap, ◌∙◌, get_or, length, nat_lt, nat_le}
 use Rattle.std.proofs.lemmas.Bool.{and_parts, leb-true}
 use Rattle.net_history.specs.Network.{address_of, changed_at}
 use Rattle.net_schedule.specs.Asked.{kept_opens}

@@ -1,4 +1,4 @@
-use Rattle.std.proofs.Common.{◌++◌, ◌∷◌, [], sym, ap, ◌∙◌, append_assoc, rules}
+use Rattle.std.proofs.Common.{◌++◌, ◌∷◌, [], ap, ◌∙◌, append_assoc, rules}
 use Rattle.net_schedule.proofs.network.servers_of.Goals as goal
 
 pub loop-conf-preserved : goal.loop-conf-preserved

@@ -1,9 +1,9 @@
-use Rattle.std.proofs.Common.{◌≡◌, sym, ap, ◌∙◌, subst, map, take, ◌+◌, get_or}
+use Rattle.std.proofs.Common.{sym, subst, map, take, get_or}
 use Rattle.aprs_history.specs.Acts.{Closes}
 use Rattle.net_history.specs.Network.{end_beyond}
 use Rattle.net_history.specs.Serving.{with_acts}
 use Rattle.net_schedule.specs.Kept.{kept_told}
-use Rattle.net_schedule.specs.Running.{joins_of, way_parted_at}
+use Rattle.net_schedule.specs.Running.{joins_of}
 use Rattle.net_schedule.specs.Standing.{Turns}
 use Rattle.net_schedule.proofs.ListLemmas.{take_past}
 use Rattle.net_schedule.proofs.TurnLemmas.{close_turns, closes_more}

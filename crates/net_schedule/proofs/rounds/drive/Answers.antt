@@ -4,7 +4,6 @@ use Rattle.aprs_history.specs.Rounds.{with_events}
 use Rattle.aprs_history.specs.History.{trace_of}
 use Rattle.server_core.specs.ActsSeen.{ActsSeen}
 use Rattle.net_schedule.specs.Rounds.{LeftSame, all_acted, with_round_events}
-use Rattle.net_schedule.specs.Running.{ServerKept}
 use Rattle.net_schedule.specs.Standing.{Keeps}
 use Rattle.net_schedule.proofs.DriveLemmas.{casts_keep, dialled_keeps}
 use Rattle.net_schedule.proofs.TurnLemmas.{drives_so, left_first}

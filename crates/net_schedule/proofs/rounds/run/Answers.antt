@@ -1,10 +1,8 @@
-use Rattle.std.proofs.Common.{◌≡◌, ℕ, ◌<◌, ◌++◌, ◌∷◌, [], sym, ap, ◌∙◌, get_or, length, subst, Some, List}
-use Rattle.std.specs.Prelude.{slice_get, slice_set}
+use Rattle.std.proofs.Common.{◌<◌, ◌++◌, ◌∷◌, [], sym, ap, ◌∙◌, get_or, length, subst}
+use Rattle.std.specs.Prelude.{slice_get}
 use Rattle.aprs_base.specs.declared.events.Event.TheVariants as event
-use Rattle.net_history.specs.Network.{End, NetSeen}
 use Rattle.net_history.specs.Serving.{with_round}
 use Rattle.net_schedule.specs.Standing.{Goes}
-use Rattle.net_schedule.specs.Waiting.{Runs, Waits}
 use Rattle.net_schedule.proofs.ListLemmas.{get_some, on_ok}
 use Rattle.net_schedule.proofs.RunLemmas.{begins_ticking, runs_begun, turned_goes}
 use Rattle.net_schedule.proofs.rounds.run.Goals as goal

@@ -1,7 +1,7 @@
-use Rattle.std.proofs.Common.{◌≡◌, ◌<◌, ◌++◌, [], sym, ap, ◌∙◌, length, take, drop, subst, arith}
+use Rattle.std.proofs.Common.{◌++◌, sym, ap, ◌∙◌, take, drop, subst}
 use Rattle.aprs_history.specs.Rounds.{is_whole}
 use Rattle.net_schedule.specs.Standing.{Turns}
-use Rattle.net_schedule.specs.Waiting.{EndsByTick, IsReady, Ready, Runs}
+use Rattle.net_schedule.specs.Waiting.{EndsByTick, IsReady, Runs}
 use Rattle.net_schedule.proofs.RoundLemmas.{first_whole, rest_ticks}
 use Rattle.net_schedule.proofs.RunLemmas.{may_come, none_left_of, runs_end, runs_first, runs_next, take_least, turning_there}
 use Rattle.net_schedule.proofs.rounds.run_parts.Goals as goal

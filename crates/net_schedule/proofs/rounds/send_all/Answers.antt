@@ -1,4 +1,4 @@
-use Rattle.std.proofs.Common.{◌≡◌, ◌∷◌, List, ℕ, ◌+◌, drop, get_or, sym, ap, ◌∙◌, subst, refl}
+use Rattle.std.proofs.Common.{◌+◌, drop, get_or, sym, ap, ◌∙◌, subst}
 use Rattle.aprs_history.specs.Trace.{is_member}
 use Rattle.server_core.proofs.LinkLemmas.{served_numbers}
 use Rattle.server_core.proofs.WholeRoundLemmas.{next_item}

@@ -1,6 +1,5 @@
-use Rattle.std.proofs.Common.{◌≡◌, List, ℕ, drop, length, map}
+use Rattle.std.proofs.Common.{◌≡◌, List, drop, length}
 use Rattle.aprs_base.specs.declared.events.Event.{Event}
-use Rattle.aprs_history.specs.Acts.{offer_to}
 use Rattle.aprs_history.specs.Trace.{Trace}
 use Rattle.server_core.specs.LinkSteps.{numbers}
 use Rattle.net_history.specs.Network.{ServerSeen}

@@ -1,4 +1,4 @@
-use Rattle.std.proofs.Common.{refl, sym, ap, ◌∙◌, subst, take}
+use Rattle.std.proofs.Common.{refl, sym, ap, ◌∙◌, subst}
 use Rattle.server_core.specs.LinkSteps.{pending_at}
 use Rattle.net_schedule.specs.Running.{ServerKept, all_with_taken}
 use Rattle.net_schedule.specs.Standing.{Keeps}

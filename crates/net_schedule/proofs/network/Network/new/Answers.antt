@@ -1,5 +1,4 @@
 use Rattle.std.proofs.Common.{sym, ap, ◌∙◌, subst, [], false, map}
-use Rattle.net_history.specs.Network.{Layout}
 use Rattle.net_schedule.specs.Asked.{HavePeers}
 use Rattle.net_schedule.specs.Joined.{no_way}
 use Rattle.net_schedule.proofs.StandLemmas.{layout_is, new_few, new_stands}

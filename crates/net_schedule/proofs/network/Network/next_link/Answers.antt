@@ -1,9 +1,9 @@
-use Rattle.std.proofs.Common.{◌≡◌, ◌+◌, ◌≤◌, sym, ap, ◌∙◌, subst, refl, List, Option, Some, None, []}
+use Rattle.std.proofs.Common.{◌≡◌, ◌≤◌, sym, ap, ◌∙◌, subst, refl, List, Option, Some, None, []}
 use Rattle.std.specs.Prelude.{slice_get, IfSome}
 use Rattle.net_history.specs.declared.events.NetEvent.{NetEvent}
 use Rattle.net_history.specs.Network.{ServerSeen}
 use Rattle.net_history.specs.Steps.{network_of, next_link}
-use Rattle.net_schedule.specs.Running.{NetKept, ServerKept, layout_of}
+use Rattle.net_schedule.specs.Running.{NetKept, layout_of}
 use Rattle.net_schedule.specs.Standing.{Keeps, StandsFor}
 use Rattle.net_schedule.proofs.KeepLemmas.{next_same, zip_at}
 use Rattle.net_schedule.proofs.network.Network.next_link.Goals as goal

@@ -1,5 +1,4 @@
-use Rattle.std.proofs.Common.{◌≡◌, ◌∷◌, Bool, true, false, refl, sym, ap, ◌∙◌, subst, List}
-use Rattle.net_history.specs.declared.events.NetEvent.{NetEvent}
+use Rattle.std.proofs.Common.{◌≡◌, true, false, refl, sym, ap, ◌∙◌, subst}
 use Rattle.net_history.specs.Steps.{is_there, network_of, with_step}
 use Rattle.net_schedule.specs.Asked.{kept_is_there}
 use Rattle.net_schedule.specs.Networks.{IsSound}
