@@ -4,6 +4,7 @@ mod NumberLemmas
 mod PeerLemmas
 mod PushLemmas
 mod Rows
+pub mod ServedLemmas
 mod SoundLemmas
 mod WordLemmas
 mod WritableDrafts

@@ -7,9 +7,10 @@ use Rattle.aprs_conf.specs.declared.errors.ConfFault.TheVariants as fault
 use Rattle.aprs_conf.specs.declared.errors.ConfWord.TheVariants as needed
 use Rattle.aprs_conf.specs.declared.types.Listen.{Listen}
 use Rattle.aprs_conf.specs.Seen.{ConfSeen}
+use Rattle.aprs_conf.specs.Served.{served_conf, upload_number}
 use Rattle.aprs_conf.specs.Words.{words_of}
 use Rattle.aprs_conf.specs.Arguments.{time_of, window_of, ip_of, code_of, port_of}
-use Rattle.aprs_conf.specs.Grammar.{after, conf_of, group_says, listen_says, uplink_says}
+use Rattle.aprs_conf.specs.Grammar.{after, conf_of, group_says, listen_says, uplink_says, upload_says}
 
 listen : List ℕ → PortKind → List ℕ → ℕ → Bool → Listen
 listen name kind ip port idle = record { name = name; spec = record { kind = kind; at = record { ip = ip; port = port } }; idle = idle }
@@ -22,6 +23,7 @@ plain listens = record {
   admin = [];
   email = [];
   listens = listens;
+  upload = None;
   uplinks = [];
   group = None;
   peers = [];
@@ -175,6 +177,55 @@ ninth_uplink : conf_of (codes "Uplink u full tcp h 1" ++ (10 ∷ [] ++ (codes "U
 unfolding listen plain conf_of after group_says listen_says uplink_says
 ninth_uplink = refl
 
+-- submissions by HTTP: one listener more
+upload : conf_of (codes "ServerId T2TEST" ++ (10 ∷ codes "PassCode 8385" ++ (10 ∷ codes "httpupload :: 8081" ++ (10 ∷ codes "Listen a fullfeed tcp 1.2.3.4 1")))) ≡ Ok (record (plain (listen (codes "a") kind.Full (1 ∷ 2 ∷ 3 ∷ 4 ∷ []) 1 false ∷ [])) { upload = Some (record { ip = 0 ∷ 0 ∷ 0 ∷ 0 ∷ []; port = 8081 }) })
+unfolding listen plain conf_of after group_says listen_says uplink_says upload_says
+upload = refl
+
+upload_twice : conf_of (codes "HTTPUpload :: 8081" ++ (10 ∷ codes "HTTPUpload")) ≡ Err (cause.Line 2 fault.Repeated)
+unfolding listen plain conf_of after group_says listen_says uplink_says upload_says
+upload_twice = refl
+
+upload_at_port_alone : conf_of (codes "HTTPUpload 8081") ≡ Err (cause.Line 1 fault.BadCount)
+unfolding listen plain conf_of after group_says listen_says uplink_says upload_says
+upload_at_port_alone = refl
+
+upload_by_three : conf_of (codes "HTTPUpload :: 8081 hidden") ≡ Err (cause.Line 1 fault.BadCount)
+unfolding listen plain conf_of after group_says listen_says uplink_says upload_says
+upload_by_three = refl
+
+upload_by_name : conf_of (codes "HTTPUpload localhost 0") ≡ Err (cause.Line 1 fault.BadAddr)
+unfolding listen plain conf_of after group_says listen_says uplink_says upload_says
+upload_by_name = refl
+
+upload_at_zero : conf_of (codes "HTTPUpload :: 0") ≡ Err (cause.Line 1 fault.BadNumber)
+unfolding listen plain conf_of after group_says listen_says uplink_says upload_says
+upload_at_zero = refl
+
+-- of 17 listeners the last is too many, whichever it is
+upload_last : conf_of (codes "Listen a fullfeed tcp :: 1" ++ (10 ∷ codes "Listen a fullfeed tcp :: 1" ++ (10 ∷ codes "Listen a fullfeed tcp :: 1" ++ (10 ∷ codes "Listen a fullfeed tcp :: 1" ++ (10 ∷ codes "Listen a fullfeed tcp :: 1" ++ (10 ∷ codes "Listen a fullfeed tcp :: 1" ++ (10 ∷ codes "Listen a fullfeed tcp :: 1" ++ (10 ∷ codes "Listen a fullfeed tcp :: 1" ++ (10 ∷ codes "Listen a fullfeed tcp :: 1" ++ (10 ∷ codes "Listen a fullfeed tcp :: 1" ++ (10 ∷ codes "Listen a fullfeed tcp :: 1" ++ (10 ∷ codes "Listen a fullfeed tcp :: 1" ++ (10 ∷ codes "Listen a fullfeed tcp :: 1" ++ (10 ∷ codes "Listen a fullfeed tcp :: 1" ++ (10 ∷ codes "Listen a fullfeed tcp :: 1" ++ (10 ∷ codes "Listen a fullfeed tcp :: 1" ++ (10 ∷ codes "HTTPUpload :: 8081"))))))))))))))))) ≡ Err (cause.Line 17 fault.TooMany)
+unfolding listen plain conf_of after group_says listen_says uplink_says upload_says
+upload_last = refl
+
+upload_first : conf_of (codes "HTTPUpload :: 8081" ++ (10 ∷ codes "Listen a fullfeed tcp :: 1" ++ (10 ∷ codes "Listen a fullfeed tcp :: 1" ++ (10 ∷ codes "Listen a fullfeed tcp :: 1" ++ (10 ∷ codes "Listen a fullfeed tcp :: 1" ++ (10 ∷ codes "Listen a fullfeed tcp :: 1" ++ (10 ∷ codes "Listen a fullfeed tcp :: 1" ++ (10 ∷ codes "Listen a fullfeed tcp :: 1" ++ (10 ∷ codes "Listen a fullfeed tcp :: 1" ++ (10 ∷ codes "Listen a fullfeed tcp :: 1" ++ (10 ∷ codes "Listen a fullfeed tcp :: 1" ++ (10 ∷ codes "Listen a fullfeed tcp :: 1" ++ (10 ∷ codes "Listen a fullfeed tcp :: 1" ++ (10 ∷ codes "Listen a fullfeed tcp :: 1" ++ (10 ∷ codes "Listen a fullfeed tcp :: 1" ++ (10 ∷ codes "Listen a fullfeed tcp :: 1" ++ (10 ∷ codes "Listen a fullfeed tcp :: 1"))))))))))))))))) ≡ Err (cause.Line 17 fault.TooMany)
+unfolding listen plain conf_of after group_says listen_says uplink_says upload_says
+upload_first = refl
+
+-- it alone isn't enough
+upload_alone : conf_of (codes "ServerId T2TEST" ++ (10 ∷ codes "PassCode 8385" ++ (10 ∷ codes "HTTPUpload :: 8081"))) ≡ Err (cause.Missing needed.Listen)
+unfolding listen plain conf_of after group_says listen_says uplink_says upload_says
+upload_alone = refl
+
+-- which number it has, and what is served: an idle listener has none
+upload_behind : upload_number (record (plain (listen (codes "a") kind.Igate (0 ∷ 0 ∷ 0 ∷ 0 ∷ []) 1 true ∷ listen (codes "b") kind.Full (0 ∷ 0 ∷ 0 ∷ 0 ∷ []) 2 false ∷ [])) { upload = Some (record { ip = 1 ∷ 2 ∷ 3 ∷ 4 ∷ []; port = 8081 }) }) ≡ Some 1
+unfolding listen plain
+upload_behind = refl
+
+served : served_conf (record (plain (listen (codes "a") kind.Igate (0 ∷ 0 ∷ 0 ∷ 0 ∷ []) 1 true ∷ [])) { upload = Some (record { ip = 1 ∷ 2 ∷ 3 ∷ 4 ∷ []; port = 8081 }) })
+    ≡ plain (listen (codes "a") kind.Igate (0 ∷ 0 ∷ 0 ∷ 0 ∷ []) 1 true ∷ listen (codes "http") kind.Submit (1 ∷ 2 ∷ 3 ∷ 4 ∷ []) 8081 false ∷ [])
+unfolding listen plain
+served = refl
+
 no_peers : conf_of (codes "PeerGroup g udp :: 1" ++ (10 ∷ [])) ≡ Err (cause.Line 1 fault.BadCount)
 unfolding listen plain conf_of after group_says listen_says uplink_says
 no_peers = refl
@@ -194,6 +245,7 @@ whole : conf_of (codes "ServerId T2TEST" ++ (10 ∷ codes "PASSCODE 08385" ++ (1
   admin = codes "A B";
   email = codes "a@b";
   listens = listen (codes "a") kind.Only (0 ∷ 0 ∷ 0 ∷ 0 ∷ []) 1 true ∷ [];
+  upload = None;
   uplinks = record { host = codes "h.example"; port = 10152 } ∷ [];
   group = Some (record { ip = 10 ∷ 0 ∷ 0 ∷ 1 ∷ []; port = 16404 });
   peers = record { call = codes "T2A"; at = record { ip = 10 ∷ 0 ∷ 0 ∷ 2 ∷ []; port = 16404 } } ∷ record { call = codes "T2B"; at = record { ip = 10 ∷ 0 ∷ 0 ∷ 3 ∷ []; port = 16405 } } ∷ [];

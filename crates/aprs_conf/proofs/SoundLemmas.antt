@@ -12,7 +12,7 @@ use Rattle.aprs_base.specs.ResultSteps.{◌>>=◌}
 use Rattle.aprs_conf.specs.Seen.{ConfSeen, DraftSeen}
 use Rattle.aprs_conf.specs.Sound.{IsGroup, IsSound}
 use Rattle.aprs_conf.specs.Words.{lines_of}
-use Rattle.aprs_conf.proofs.WritableDrafts.{WritableCall, WritableConf, WritableGroup, WritablePeer, conf_writable}
+use Rattle.aprs_conf.proofs.WritableDrafts.{WritableCall, WritableConf, WritableGroup, WritablePeer, conf_writable, count_all}
 
 is_named : (call : List ℕ) → WritableCall call → IsTrue (is_station call)
 is_named call is = (cond_some (is_station call) call call is.station).0
@@ -28,7 +28,8 @@ group_sound (Some at) peers is = record { few = is.few; stations = peers_named p
 sound : (conf : ConfSeen) → WritableConf conf → IsSound conf
 sound conf is = record {
   server = is_named conf.server is.server;
-  listens = (is.some_listens, is.few_listens);
+  listens = (is.some_listens, (let few = is.few_listens in omega (arith, count_all conf.listens conf.upload)));
+  upload = is.few_listens;
   uplinks = is.few_uplinks;
   peers = group_sound conf.group conf.peers is.group;
   up_timeout = is.up_timeout;

@@ -18,9 +18,10 @@ use Rattle.aprs_conf.specs.declared.reading.LineWord.TheVariants as word
 use Rattle.aprs_conf.specs.declared.types.Listen.{Listen}
 use Rattle.aprs_conf.specs.declared.types.PeerSpec.{PeerSpec}
 use Rattle.aprs_conf.specs.Arguments.{PortRow, clients_of, code_of, host_of, ip_of, kind_of, port_of, ports, same, station_of, time_of, udp, window_of}
-use Rattle.aprs_conf.specs.Grammar.{after, at_line, at_of, conf_of, conf_with, drafted, empty, filled, five_of, group_in, group_says, is_full, is_group, is_hidden_at_most, line_says, listen_in, listen_of, listen_says, need, next, one_of, peer_of, peers_from, says, time_in_line, unless, uplink_in, uplink_says, was_said, with_listen, with_uplink, word_of}
+use Rattle.aprs_conf.specs.Grammar.{after, at_line, at_of, conf_of, conf_with, drafted, empty, filled, five_of, group_in, group_says, is_full, is_full_feed, is_group, is_hidden_at_most, line_says, listen_in, listen_of, listen_says, need, next, one_of, peer_of, peers_from, says, time_in_line, two_of, unless, uplink_in, uplink_says, upload_in, upload_says, was_said, with_listen, with_uplink, with_upload, word_of}
 use Rattle.aprs_base.specs.ResultSteps.{◌>>=◌}
 use Rattle.aprs_conf.specs.Seen.{ConfSeen, DraftSeen}
+use Rattle.aprs_conf.specs.Served.{all_listens, http_listens}
 use Rattle.aprs_conf.specs.Sound.{IsWithin}
 use Rattle.aprs_conf.specs.Words.{closed, has_open, is_remark, lines_of, words_of}
 use Rattle.aprs_conf.specs.Writing.{kind_name, proto_name}
@@ -43,6 +44,10 @@ wanted P Q e o f is more = then_ok P Q (need e o) f (need_ok P e o is) more
 
 unless_ok : {A : Type 0} (P : A → Type 0) (bad : Bool) (e : ConfFault) (r : Result A ConfFault) → (bad ≡ false → IfOk r P) → IfOk (unless bad e r) P
 unless_ok P bad e r is = cond_both bad (Err e) r (λ s. IfOk s P) (λ _. tt) is
+
+anything : {A : Type 0} (o : Option A) → IfSome o (λ _. Unit {0})
+anything None = tt
+anything (Some x) = tt
 
 -- ---- what holds of each part
 
@@ -104,7 +109,8 @@ pub record WritableDraft (draft : DraftSeen) : Type 0 where
   pub admin : IfSome draft.admin IsWord
   pub email : IfSome draft.email IsWord
   pub listens : Each WritableListen draft.listens
-  pub few_listens : length draft.listens ≤ 16
+  pub upload : IfSome draft.upload WritableAt
+  pub few_listens : length (all_listens draft.listens draft.upload) ≤ 16
   pub uplinks : Each WritableUplink draft.uplinks
   pub few_uplinks : length draft.uplinks ≤ 8
   pub group : WritableGroup draft.group draft.peers
@@ -120,7 +126,8 @@ pub record WritableConf (conf : ConfSeen) : Type 0 where
   pub email : IsWord conf.email
   pub some_listens : 1 ≤ length conf.listens
   pub listens : Each WritableListen conf.listens
-  pub few_listens : length conf.listens ≤ 16
+  pub upload : IfSome conf.upload WritableAt
+  pub few_listens : length (all_listens conf.listens conf.upload) ≤ 16
   pub uplinks : Each WritableUplink conf.uplinks
   pub few_uplinks : length conf.uplinks ≤ 8
   pub group : WritableGroup conf.group conf.peers
@@ -152,6 +159,9 @@ at_writable address port =
 
 -- ---- listeners
 
+pub count_all : (listens : List Listen) (upload : Option Addr) → length (all_listens listens upload) ≡ length listens + length (http_listens upload)
+count_all listens upload = length-append listens (http_listens upload)
+
 -- each row of the table of kinds is a writable service
 found : {A : Type 0} (P : A → Type 0) (test : A → Bool) (xs : List A) → Each P xs → IfSome (find test xs) P
 found P test [] all = tt
@@ -182,10 +192,22 @@ listen_in_writable args words =
 
 listen_writable : (draft : DraftSeen) (listen : Listen) → WritableDraft draft → WritableListen listen → IfOk (with_listen draft listen) WritableDraft
 listen_writable draft listen s is =
-    unless_ok WritableDraft (nat_le 16 (length draft.listens)) fault.TooMany _ (λ room.
-    let less = leb-false 16 (length draft.listens) room in
-    let few : length (draft.listens ++ listen ∷ []) ≤ 16 = omega (arith, length-append draft.listens (listen ∷ [])) in
+    unless_ok WritableDraft (is_full draft) fault.TooMany _ (λ room.
+    let less = leb-false 16 (length (all_listens draft.listens draft.upload)) room in
+    let few : length (all_listens (draft.listens ++ listen ∷ []) draft.upload) ≤ 16 = omega (arith, count_all draft.listens draft.upload, count_all (draft.listens ++ listen ∷ []) draft.upload, length-append draft.listens (listen ∷ [])) in
     let more = each_more WritableListen draft.listens listen s.listens is in
+    assumption)
+
+-- ---- submissions by HTTP
+
+upload_in_writable : (args : List (List ℕ)) → IfOk (upload_in args) WritableAt
+upload_in_writable args = wanted (λ _. Unit {0}) _ fault.BadCount (two_of args) _ (anything (two_of args)) (λ two _. at_writable two.0 two.1)
+
+upload_writable : (draft : DraftSeen) (at : Addr) → WritableDraft draft → WritableAt at → IfOk (with_upload draft at) WritableDraft
+upload_writable draft at s is =
+    unless_ok WritableDraft (is_full draft) fault.TooMany _ (λ room.
+    let less = leb-false 16 (length (all_listens draft.listens draft.upload)) room in
+    let few : length (all_listens draft.listens (Some at)) ≤ 16 = omega (arith, count_all draft.listens draft.upload, count_all draft.listens (Some at)) in
     assumption)
 
 -- ---- uplinks
@@ -200,7 +222,7 @@ host_writable text word = some_where (λ host. (host_of host ≡ Some host) × I
 uplink_in_writable : (args : List (List ℕ)) → Each IsWord args → IfOk (uplink_in args) WritableUplink
 uplink_in_writable args words =
     wanted (λ five. IsWord five.3) _ fault.BadCount (five_of args) _ (five_words args words) (λ five word.
-    unless_ok WritableUplink (not (is_full five.1 five.2)) fault.BadKind _ (λ _.
+    unless_ok WritableUplink (not (is_full_feed five.1 five.2)) fault.BadKind _ (λ _.
     wanted _ _ fault.BadHost (host_of five.3) _ (host_writable five.3 word) (λ host own.
     wanted (IsWithin 1 65535) _ fault.BadNumber (port_of five.4) _ (within 1 65535 five.4) (λ port fits. record { host = own.0; word = own.1; port = fits }))))
 
@@ -260,7 +282,7 @@ group_writable draft args s words =
 -- ---- lines
 
 says_writable : (w : LineWord) (draft : DraftSeen) (args : List (List ℕ)) → WritableDraft draft → Each IsWord args → IfOk (says w draft args) WritableDraft
-unfolding group_says listen_says uplink_says
+unfolding group_says listen_says uplink_says upload_says
 says_writable word.ServerId draft args s words =
     wanted IsWord _ fault.BadCount (one_of args) _ (one_word args words) (λ text own. wanted WritableCall _ fault.BadCall (station_of text) _ (station_writable text own) (λ call is. assumption))
 says_writable word.PassCode draft args s words =
@@ -268,6 +290,7 @@ says_writable word.PassCode draft args s words =
 says_writable word.MyAdmin draft args s words = wanted IsWord _ fault.BadCount (one_of args) _ (one_word args words) (λ text is. assumption)
 says_writable word.MyEmail draft args s words = wanted IsWord _ fault.BadCount (one_of args) _ (one_word args words) (λ text is. assumption)
 says_writable word.Listen draft args s words = then_ok WritableListen _ (listen_in args) _ (listen_in_writable args words) (λ listen. listen_writable draft listen s)
+says_writable word.HttpUpload draft args s words = then_ok WritableAt _ (upload_in args) _ (upload_in_writable args) (λ at. upload_writable draft at s)
 says_writable word.Uplink draft args s words = then_ok WritableUplink _ (uplink_in args) _ (uplink_in_writable args words) (λ uplink. uplink_writable draft uplink s)
 says_writable word.PeerGroup draft args s words = group_writable draft args s words
 says_writable word.UpstreamTimeout draft args s words = then_ok (IsWithin 1 10000000) _ (time_in_line args) _ (time_writable args words) (λ time is. assumption)
@@ -281,11 +304,7 @@ says_writable word.Unused draft args s words = unless_ok WritableDraft (length a
 line_writable : (draft : DraftSeen) (words : List (List ℕ)) → WritableDraft draft → Each IsWord words → IfOk (line_says draft words) WritableDraft
 line_writable draft [] s words = s
 line_writable draft (name ∷ args) s words =
-    wanted (λ _. Unit {0}) _ fault.UnknownWord (word_of name) _ (any (word_of name)) (λ w _. unless_ok WritableDraft (was_said w draft) fault.Repeated _ (λ _. says_writable w draft args s words.1))
-  where
-    any : (o : Option LineWord) → IfSome o (λ _. Unit {0})
-    any None = tt
-    any (Some w) = tt
+    wanted (λ _. Unit {0}) _ fault.UnknownWord (word_of name) _ (anything (word_of name)) (λ w _. unless_ok WritableDraft (was_said w draft) fault.Repeated _ (λ _. says_writable w draft args s words.1))
 
 after_writable : (draft : DraftSeen) (line : List ℕ) → WritableDraft draft → is_feedless line ≡ true → IfOk (after draft line) WritableDraft
 unfolding after
@@ -313,6 +332,7 @@ empty_writable = record {
   admin = tt;
   email = tt;
   listens = tt;
+  upload = tt;
   few_listens = omega arith;
   uplinks = tt;
   few_uplinks = omega arith;
@@ -336,6 +356,7 @@ conf_with_writable draft s =
       email = or_default IsWord draft.email [] s.email refl;
       some_listens = omega arith;
       listens = s.listens;
+      upload = s.upload;
       few_listens = s.few_listens;
       uplinks = s.uplinks;
       few_uplinks = s.few_uplinks;

@@ -1,5 +1,5 @@
 -- The text that is written of a configuration reads as it.
-use Rattle.std.proofs.Common.{◌≡◌, ℕ, ◌+◌, ◌*◌, ◌%◌, ◌<◌, ◌≤◌, ◌==◌, true, false, cond, List, [], ◌∷◌, ◌++◌, Option, Some, None, Result, Ok, Err, map, length, refl, sym, ap, ◌∙◌, arith, append_assoc, append-nil}
+use Rattle.std.proofs.Common.{◌≡◌, ℕ, ◌+◌, ◌*◌, ◌%◌, ◌<◌, ◌≤◌, ◌==◌, true, false, cond, List, [], ◌∷◌, ◌++◌, Option, Some, None, Result, Ok, Err, IfSome, map, length, refl, sym, ap, ◌∙◌, arith, append_assoc, append-nil}
 use Rattle.std.specs.Prelude.{codes, is_some}
 use Rattle.std.specs.List.{AllByRecursion as Each, flat_map, list_all}
 use Rattle.std.specs.Fmt.{decimal}
@@ -14,13 +14,14 @@ use Rattle.aprs_conf.specs.declared.errors.ConfFault.TheVariants as fault
 use Rattle.aprs_conf.specs.declared.types.Listen.{Listen}
 use Rattle.aprs_conf.specs.declared.types.PeerSpec.{PeerSpec}
 use Rattle.aprs_conf.specs.Arguments.{port_of, tcp, udp}
-use Rattle.aprs_conf.specs.Grammar.{after, at_line, at_of, conf_of, conf_with, drafted, empty, group_says, is_group, line_says, listen_in, listen_says, next, peer_of, peers_from, unless, uplink_in, uplink_says, with_listen, with_uplink, words_say}
+use Rattle.aprs_conf.specs.Grammar.{after, at_line, at_of, conf_of, conf_with, drafted, empty, group_says, is_group, line_says, listen_in, listen_says, next, peer_of, peers_from, unless, uplink_in, uplink_says, upload_says, with_listen, with_uplink, words_say}
 use Rattle.aprs_base.specs.ResultSteps.{◌>>=◌}
 use Rattle.aprs_conf.specs.Seen.{ConfSeen, DraftSeen}
+use Rattle.aprs_conf.specs.Served.{all_listens}
 use Rattle.aprs_conf.specs.Words.{closed, has_open, lines_of}
-use Rattle.aprs_conf.specs.Writing.{at_words, conf_lines, group_line, group_lines, identity_lines, ip_text, kind_name, limit_lines, line_text, listen_line, peer_words, proto_name, text_of_conf, uplink_line, word_text}
+use Rattle.aprs_conf.specs.Writing.{at_words, conf_lines, group_line, group_lines, identity_lines, ip_text, kind_name, limit_lines, line_text, list_lines, listen_line, peer_words, proto_name, text_of_conf, uplink_line, upload_lines, word_text}
 use Rattle.aprs_conf.specs.Sound.{IsWithin}
-use Rattle.aprs_conf.proofs.WritableDrafts.{WritableAt, WritableConf, WritableGroup, WritableListen, WritablePeer, WritablePeers, WritableUplink, conf_writable}
+use Rattle.aprs_conf.proofs.WritableDrafts.{WritableAt, WritableConf, WritableGroup, WritableListen, WritablePeer, WritablePeers, WritableUplink, conf_writable, count_all}
 use Rattle.aprs_conf.proofs.WrittenLines.{line_read}
 use Rattle.aprs_conf.proofs.WrittenNumbers.{code_again, decimal_word, ip_again, ip_word, number_again, time_again, window_again}
 use Rattle.aprs_conf.proofs.WrittenWords.{all_closed, is_word, none_open, words_read}
@@ -96,20 +97,33 @@ listen_again listen is = rw (is.service.again, at_again listen.spec.at is.at) re
 listen_is_line : (listen : Listen) → WritableListen listen → IsLine (listen_line listen)
 listen_is_line listen is = (refl, rw (is.name, is.service.kind, is.service.proto, ip_word listen.spec.at.ip is.at.ip, port_word listen.spec.at.port is.at.port) refl)
 
-one_listen_says : (draft : DraftSeen) (listen : Listen) → WritableListen listen → length draft.listens < 16 → line_says draft (listen_line listen) ≡ Ok (record draft { listens = draft.listens ++ listen ∷ [] })
-unfolding listen_says group_says uplink_says
+one_listen_says : (draft : DraftSeen) (listen : Listen) → WritableListen listen → length (all_listens draft.listens draft.upload) < 16 → line_says draft (listen_line listen) ≡ Ok (record draft { listens = draft.listens ++ listen ∷ [] })
+unfolding listen_says group_says uplink_says upload_says
 one_listen_says draft listen is room =
     ap (λ (r : Result Listen ConfFault). r >>= with_listen draft) (listen_again listen is)
-    ∙ ap (λ full. unless full fault.TooMany (Ok (record draft { listens = draft.listens ++ listen ∷ [] }))) (lt-leb 16 (length draft.listens) room)
+    ∙ ap (λ full. unless full fault.TooMany (Ok (record draft { listens = draft.listens ++ listen ∷ [] }))) (lt-leb 16 (length (all_listens draft.listens draft.upload)) room)
 
-listens_say : (draft : DraftSeen) (listens : List Listen) → Each WritableListen listens → length draft.listens + length listens ≤ 16 → all_say draft (map listen_line listens) ≡ Ok (record draft { listens = draft.listens ++ listens })
+listens_say : (draft : DraftSeen) (listens : List Listen) → Each WritableListen listens → length (all_listens draft.listens draft.upload) + length listens ≤ 16 → all_say draft (map listen_line listens) ≡ Ok (record draft { listens = draft.listens ++ listens })
 listens_say draft [] each few = ap (λ ls. Ok (record draft { listens = ls })) (sym (append-nil draft.listens))
 listens_say draft (listen ∷ listens) each few =
     let more : DraftSeen = record draft { listens = draft.listens ++ listen ∷ [] } in
-    let room : length more.listens + length listens ≤ 16 = omega (arith, length-append draft.listens (listen ∷ [])) in
+    let room : length (all_listens more.listens draft.upload) + length listens ≤ 16 = omega (arith, count_all draft.listens draft.upload, count_all more.listens draft.upload, length-append draft.listens (listen ∷ [])) in
     ap (λ (r : Result DraftSeen ConfFault). r >>= λ d. all_say d (map listen_line listens)) (one_listen_says draft listen each.0 (omega arith))
     ∙ listens_say more listens each.1 room
     ∙ ap (λ ls. Ok (record draft { listens = ls })) (append_assoc draft.listens (listen ∷ []) listens)
+
+-- ---- submissions by HTTP
+
+uploads_say : (draft : DraftSeen) (upload : Option Addr) → IfSome upload WritableAt → draft.upload ≡ None → length (all_listens draft.listens upload) ≤ 16 → all_say draft (upload_lines upload) ≡ Ok (record draft { upload = upload })
+unfolding listen_says group_says uplink_says upload_says
+uploads_say draft None is none few = ap (λ u. Ok (record draft { upload = u })) none
+uploads_say draft (Some at) is none few =
+    let room : length (all_listens draft.listens None) < 16 = omega (arith, count_all draft.listens None, count_all draft.listens (Some at)) in
+    rw (none, at_again at is, lt-leb 16 (length (all_listens draft.listens None)) room) refl
+
+uploads_are_lines : (upload : Option Addr) → IfSome upload WritableAt → Each IsLine (upload_lines upload)
+uploads_are_lines None is = tt
+uploads_are_lines (Some at) is = ((refl, rw (ip_word at.ip is.ip, port_word at.port is.port) refl), tt)
 
 -- ---- uplinks
 
@@ -120,7 +134,7 @@ uplink_is_line : (uplink : UplinkSeen) → WritableUplink uplink → IsLine (upl
 uplink_is_line uplink is = (refl, rw (is.word, port_word uplink.port is.port) refl)
 
 one_uplink_says : (draft : DraftSeen) (uplink : UplinkSeen) → WritableUplink uplink → length draft.uplinks < 8 → line_says draft (uplink_line uplink) ≡ Ok (record draft { uplinks = draft.uplinks ++ uplink ∷ [] })
-unfolding uplink_says group_says listen_says
+unfolding uplink_says group_says listen_says upload_says
 one_uplink_says draft uplink is room =
     ap (λ (r : Result UplinkSeen ConfFault). r >>= with_uplink draft) (uplink_again uplink is)
     ∙ ap (λ full. unless full fault.TooMany (Ok (record draft { uplinks = draft.uplinks ++ uplink ∷ [] }))) (lt-leb 8 (length draft.uplinks) room)
@@ -200,11 +214,12 @@ each_map : {A B : Type 0} (P : A → Type 0) (Q : B → Type 0) (f : A → B) �
 each_map P Q f each [] all = tt
 each_map P Q f each (x ∷ xs) all = (each x all.0, each_map P Q f each xs all.1)
 
-lists_are_lines : (conf : ConfSeen) → WritableConf conf → Each IsLine (map listen_line conf.listens ++ (map uplink_line conf.uplinks ++ group_lines conf.group conf.peers))
+lists_are_lines : (conf : ConfSeen) → WritableConf conf → Each IsLine (list_lines conf)
 lists_are_lines conf is =
     each_append IsLine (map listen_line conf.listens) _ (each_map WritableListen IsLine listen_line listen_is_line conf.listens is.listens)
+    (each_append IsLine (upload_lines conf.upload) _ (uploads_are_lines conf.upload is.upload)
     (each_append IsLine (map uplink_line conf.uplinks) _ (each_map WritableUplink IsLine uplink_line uplink_is_line conf.uplinks is.uplinks)
-    (groups_are_lines conf.group conf.peers is.group))
+    (groups_are_lines conf.group conf.peers is.group)))
 
 conf_are_lines : (conf : ConfSeen) → WritableConf conf → Each IsLine (conf_lines conf)
 conf_are_lines conf is =
@@ -240,7 +255,7 @@ first_draft conf = record empty {
 }
 
 abbrev whole_draft : ConfSeen → DraftSeen
-whole_draft conf = record (first_draft conf) { listens = conf.listens; uplinks = conf.uplinks; group = conf.group; peers = conf.peers }
+whole_draft conf = record (first_draft conf) { listens = conf.listens; upload = conf.upload; uplinks = conf.uplinks; group = conf.group; peers = conf.peers }
 
 first_say : (conf : ConfSeen) (lines : List (List (List ℕ))) → WritableConf conf → all_say empty (identity_lines conf ++ (limit_lines conf ++ lines)) ≡ all_say (first_draft conf) lines
 first_say conf lines is =
@@ -258,13 +273,16 @@ conf_says conf is =
     let group : List (List (List ℕ)) = group_lines conf.group conf.peers in
     let first : DraftSeen = first_draft conf in
     let second : DraftSeen = record first { listens = conf.listens } in
-    let third : DraftSeen = record second { uplinks = conf.uplinks } in
-    let room : 0 + length conf.listens ≤ 16 = (let few = is.few_listens in omega arith) in
+    let third : DraftSeen = record second { upload = conf.upload } in
+    let fourth : DraftSeen = record third { uplinks = conf.uplinks } in
+    let uploads : List (List (List ℕ)) = upload_lines conf.upload in
+    let room : 0 + length conf.listens ≤ 16 = (let few = is.few_listens in omega (arith, count_all conf.listens conf.upload)) in
     let space : 0 + length conf.uplinks ≤ 8 = (let few = is.few_uplinks in omega arith) in
-    first_say conf (map listen_line conf.listens ++ (map uplink_line conf.uplinks ++ group)) is
-    ∙ all_say-append first second (map listen_line conf.listens) (map uplink_line conf.uplinks ++ group) (listens_say first conf.listens is.listens room)
-    ∙ all_say-append second third (map uplink_line conf.uplinks) group (uplinks_say second conf.uplinks is.uplinks space)
-    ∙ groups_say third conf.group conf.peers is.group refl refl
+    first_say conf (list_lines conf) is
+    ∙ all_say-append first second (map listen_line conf.listens) (uploads ++ (map uplink_line conf.uplinks ++ group)) (listens_say first conf.listens is.listens room)
+    ∙ all_say-append second third uploads (map uplink_line conf.uplinks ++ group) (uploads_say second conf.upload is.upload refl is.few_listens)
+    ∙ all_say-append third fourth (map uplink_line conf.uplinks) group (uplinks_say third conf.uplinks is.uplinks space)
+    ∙ groups_say fourth conf.group conf.peers is.group refl refl
 
 made_of : (conf : ConfSeen) → 1 ≤ length conf.listens → conf_with (whole_draft conf) ≡ Ok conf
 made_of conf some = rw (ne_eqb (length conf.listens) 0 (λ e. omega arith)) refl

@@ -17,6 +17,7 @@ use Rattle.aprs_conf.specs.declared.types.Listen.{Listen}
 use Rattle.aprs_conf.specs.declared.types.PeerSpec.{PeerSpec}
 use Rattle.aprs_conf.specs.Arguments.{same, udp, tcp, station_of, code_of, clients_of, port_of, time_of, window_of, ip_of, host_of, kind_of}
 use Rattle.aprs_conf.specs.Seen.{ConfSeen, DraftSeen}
+use Rattle.aprs_conf.specs.Served.{all_listens}
 use Rattle.aprs_conf.specs.Words.{Word, words_of, lines_of, is_remark, has_open, closed}
 
 -- what is wanted, or else this fault
@@ -32,6 +33,10 @@ unless bad e more = if bad then Err e else more
 abbrev pub one_of : List (List ℕ) → Option (List ℕ)
 one_of (a ∷ []) = Some a
 one_of _ = None
+
+abbrev pub two_of : List (List ℕ) → Option (List ℕ × List ℕ)
+two_of (a ∷ b ∷ []) = Some (a, b)
+two_of _ = None
 
 abbrev pub five_of : List (List ℕ) → Option (List ℕ × List ℕ × List ℕ × List ℕ × List ℕ)
 five_of (a ∷ b ∷ c ∷ d ∷ e ∷ []) = Some (a, b, c, d, e)
@@ -67,21 +72,36 @@ listen_in args = do
   at ← at_of five.3 five.4
   Ok (record { name = five.0; spec = record { kind = port.kind; at = at }; idle = port.idle })
 
+-- no listener more may come
+abbrev pub is_full : DraftSeen → Bool
+is_full draft = nat_le 16 (length (all_listens draft.listens draft.upload))
+
 abbrev pub with_listen : DraftSeen → Listen → Result DraftSeen ConfFault
-with_listen draft listen =
-    unless (nat_le 16 (length draft.listens)) fault.TooMany (Ok (record draft { listens = draft.listens ++ listen ∷ [] }))
+with_listen draft listen = unless (is_full draft) fault.TooMany (Ok (record draft { listens = draft.listens ++ listen ∷ [] }))
 
 unfoldable pub listen_says : DraftSeen → List (List ℕ) → Result DraftSeen ConfFault
 listen_says draft args = listen_in args >>= with_listen draft
 
+-- `HTTPUpload ADDR PORT`
+abbrev pub upload_in : List (List ℕ) → Result Addr ConfFault
+upload_in args = do
+  two ← need fault.BadCount (two_of args)
+  at_of two.0 two.1
+
+abbrev pub with_upload : DraftSeen → Addr → Result DraftSeen ConfFault
+with_upload draft at = unless (is_full draft) fault.TooMany (Ok (record draft { upload = Some at }))
+
+unfoldable pub upload_says : DraftSeen → List (List ℕ) → Result DraftSeen ConfFault
+upload_says draft args = upload_in args >>= with_upload draft
+
 -- `Uplink NAME full tcp HOST PORT`
-abbrev pub is_full : List ℕ → List ℕ → Bool
-is_full kind proto = same kind (codes "full") && same proto tcp
+abbrev pub is_full_feed : List ℕ → List ℕ → Bool
+is_full_feed kind proto = same kind (codes "full") && same proto tcp
 
 abbrev pub uplink_in : List (List ℕ) → Result UplinkSeen ConfFault
 uplink_in args = do
   five ← need fault.BadCount (five_of args)
-  unless (not (is_full five.1 five.2)) fault.BadKind (do
+  unless (not (is_full_feed five.1 five.2)) fault.BadKind (do
     host ← need fault.BadHost (host_of five.3)
     port ← need fault.BadNumber (port_of five.4)
     Ok (record { host = host; port = port }))
@@ -170,6 +190,7 @@ says word.PassCode draft args = code_says draft args
 says word.MyAdmin draft args = admin_says draft args
 says word.MyEmail draft args = email_says draft args
 says word.Listen draft args = listen_says draft args
+says word.HttpUpload draft args = upload_says draft args
 says word.Uplink draft args = uplink_says draft args
 says word.PeerGroup draft args = group_says draft args
 says word.UpstreamTimeout draft args = timeout_says (λ time. record draft { up_timeout = Some time }) args
@@ -195,6 +216,7 @@ line_words =
     ∷ word_row (codes "MyAdmin") word.MyAdmin
     ∷ word_row (codes "MyEmail") word.MyEmail
     ∷ word_row (codes "Listen") word.Listen
+    ∷ word_row (codes "HTTPUpload") word.HttpUpload
     ∷ word_row (codes "Uplink") word.Uplink
     ∷ word_row (codes "PeerGroup") word.PeerGroup
     ∷ word_row (codes "UpstreamTimeout") word.UpstreamTimeout
@@ -205,7 +227,7 @@ line_words =
 
 -- those without effect here
 abbrev pub unused : List (List ℕ)
-unused = codes "RunDir" ∷ codes "LogRotate" ∷ codes "FileLimit" ∷ codes "HTTPStatus" ∷ codes "HTTPUpload" ∷ []
+unused = codes "RunDir" ∷ codes "LogRotate" ∷ codes "FileLimit" ∷ codes "HTTPStatus" ∷ []
 
 abbrev pub is_unused : List ℕ → Bool
 is_unused text = list_any (λ name. is_keyword name text) unused
@@ -223,6 +245,7 @@ was_said word.ServerId draft = is_some draft.server
 was_said word.PassCode draft = is_some draft.code
 was_said word.MyAdmin draft = is_some draft.admin
 was_said word.MyEmail draft = is_some draft.email
+was_said word.HttpUpload draft = is_some draft.upload
 was_said word.PeerGroup draft = is_some draft.group
 was_said word.UpstreamTimeout draft = is_some draft.up_timeout
 was_said word.ClientTimeout draft = is_some draft.client_timeout
@@ -262,7 +285,7 @@ drafted n draft [] = Ok draft
 drafted n draft (line ∷ lines) = at_line n (after draft line) >>= λ more. drafted (next n) more lines
 
 abbrev pub empty : DraftSeen
-empty = record { server = None; code = None; admin = None; email = None; listens = []; uplinks = []; group = None; peers = []; up_timeout = None; client_timeout = None; max_clients = None; dupe_window = None }
+empty = record { server = None; code = None; admin = None; email = None; listens = []; upload = None; uplinks = []; group = None; peers = []; up_timeout = None; client_timeout = None; max_clients = None; dupe_window = None }
 
 -- the configuration of a draft: 15 seconds, 48 hours, 500 clients and a window of 30 seconds, where the lines say nothing else
 abbrev pub filled : DraftSeen → List ℕ → ℕ → ConfSeen
@@ -272,6 +295,7 @@ filled draft server code = record {
   admin = unwrap_or draft.admin [];
   email = unwrap_or draft.email [];
   listens = draft.listens;
+  upload = draft.upload;
   uplinks = draft.uplinks;
   group = draft.group;
   peers = draft.peers;

@@ -11,6 +11,7 @@ pub record ConfSeen : Type 0 where
   pub admin : List ℕ
   pub email : List ℕ
   pub listens : List Listen
+  pub upload : Option Addr
   pub uplinks : List UplinkSeen
   pub group : Option Addr
   pub peers : List PeerSpec
@@ -26,6 +27,7 @@ pub record DraftSeen : Type 0 where
   pub admin : Option (List ℕ)
   pub email : Option (List ℕ)
   pub listens : List Listen
+  pub upload : Option Addr
   pub uplinks : List UplinkSeen
   pub group : Option Addr
   pub peers : List PeerSpec

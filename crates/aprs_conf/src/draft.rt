@@ -1,6 +1,6 @@
 //! What the lines so far have said, and what each kind of line adds.
 ghost use Rattle.std.specs.Prelude.{◌≡◌, Some, ◌<◌, ◌∷◌, ◌++◌, List, Ok, Err, IfOk, MatchResult, [], length};
-ghost use Rattle.aprs_conf.specs.Grammar.{admin_says, at_of, clients_say, code_says, email_says, empty, group_in, group_says, is_group, listen_in, listen_says, nothing_says, peer_of, peers_from, server_says, time_in_line, timeout_says, uplink_in, uplink_says, window_says};
+ghost use Rattle.aprs_conf.specs.Grammar.{admin_says, at_of, clients_say, code_says, email_says, empty, group_in, group_says, is_full, is_group, listen_in, listen_says, nothing_says, peer_of, peers_from, server_says, time_in_line, timeout_says, uplink_in, uplink_says, upload_in, upload_says, window_says};
 ghost use Rattle.aprs_conf.specs.declared.types.PeerSpec.{PeerSpec};
 ghost use Rattle.aprs_conf.specs.Seen.{DraftSeen};
 ghost use Rattle.aprs_conf.specs.Reading.{Becomes, BecomesUnless, Fails};
@@ -9,12 +9,13 @@ ghost use Rattle.aprs_conf.specs.Words.{arguments_of};
 use crate::arguments::{clients, host, ip, is_pair, kind, port, station, time, window};
 use crate::errors::{ConfFault, LineError};
 use crate::types::{Listen, PeerSpec};
-use crate::words::{count_arguments, five, four, next_argument, one};
+use crate::words::{count_arguments, five, four, next_argument, one, two_alone};
 use aprs_base::{Addr, Call, ListenSpec, Text, UplinkSpec};
 use login_pass::code_number;
 use std::alloc::Global;
 use std::marker::Model;
 
+/// That for submissions by HTTP is one of them.
 const MOST_LISTENS: usize = 16;
 
 const MOST_UPLINKS: usize = 8;
@@ -27,6 +28,7 @@ pub struct Draft {
     pub admin: Option<Text>,
     pub email: Option<Text>,
     pub listens: Vec<Listen>,
+    pub upload: Option<Addr>,
     pub uplinks: Vec<UplinkSpec>,
     pub group: Option<Addr>,
     pub peers: Vec<PeerSpec>,
@@ -41,7 +43,7 @@ impl Model for Draft {
 
     ghost Value = { DraftSeen };
 
-    ghost view = { λ d. record { server = d.server; code = d.code; admin = d.admin; email = d.email; listens = d.listens.items; uplinks = d.uplinks.items; group = d.group; peers = d.peers.items; up_timeout = d.up_timeout; client_timeout = d.client_timeout; max_clients = d.max_clients; dupe_window = d.dupe_window } };
+    ghost view = { λ d. record { server = d.server; code = d.code; admin = d.admin; email = d.email; listens = d.listens.items; upload = d.upload; uplinks = d.uplinks.items; group = d.group; peers = d.peers.items; up_timeout = d.up_timeout; client_timeout = d.client_timeout; max_clients = d.max_clients; dupe_window = d.dupe_window } };
 }
 
 impl Draft {
@@ -55,6 +57,7 @@ impl Draft {
             admin: None,
             email: None,
             listens: Vec::new(alloc),
+            upload: None,
             uplinks: Vec::new(alloc),
             group: None,
             peers: Vec::new(alloc),
@@ -170,6 +173,17 @@ fn read_listen(args: &[u8]) -> Result<ListenRead<'_>, ConfFault>
     })
 }
 
+/// Whether there may be no listener more.
+fn is_full(draft: &Draft) -> bool
+    ensures { result ≡ is_full draft.now }
+{
+    let listens = draft.listens.len();
+    match draft.upload {
+        Some(_) => listens >= MOST_LISTENS - 1,
+        None => listens >= MOST_LISTENS,
+    }
+}
+
 /// Adds a listener, whose name becomes a text of its own.
 fn push_listen(
     alloc: Global,
@@ -192,10 +206,30 @@ pub fn add_listen(alloc: Global, draft: &mut Draft, args: &[u8]) -> Result<(), L
     ensures { BecomesUnless result draft.new (listen_says draft.old (arguments_of args.now)) }
 {
     let read = read_listen(args)?;
-    if draft.listens.len() >= MOST_LISTENS {
+    if is_full(draft) {
         return Err(LineError::Fault(ConfFault::TooMany));
     }
     push_listen(alloc, &mut draft.listens, read)
+}
+
+fn read_upload(args: &[u8]) -> Result<Addr, ConfFault>
+    ensures { result ≡ upload_in (arguments_of args.now) }
+{
+    let (address, number) = two_alone(args).ok_or(ConfFault::BadCount)?;
+    at(address, number)
+}
+
+/// `HTTPUpload ADDR PORT`
+#[tactic(auto, unfolding(crate::specs::Grammar::upload_says))]
+pub fn add_upload(draft: &mut Draft, args: &[u8]) -> Result<(), LineError>
+    ensures { BecomesUnless result draft.new (upload_says draft.old (arguments_of args.now)) }
+{
+    let at = read_upload(args)?;
+    if is_full(draft) {
+        return Err(LineError::Fault(ConfFault::TooMany));
+    }
+    draft.upload = Some(at);
+    Ok(())
 }
 
 fn read_uplink(args: &[u8]) -> Result<UplinkSpec, ConfFault>

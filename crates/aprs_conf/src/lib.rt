@@ -5,10 +5,12 @@ mod arguments;
 mod draft;
 mod errors;
 mod reading;
+mod served;
 mod types;
 mod words;
 mod writing;
 
 pub use errors::{ConfError, ConfFault, ConfWord};
 pub use reading::read;
+pub use served::count_numbered;
 pub use types::{Conf, Listen, PeerSpec};

@@ -10,7 +10,8 @@ ghost use Rattle.login_pass.specs.Login.{is_keyword};
 
 use crate::draft::{
     Draft, add_admin, add_client_timeout, add_code, add_dupe_window, add_email, add_group,
-    add_listen, add_max_clients, add_server, add_up_timeout, add_uplink, expect_argument,
+    add_listen, add_max_clients, add_server, add_up_timeout, add_uplink, add_upload,
+    expect_argument,
 };
 use crate::errors::{ConfError, ConfFault, ConfWord, LineError};
 use crate::types::Conf;
@@ -26,6 +27,7 @@ pub enum LineWord {
     MyAdmin,
     MyEmail,
     Listen,
+    HttpUpload,
     Uplink,
     PeerGroup,
     UpstreamTimeout,
@@ -50,7 +52,6 @@ fn is_unused(text: &[u8]) -> bool
         || is_name(b"LogRotate", text)
         || is_name(b"FileLimit", text)
         || is_name(b"HTTPStatus", text)
-        || is_name(b"HTTPUpload", text)
 }
 
 /// The word that begins a line, letters taken without their case.
@@ -67,6 +68,8 @@ fn line_word(text: &[u8]) -> Option<LineWord>
         Some(LineWord::MyEmail)
     } else if is_name(b"Listen", text) {
         Some(LineWord::Listen)
+    } else if is_name(b"HTTPUpload", text) {
+        Some(LineWord::HttpUpload)
     } else if is_name(b"Uplink", text) {
         Some(LineWord::Uplink)
     } else if is_name(b"PeerGroup", text) {
@@ -95,6 +98,7 @@ fn was_said(word: LineWord, draft: &Draft) -> bool
         LineWord::PassCode => draft.code.is_some(),
         LineWord::MyAdmin => draft.admin.is_some(),
         LineWord::MyEmail => draft.email.is_some(),
+        LineWord::HttpUpload => draft.upload.is_some(),
         LineWord::PeerGroup => draft.group.is_some(),
         LineWord::UpstreamTimeout => draft.up_timeout.is_some(),
         LineWord::ClientTimeout => draft.client_timeout.is_some(),
@@ -114,6 +118,7 @@ fn add(alloc: Global, word: LineWord, draft: &mut Draft, args: &[u8]) -> Result<
         LineWord::MyAdmin => add_admin(alloc, draft, args),
         LineWord::MyEmail => add_email(alloc, draft, args),
         LineWord::Listen => add_listen(alloc, draft, args),
+        LineWord::HttpUpload => add_upload(draft, args),
         LineWord::Uplink => add_uplink(draft, args),
         LineWord::PeerGroup => add_group(alloc, draft, args),
         LineWord::UpstreamTimeout => add_up_timeout(draft, args),
@@ -205,6 +210,7 @@ fn finish(alloc: Global, draft: Draft) -> Result<Conf, ConfError>
         admin: text_or_empty(alloc, draft.admin),
         email: text_or_empty(alloc, draft.email),
         listens: draft.listens,
+        upload: draft.upload,
         uplinks: draft.uplinks,
         group: draft.group,
         peers: draft.peers,

@@ -28,6 +28,8 @@ pub struct Conf {
     pub email: Text,
     /// 1 to 16 listeners, idle ones too. Those that aren't idle are numbered from 0.
     pub listens: Vec<Listen>,
+    /// Where submissions by HTTP are taken. This is one listener more, which counts for the 16.
+    pub upload: Option<Addr>,
     /// At most 8 servers to dial.
     pub uplinks: Vec<UplinkSpec>,
     /// Where datagrams of the group are taken, and at most 8 peers: none where there is no group.
@@ -48,5 +50,5 @@ impl Model for Conf {
 
     ghost Value = { ConfSeen };
 
-    ghost view = { λ c. record { server = c.server; code = c.code; admin = c.admin; email = c.email; listens = c.listens.items; uplinks = c.uplinks.items; group = c.group; peers = c.peers.items; up_timeout = c.up_timeout; client_timeout = c.client_timeout; max_clients = c.max_clients; dupe_window = c.dupe_window } };
+    ghost view = { λ c. record { server = c.server; code = c.code; admin = c.admin; email = c.email; listens = c.listens.items; upload = c.upload; uplinks = c.uplinks.items; group = c.group; peers = c.peers.items; up_timeout = c.up_timeout; client_timeout = c.client_timeout; max_clients = c.max_clients; dupe_window = c.dupe_window } };
 }

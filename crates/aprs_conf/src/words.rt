@@ -5,7 +5,7 @@ ghost use Rattle.std.specs.Option.{option_map};
 ghost use Rattle.aprs_conf.specs.Words.{arguments_of, has_open, is_gap, is_remark, lines_of, without_return, words_from, words_of};
 ghost use Rattle.aprs_conf.specs.Words.Place.{Plain, Quoted};
 ghost use Rattle.aprs_conf.specs.Reading.{BeginsWith, lines_behind};
-ghost use Rattle.aprs_conf.specs.Grammar.{five_of, is_hidden_at_most, listen_of, need, one_of};
+ghost use Rattle.aprs_conf.specs.Grammar.{five_of, is_hidden_at_most, listen_of, need, one_of, two_of};
 
 use crate::errors::ConfFault;
 use aprs_base::first_place;
@@ -187,6 +187,18 @@ fn two(text: &[u8]) -> Option<(&[u8], &[u8], &[u8])>
     let (first, behind) = next_argument(text)?;
     let (second, behind) = next_argument(behind)?;
     Some((first, second, behind))
+}
+
+/// The two arguments of a text that has no other.
+pub fn two_alone(text: &[u8]) -> Option<(&[u8], &[u8])>
+    ensures { option_map (λ p. (p.0.now, p.1.now)) result ≡ two_of (arguments_of text.now) }
+{
+    let (first, second, behind) = two(text)?;
+    if may_end(behind, false) {
+        Some((first, second))
+    } else {
+        None
+    }
 }
 
 /// Five parts of a text, from the left.

@@ -4,7 +4,7 @@ ghost use Rattle.std.specs.Fmt.{decimal};
 ghost use Rattle.std.specs.List.{flat_map, list_all};
 ghost use Rattle.aprs_conf.specs.Grammar.{conf_of};
 ghost use Rattle.aprs_conf.specs.Words.{is_gap};
-ghost use Rattle.aprs_conf.specs.Writing.{at_words, group_lines, identity_lines, ip_text, is_bare, kind_name, limit_lines, line_text, list_lines, listen_line, peer_words, proto_name, spelled, text_of_conf, uplink_line, word_text};
+ghost use Rattle.aprs_conf.specs.Writing.{at_words, group_lines, identity_lines, ip_text, is_bare, kind_name, limit_lines, line_text, list_lines, listen_line, peer_words, proto_name, spelled, text_of_conf, uplink_line, upload_lines, word_text};
 
 use crate::types::{Conf, Listen, PeerSpec};
 use crate::words::is_gap_byte;
@@ -159,6 +159,19 @@ impl ConfText {
         Ok(())
     }
 
+    /// The line for submissions by HTTP, where there is one.
+    #[tactic(auto, unfolding(crate::specs::Writing::line_text))]
+    fn upload(&mut self, upload: Option<Addr>) -> Result<(), AllocError>
+        ensures { OnOk result (self.new ≡ self.old ++ flat_map line_text (upload_lines upload)) }
+    {
+        let Some(at) = upload else {
+            return Ok(());
+        };
+        self.word(b"HTTPUpload")?;
+        self.at(at)?;
+        Ok(self.text.push(b'\n')?)
+    }
+
     /// A host and its port.
     fn host(&mut self, uplink: &UplinkSpec) -> Result<(), AllocError>
         ensures { OnOk result (self.new ≡ self.old ++ flat_map word_text (uplink.now.host ∷ decimal uplink.now.port ∷ [])) }
@@ -239,6 +252,7 @@ impl ConfText {
         ensures { OnOk result (self.new ≡ self.old ++ flat_map line_text (list_lines conf.now)) }
     {
         self.listens(conf.listens.as_slice())?;
+        self.upload(conf.upload)?;
         self.uplinks(conf.uplinks.as_slice())?;
         self.group(conf.group, conf.peers.as_slice())
     }

@@ -159,6 +159,7 @@ drill_conf = record {
   admin = [];
   email = [];
   listens = record { name = codes "full"; spec = port kind.Full 1; idle = false } ∷ record { name = codes "igate"; spec = port kind.Igate 2; idle = false } ∷ [];
+  upload = None;
   uplinks = [];
   group = None;
   peers = [];

@@ -88,6 +88,7 @@ plain_conf = record {
   admin = [];
   email = [];
   listens = listen (codes "full") kind.Full 10152 ∷ listen (codes "igate") kind.Igate 14580 ∷ [];
+  upload = None;
   uplinks = [];
   group = None;
   peers = [];

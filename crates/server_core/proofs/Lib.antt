@@ -9,6 +9,7 @@ pub mod MemberLemmas
 pub mod OfferLemmas
 pub mod RoundLemmas
 pub mod SendLemmas
+pub mod ServedLemmas
 pub mod SightLemmas
 pub mod TellingLemmas
 pub mod TurnedLemmas

@@ -1,18 +1,17 @@
 -- Links that are offered something, one after another: each differs from those behind it, and a send to one leaves what is left to another.
-use Rattle.std.proofs.Common.{◌≡◌, ℕ, zero, suc, ◌<◌, ◌≤◌, ◌==◌, true, false, List, [], ◌∷◌, length, drop, sym, ap, ◌∙◌, arith, get_or, refl, ⊎_elim}
+pub use Rattle.aprs_conf.proofs.ServedLemmas.{numbered_short}
+use Rattle.std.proofs.Common.{◌≡◌, ℕ, zero, suc, ◌<◌, ◌==◌, true, false, List, [], ◌∷◌, length, drop, sym, ap, ◌∙◌, arith, get_or, refl}
 use Rattle.std.proofs.Math.Seq.{drop-nil}
-use Rattle.std.proofs.lemmas.Bool.{cases_Bool, eqb-true, false_from_ne_true, or_right, true≢false}
+use Rattle.std.proofs.lemmas.Bool.{eqb-true, false_from_ne_true, or_right, true≢false}
 use Rattle.aprs_base.specs.declared.events.Sent.{Sent}
 use Rattle.aprs_base.specs.declared.events.Sent.TheVariants as sent
 use Rattle.aprs_base.specs.declared.events.Happening.TheVariants as did
-use Rattle.aprs_conf.specs.declared.types.Listen.{Listen}
 use Rattle.aprs_history.specs.Setting.{Setting}
 use Rattle.aprs_history.specs.Trace.{is_member}
 use Rattle.aprs_history.specs.Texts.{untaken}
 use Rattle.aprs_history.specs.History.{History, trace_of}
 use Rattle.aprs_history.proofs.NumberLemmas.{member_first}
 use Rattle.server_core.specs.LinkSteps.{Rises}
-use Rattle.server_core.specs.Meaning.{numbered}
 use Rattle.server_core.proofs.WalkLemmas.{member_below}
 
 pub left_by_other : (s : Setting) (h : History) (link k : ℕ) (bytes : List ℕ) (outcome : Sent) → (k == link) ≡ false → untaken s (trace_of s (did.Sent link bytes outcome ∷ h)) k ≡ untaken s (trace_of s h) k
@@ -45,14 +44,3 @@ pub same_at : {X : Type 0} (xs : List X) (n : ℕ) (d e : X) → n < length xs �
 same_at [] n d e lt = absurd (omega arith)
 same_at (x ∷ xs) zero d e lt = refl
 same_at (x ∷ xs) (suc n) d e lt = same_at xs n d e (omega arith)
-
--- ---- listeners
-
-pub numbered_short : (listens : List Listen) → length (numbered listens) ≤ length listens
-numbered_short [] = omega arith
-numbered_short (listen ∷ listens) =
-    let later = numbered_short listens in
-    ⊎_elim
-    (λ idle. rw idle (omega arith))
-    (λ busy. rw busy (omega arith))
-    (cases_Bool listen.idle)

@@ -1,10 +1,10 @@
 -- The core as contracts see it: its configuration, what it keeps, and whether it rests, since no round is walked.
-use Rattle.std.specs.Prelude.{◌≡◌, Bool, List, [], ◌∷◌, ◌++◌, map, Option, Some, None, if◌then◌else◌}
+pub use Rattle.aprs_conf.specs.Served.{numbered}
+use Rattle.std.specs.Prelude.{◌≡◌, Bool, List, [], ◌∷◌, ◌++◌, map, Option, Some, None}
 use Rattle.aprs_base.specs.declared.packets.ListenSpec.{ListenSpec}
 use Rattle.aprs_base.specs.declared.packets.PortKind.TheVariants as kind
 use Rattle.aprs_base.specs.declared.texts.Addr.{Addr}
 use Rattle.aprs_conf.specs.Seen.{ConfSeen}
-use Rattle.aprs_conf.specs.declared.types.Listen.{Listen}
 use Rattle.aprs_conf.specs.declared.types.PeerSpec.{PeerSpec}
 use Rattle.aprs_history.specs.Setting.{Peer, Setting}
 use Rattle.aprs_history.specs.Stands.{CoreSeen, StandsFor}
@@ -12,11 +12,6 @@ use Rattle.aprs_history.specs.History.{History, trace_of}
 use Rattle.aprs_history.specs.Acts.{Closes, cast_act, dials, due, offer_to}
 use Rattle.server_core.specs.ActsSeen.{ActsSeen}
 use Rattle.served_links.specs.declared.link.Timeouts.{Timeouts}
-
--- the listeners that have a number, in order: those that aren't idle
-abbrev pub numbered : List Listen → List ListenSpec
-numbered [] = []
-numbered (listen ∷ listens) = if listen.idle then numbered listens else listen.spec ∷ numbered listens
 
 -- that of the peer group, where there is one
 abbrev pub group_listens : Option Addr → List ListenSpec

@@ -7,7 +7,7 @@ ghost use Rattle.aprs_history.specs.Journal.{group_of};
 ghost use Rattle.server_core.specs.Meaning.{listeners, numbered, peer_of, setting_of, timeouts_of};
 
 use aprs_base::{Addr, Call, ListenSpec, Memory, PortKind};
-use aprs_conf::{Conf, Listen, PeerSpec};
+use aprs_conf::{Conf, Listen, PeerSpec, count_numbered};
 use served_links::Timeouts;
 use std::alloc::Global;
 
@@ -111,19 +111,6 @@ fn numbered_at(listens: &[Listen], number: usize) -> Result<ListenSpec, usize>
         }
     }
     Err(left)
-}
-
-/// How many listeners aren't idle.
-fn count_numbered(listens: &[Listen]) -> usize
-    ensures { result ≡ length (numbered listens.now) }
-{
-    let mut count = 0;
-    for listen in listens {
-        if !listen.idle {
-            count += 1;
-        }
-    }
-    count
 }
 
 /// The number of the peer group's listener, which is the last.

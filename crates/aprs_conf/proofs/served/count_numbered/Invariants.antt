@@ -1,6 +1,6 @@
 use Rattle.std.proofs.Common.{◌≡◌, ◌≤◌, ◌+◌, drop, length}
-use Rattle.server_core.specs.Meaning.{numbered}
-use Rattle.server_core.proofs.conf.count_numbered.Given as goal
+use Rattle.aprs_conf.specs.Served.{numbered}
+use Rattle.aprs_conf.proofs.served.count_numbered.Given as goal
 
 -- what is counted, and what is left to count, make the whole
 abbrev pub invariant-loop-listen : goal.invariant-loop-listen
