@@ -36,6 +36,9 @@ fn put_lists(alloc: Global, text: &mut String, conf: &Conf) -> Result<(), AllocE
     for listen in &conf.listens {
         put_listen(alloc, text, listen)?;
     }
+    if let Some(upload) = &conf.upload {
+        write!(text, "\n    upload {}", addr_text(alloc, upload)?)?;
+    }
     for uplink in &conf.uplinks {
         put_uplink(alloc, text, uplink)?;
     }
@@ -91,6 +94,28 @@ pub fn conf(alloc: Global, field: &str) -> Result<String, RowError> {
 pub fn again(alloc: Global, field: &str) -> Result<String, RowError> {
     match read(alloc, read_bytes(alloc, field)?.as_slice()) {
         Ok(conf) => said_by(alloc, conf.write(alloc).map_err(no_memory)?.as_bytes()),
+        Err(ConfError::Memory) => Err(RowError::Memory(AllocError)),
+        Err(_) => Err(RowError::Word),
+    }
+}
+
+/// The number of the listener for submissions by HTTP, and what the configuration says that is served.
+fn served_text(alloc: Global, number: Option<u16>, served: &Conf) -> Result<String, AllocError> {
+    let text = conf_text(alloc, served)?;
+    match number {
+        Some(number) => format!(in alloc; "\n    http number {number}{text}"),
+        None => format!(in alloc; "\n    no http{text}"),
+    }
+}
+
+/// What is served of a configuration.
+pub fn served(alloc: Global, field: &str) -> Result<String, RowError> {
+    match read(alloc, read_bytes(alloc, field)?.as_slice()) {
+        Ok(conf) => {
+            let number = conf.upload_number();
+            let served = conf.served(alloc).map_err(no_memory)?;
+            Ok(served_text(alloc, number, &served)?)
+        }
         Err(ConfError::Memory) => Err(RowError::Memory(AllocError)),
         Err(_) => Err(RowError::Word),
     }

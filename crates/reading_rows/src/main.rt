@@ -1,4 +1,4 @@
-//! Reads rows of what is read and written (calls, lines, logins, packets, bodies, positions, filters, configurations, scripts), and
+//! Reads rows of what is read and written (calls, lines, logins, requests, packets, bodies, positions, filters, configurations, scripts), and
 //! prints each with what it becomes. The gate compares that with the file stdout, whose answers come from the public
 //! standards or were worked out by hand.
 #![tactic(auto)]
@@ -11,6 +11,7 @@ mod logins;
 mod packets;
 mod parsed;
 mod places;
+mod requests;
 mod scripts;
 mod stores;
 mod texts;
@@ -39,6 +40,7 @@ fn second_answer(alloc: Global, word: &str, row: &str) -> Result<String, RowErro
         "position-age" => filters::position_age(alloc),
         "conf" => confs::conf(alloc, row),
         "conf-again" => confs::again(alloc, row),
+        "conf-served" => confs::served(alloc, row),
         "script" => scripts::script(alloc, row),
         "script-confs" => scripts::confs(alloc, row),
         _ => Err(RowError::Word),
@@ -57,6 +59,7 @@ fn first_answer(alloc: Global, word: &str, row: &str) -> Result<String, RowError
         "login" => logins::login(alloc, row),
         "passcode" => logins::pass(alloc, row),
         "code" => logins::code(alloc, row),
+        "post" => requests::post(alloc, row),
         "packet" => packets::parts(alloc, row),
         "filled" => packets::filled(alloc, row),
         "construct" => packets::construct_place(alloc, row),
