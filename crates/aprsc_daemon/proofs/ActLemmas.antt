@@ -12,13 +12,14 @@ use Rattle.aprs_history.specs.Texts.{untaken}
 use Rattle.aprs_history.specs.History.{History, is_stopped, trace_of}
 use Rattle.aprs_history.specs.Acts.{Act, Offers, Closes, MayCome, due, but_first, offer_to}
 use Rattle.aprs_history.specs.Journal.{journal_of}
-use Rattle.aprs_history.specs.Runs.{AppendsRun}
+use Rattle.front_history.specs.Answers.{wired}
+use Rattle.front_history.specs.Serving.{ActsOn}
+use Rattle.front_history.proofs.ServesLemmas.{server_acts, tells_done}
 use Rattle.server_core.specs.Meaning.{CoreMeaning, Stands, setting_of}
 use Rattle.aprs_history.proofs.NumberLemmas.{member_first}
 use Rattle.server_core.proofs.OfferLemmas.{left_by_other, member_differs}
 use Rattle.aprs_conf.specs.Seen.{ConfSeen}
 use Rattle.aprsc_daemon.specs.Phases.{Owing, Offering}
-use Rattle.aprsc_daemon.proofs.RunLemmas.{run_goes_on, tells_done}
 
 send_comes : (acts : List Act) (stopped : Bool) (link : ℕ) (bytes owed : List ℕ) (outcome : Sent) (rest : List Act) → acts ≡ Offers link owed ∷ rest → bytes ≡ owed → IsOutcome bytes outcome
     → MayCome acts stopped (did.Sent link bytes outcome)
@@ -41,15 +42,15 @@ owing_next conf link offers closes bytes outcome more other owing = record {
 }
 
 -- one offer is made
-pub run_sends : (lines : List JournalLineSeen) (s : Setting) (start now next : Option Told) (core new : CoreMeaning) (link : ℕ) (offers closes : List ℕ) (bytes : List ℕ) (outcome : Sent) → setting_of core.conf ≡ s
+pub run_sends : (lines : List JournalLineSeen) (s : Setting) (now next : Option Told) (core new : CoreMeaning) (link : ℕ) (offers closes : List ℕ) (bytes : List ℕ) (outcome : Sent) → setting_of core.conf ≡ s
     → new.conf ≡ core.conf → is_member link offers ≡ false → IsOutcome bytes outcome
     → ((h : History) → Stands core h → bytes ≡ take 65536 (untaken (setting_of core.conf) (trace_of (setting_of core.conf) h) link))
     → ((h : History) → Stands core h → Stands new (did.Sent link bytes outcome ∷ h))
     → next ≡ option_map (with_done (did.Sent link bytes outcome)) now
-    → AppendsRun s start now (Offering lines core (link ∷ offers) closes) → AppendsRun s start next (Offering lines new offers closes)
-run_sends lines s start now next core new link offers closes bytes outcome same conf other part given stands is run =
-    run_goes_on s start now next (did.Sent link bytes outcome) (with_done (did.Sent link bytes outcome)) (Offering lines core (link ∷ offers) closes) (Offering lines new offers closes)
-    (tells_done s (did.Sent link bytes outcome) refl refl refl) is (λ more phase.
+    → ActsOn s now next (Offering lines core (link ∷ offers) closes) (Offering lines new offers closes)
+run_sends lines s now next core new link offers closes bytes outcome same conf other part given stands is =
+    server_acts s now next (did.Sent link bytes outcome) (with_done (did.Sent link bytes outcome)) (Offering lines core (link ∷ offers) closes) (Offering lines new offers closes)
+    tt (λ at. tells_done (wired at s) (did.Sent link bytes outcome) refl refl refl) is (λ more phase.
     let owing = phase.owing in
     let c = setting_of core.conf in (
       subst (λ t. MayCome (due t more) (is_stopped more) (did.Sent link bytes outcome)) same
@@ -60,7 +61,7 @@ run_sends lines s start now next core new link offers closes bytes outcome same 
         journal = ap (λ c. journal_of (setting_of c) more) conf ∙ phase.journal;
         owing = subst (λ conf. Owing conf None [] offers closes (did.Sent link bytes outcome ∷ more)) (sym conf) (owing_next core.conf link offers closes bytes outcome more other owing);
       },
-    )) run
+    ))
 
 -- ---- closes
 
@@ -72,25 +73,25 @@ owing_closed : (conf : ConfSeen) (link : ℕ) (closes : List ℕ) (more : Histor
 unfolding due
 owing_closed conf link closes more owing = record { round = owing.round; owed = ap but_first owing.owed; same = λ k member. absurd (true≢false (sym member)); all = owing.all; fresh = owing.fresh }
 
-pub run_closes : (lines : List JournalLineSeen) (s : Setting) (start now next : Option Told) (core : CoreMeaning) (link : ℕ) (closes : List ℕ) → setting_of core.conf ≡ s
-    → next ≡ option_map (with_done (did.Closed link)) now → AppendsRun s start now (Offering lines core [] (link ∷ closes)) → AppendsRun s start next (Offering lines core [] closes)
-run_closes lines s start now next core link closes same is run =
-    run_goes_on s start now next (did.Closed link) (with_done (did.Closed link)) (Offering lines core [] (link ∷ closes)) (Offering lines core [] closes)
-    (tells_done s (did.Closed link) refl refl refl) is (λ more phase. (
+pub run_closes : (lines : List JournalLineSeen) (s : Setting) (now next : Option Told) (core : CoreMeaning) (link : ℕ) (closes : List ℕ) → setting_of core.conf ≡ s
+    → next ≡ option_map (with_done (did.Closed link)) now → ActsOn s now next (Offering lines core [] (link ∷ closes)) (Offering lines core [] closes)
+run_closes lines s now next core link closes same is =
+    server_acts s now next (did.Closed link) (with_done (did.Closed link)) (Offering lines core [] (link ∷ closes)) (Offering lines core [] closes)
+    tt (λ at. tells_done (wired at s) (did.Closed link) refl refl refl) is (λ more phase. (
       subst (λ t. MayCome (due t more) (is_stopped more) (did.Closed link)) same (close_comes (due (setting_of core.conf) more) (is_stopped more) link (map Closes closes) phase.owing.owed),
       record { stands = stands_closed core link more phase.stands; journal = phase.journal; owing = owing_closed core.conf link closes more phase.owing },
-    )) run
+    ))
 
 -- what was offered is what was asked for
 pub offered_bytes : (bytes left : List ℕ) (room : ℕ) → room ≡ 65536 → bytes ≡ take (min room 65536) left → bytes ≡ take 65536 left
 offered_bytes bytes left room is given = given ∙ ap (λ n. take (min n 65536) left) is
 
 -- one offer is made, from what the core said
-pub run_offered : (lines : List JournalLineSeen) (s : Setting) (start now next : Option Told) (core new : CoreMeaning) (link : ℕ) (offers closes : List ℕ) (bytes : List ℕ) (outcome said : Sent) → setting_of core.conf ≡ s
+pub run_offered : (lines : List JournalLineSeen) (s : Setting) (now next : Option Told) (core new : CoreMeaning) (link : ℕ) (offers closes : List ℕ) (bytes : List ℕ) (outcome said : Sent) → setting_of core.conf ≡ s
     → new.conf ≡ core.conf → is_member link offers ≡ false → IsOutcome bytes outcome → outcome ≡ said
     → ((h : History) → Stands core h → bytes ≡ take 65536 (untaken (setting_of core.conf) (trace_of (setting_of core.conf) h) link))
     → ((h : History) → Stands core h → Stands new (did.Sent link bytes said ∷ h))
     → next ≡ option_map (with_done (did.Sent link bytes outcome)) now
-    → AppendsRun s start now (Offering lines core (link ∷ offers) closes) → AppendsRun s start next (Offering lines new offers closes)
-run_offered lines s start now next core new link offers closes bytes outcome said same conf other part is given stands =
-    run_sends lines s start now next core new link offers closes bytes outcome same conf other part given (λ h st. subst (λ o. Stands new (did.Sent link bytes o ∷ h)) (sym is) (stands h st))
+    → ActsOn s now next (Offering lines core (link ∷ offers) closes) (Offering lines new offers closes)
+run_offered lines s now next core new link offers closes bytes outcome said same conf other part is given stands =
+    run_sends lines s now next core new link offers closes bytes outcome same conf other part given (λ h st. subst (λ o. Stands new (did.Sent link bytes o ∷ h)) (sym is) (stands h st))

@@ -1,11 +1,21 @@
 -- What the wire tells grows from call to call, and the events with it.
-use Rattle.std.proofs.Common.{◌≡◌, List, [], ◌∷◌, ◌++◌, refl, ap, ◌∙◌, subst, append-nil, append_assoc, Option, Some, None}
+use Rattle.std.proofs.Common.{◌≡◌, inl, inr, ℕ, sym, List, [], ◌∷◌, ◌++◌, refl, ap, ◌∙◌, subst, append-nil, append_assoc, Option, Some, None}
 use Rattle.std.specs.Option.{option_map}
 use Rattle.aprs_base.specs.Outside.{Told, with_done}
 use Rattle.aprs_base.specs.declared.events.Event.{Event}
 use Rattle.aprs_base.specs.declared.events.Happening.{Happening}
 use Rattle.aprs_base.specs.declared.events.Happening.TheVariants as did
-use Rattle.aprsc_daemon.specs.Phases.{Brings, events_in}
+use Rattle.std.specs.List.{AllZip, find}
+use Rattle.aprs_base.specs.declared.events.Event.TheVariants as event
+use Rattle.aprs_base.specs.declared.events.Sent.{Sent}
+use Rattle.aprs_base.specs.declared.events.Sent.TheVariants as sent
+use Rattle.http_submit.specs.Fronts.{FrontSeen, Hears, TurnsAt, TurnsBy, handed_up, paid_front}
+use Rattle.http_submit.specs.Owing.{GrewBy, Pays, TakesTurn, closed_after, reply_of}
+use Rattle.http_submit.specs.Pools.{WaitingSeen, heard, is_link}
+use Rattle.http_submit.specs.declared.pool.Owed.{Owed}
+use Rattle.http_submit.specs.declared.requests.Post.{Post}
+use Rattle.http_submit.specs.declared.requests.Post.TheVariants.{Whole, More, Refused}
+use Rattle.aprsc_daemon.specs.Phases.{Brings, BringsUp, IsHandedUp, IsSubmitted, events_in}
 
 -- one happening, whatever else is told with it
 pub brings_told : (x : Happening) (change : Told → Told) (events : List Event) (now next : Option Told) → ((told : Told) → (change told).done ≡ told.done ++ x ∷ []) → events_in (x ∷ []) ≡ events
@@ -36,3 +46,70 @@ brings_both these those (Some old) now next first later =
 -- these events, and then none
 pub brings_on : (events : List Event) (start now next : Option Told) → Brings events start now → Brings [] now next → Brings events start next
 brings_on events start now next first later = subst (λ all. Brings all start next) (append-nil events) (brings_both events [] start now next first later)
+
+-- ---- behind a front
+
+-- no reply is an event
+one_untold : (owed : Owed) (outcome : Sent) → events_in (did.Sent owed.link (reply_of owed.status) outcome ∷ closed_after owed.link outcome) ≡ []
+one_untold owed (sent.Took n) = refl
+one_untold owed sent.Gone = refl
+
+paid_untold : (owed : List Owed) (done : List Happening) → Pays owed done → events_in done ≡ []
+paid_untold [] done pays = ap events_in pays
+paid_untold (owed ∷ more) done pays =
+    ap events_in pays.4 ∙ events_join pays.0 pays.1
+    ∙ ap (λ events. events ++ events_in pays.1) (ap events_in pays.2.is ∙ one_untold owed pays.2.outcome)
+    ∙ paid_untold more pays.1 pays.3
+
+turn_brings : (e : Event) (owed : List Owed) (old new : Option Told) → GrewBy old new (λ more. (done : List Happening) × Pays owed done × (more ≡ done ++ did.Event e ∷ [])) → Brings (e ∷ []) old new
+turn_brings e owed None new grew = grew
+turn_brings e owed (Some old) new grew =
+    let paying = grew.2 in (
+      record old { done = old.done ++ grew.0 },
+      grew.0,
+      grew.1,
+      refl,
+      ap events_in paying.2 ∙ events_join paying.0 (did.Event e ∷ []) ∙ ap (λ events. events ++ e ∷ []) (paid_untold owed paying.0 paying.1),
+    )
+
+heard_up : (u link : ℕ) (bytes : List ℕ) (found : Option WaitingSeen) (before after : FrontSeen) (up : Event) → Hears u link bytes found before after up → IsHandedUp (Some u) (event.Bytes link bytes) up
+heard_up u link bytes None before after up hears = inl hears.1
+heard_up u link bytes (Some waiting) before after up hears = by hears.0 hears.3
+  where
+    by : (post : Post) → up ≡ handed_up u waiting.from (heard waiting bytes) (event.Bytes link bytes) post → IsHandedUp (Some u) (event.Bytes link bytes) up
+    by (Whole start len known) is = inr (subst (IsSubmitted u (event.Bytes link bytes)) (sym is) refl)
+    by More is = inl is
+    by (Refused status) is = inl is
+
+turned_up : (u : ℕ) (before : FrontSeen) (e : Event) (after : FrontSeen) (up : Event) → TurnsAt u before e after up → IsHandedUp (Some u) e up
+turned_up u before (event.Tick moment) after up turns = inl turns.1
+turned_up u before (event.Opened listener link from) after up turns = inl turns.1
+turned_up u before (event.Bytes link bytes) after up turns = heard_up u link bytes (find (is_link link) before.pool.waiting) before after up turns
+turned_up u before (event.Ended link) after up turns = inl turns.1
+turned_up u before (event.Joined uplink link at) after up turns = inl turns.1
+turned_up u before (event.Unjoined uplink) after up turns = inl turns.1
+turned_up u before (event.Room link) after up turns = inl turns.1
+turned_up u before (event.Datagram listener from bytes) after up turns = inl turns.1
+turned_up u before event.Stop after up turns = inl turns.1
+
+handed_by : (at : Option ℕ) (before : FrontSeen) (e : Event) (after : FrontSeen) (up : Event) → TurnsBy at before e after up → IsHandedUp at e up
+handed_by None before e after up turns = turns.1
+handed_by (Some u) before e after up turns = turned_up u before e after up turns
+
+zip_on : {A B : Type 0} (P : A → B → Type 0) (xs : List A) (ys : List B) (x : A) (y : B) → AllZip P xs ys → P x y → AllZip P (xs ++ x ∷ []) (ys ++ y ∷ [])
+zip_on P [] [] x y all here = (here, tt)
+zip_on P [] (b ∷ ys) x y all here = absurd all
+zip_on P (a ∷ xs) [] x y all here = absurd all
+zip_on P (a ∷ xs) (b ∷ ys) x y all here = (all.0, zip_on P xs ys x y all.1 here)
+
+-- one event more is handed up
+pub brings_turn : (at : Option ℕ) (events : List Event) (start now next : Option Told) (before after : FrontSeen) (up : Event) → at ≡ before.at → TakesTurn now next before after up → BringsUp at events start now → BringsUp at (events ++ up ∷ []) start next
+brings_turn at events start now next before after up same turn brought = (
+  brought.0 ++ turn.came ∷ [],
+  brings_both brought.0 (turn.came ∷ []) start now next brought.1 (turn_brings turn.came before.pool.owed now next turn.told),
+  zip_on (IsHandedUp at) brought.0 events turn.came up brought.2 (subst (λ port. IsHandedUp port turn.came up) (sym same) (handed_by before.at (paid_front before) turn.came after up turn.turns)),
+)
+
+-- and then none
+pub brings_up_on : (at : Option ℕ) (events : List Event) (start now next : Option Told) → BringsUp at events start now → Brings [] now next → BringsUp at events start next
+brings_up_on at events start now next first later = (first.0, brings_on first.0 start now next first.1 later, first.2)

@@ -13,10 +13,10 @@ use Rattle.aprs_history.specs.Setting.{Setting}
 use Rattle.aprs_history.specs.History.{History, trace_of}
 use Rattle.aprs_history.specs.Acts.{IsRun}
 use Rattle.aprs_history.specs.Headline.{HasFreshLinks}
-use Rattle.aprs_history.specs.Runs.{AppendsRun, are_listens}
+use Rattle.aprs_history.specs.Runs.{are_listens}
 use Rattle.aprs_history.proofs.EndLemmas.{links_end_by_rules}
 use Rattle.aprs_history.proofs.HeadlineLemmas.{closes_have_reasons, links_take_prefixes, none_hear_themselves}
-use Rattle.server_core.specs.Meaning.{setting_of}
+use Rattle.aprsc_daemon.specs.Runs.{RunsFor, setting_named}
 use Rattle.aprs_conf.specs.Seen.{ConfSeen}
 use Rattle.aprs_conf.specs.Grammar.{conf_of}
 use Rattle.aprs_conf.specs.declared.errors.ConfError.{ConfError}
@@ -45,14 +45,14 @@ use Rattle.aprsc_daemon.specs.declared.serving.End.{End}
 use Rattle.aprsc_daemon.specs.declared.serving.End.TheVariants as ended
 use Rattle.aprsc_daemon.specs.declared.program.Status.{Status}
 use Rattle.aprsc_daemon.specs.declared.program.Status.TheVariants as status
-use Rattle.aprsc_daemon.proofs.RunLemmas.{run_begins, run_told, run_weaker}
+use Rattle.aprsc_daemon.proofs.RunLemmas.{runs_begin, runs_so}
 use Rattle.aprsc_daemon.proofs.WordsLemmas.{drill_or_net, only_drill, only_net}
 
 served_weaker : (o : Outside) (P Q : Setting → History → Type 0) → ((s : Setting) (more : History) → P s more → Q s more) → IsServed o P → IsServed o Q
 served_weaker o P Q weaker served = record {
   conf = served.conf;
   read = served.read;
-  run = run_weaker (setting_of served.conf) o.wire.told o.wire_after.told (P (setting_of served.conf)) (Q (setting_of served.conf)) (weaker (setting_of served.conf)) served.run;
+  run = runs_so served.conf o.wire.told o.wire_after.told (P (setting_named served.conf)) (Q (setting_named served.conf)) (weaker (setting_named served.conf)) served.run;
 }
 
 -- ---- a status that has a text
@@ -132,8 +132,8 @@ valid_cause o conf result read unused fails said =
     fails
     (λ reports. reports)
 
-pub listener_cause : (o : Outside) (conf : ConfSeen) (n : ℕ) (result : Status) → HasNamed task.Serve o.words o.files.told conf → n < length (setting_of conf).listens → FailsFor status.NoListener o
-    → AppendsRun (setting_of conf) o.wire.told o.wire_after.told (OpensOnly n) → Said o.sink o.sink_after (listen_failed_text n) status.NoListener result → Cause result o
+pub listener_cause : (o : Outside) (conf : ConfSeen) (n : ℕ) (result : Status) → HasNamed task.Serve o.words o.files.told conf → n < length (setting_named conf).listens → FailsFor status.NoListener o
+    → RunsFor conf o.wire.told o.wire_after.told (OpensOnly n) → Said o.sink o.sink_after (listen_failed_text n) status.NoListener result → Cause result o
 listener_cause o conf n result read within fails run said =
     said_cause o (listen_failed_text n) status.NoListener result said
     (record { number = n; run = record { conf = conf; read = read; run = run }; within = within; line = refl })
@@ -169,10 +169,10 @@ ended_serving ended.Memory = refl
 
 pub ended_cause : (o : Outside) (conf : ConfSeen) (end : End) (result : Status) → result ≡ status_of end → HasNamed task.Serve o.words o.files.told conf → ReadsWell o.words o.files o.files_after → IsSilent o
     → o.wire_after.failed_listens ≡ o.wire.failed_listens → o.wire_after.failed_nexts ≡ failed_by_serving end o.wire.failed_nexts
-    → AppendsRun (setting_of conf) o.wire.told o.wire_after.told (Ends (setting_of conf) end) → Cause result o
+    → RunsFor conf o.wire.told o.wire_after.told (Ends (setting_named conf) end) → Cause result o
 ended_cause o conf end result is read well silent listens nexts run = subst (λ st. Cause st o) (sym is) (causes end nexts run)
   where
-    causes : (end : End) → o.wire_after.failed_nexts ≡ failed_by_serving end o.wire.failed_nexts → AppendsRun (setting_of conf) o.wire.told o.wire_after.told (Ends (setting_of conf) end) → Cause (status_of end) o
+    causes : (end : End) → o.wire_after.failed_nexts ≡ failed_by_serving end o.wire.failed_nexts → RunsFor conf o.wire.told o.wire_after.told (Ends (setting_named conf) end) → Cause (status_of end) o
     causes ended.Stopped nexts run = record { run = record { conf = conf; read = read; run = run }; fails = record { file = well.0; reads = well.1; listens = listens; nexts = nexts }; silent = silent }
     causes ended.Failed nexts run = record { run = record { conf = conf; read = read; run = run }; fails = record { file = well.0; reads = well.1; listens = listens; nexts = nexts }; silent = silent }
     causes ended.Memory nexts run = memory_cause o silent (inr (record { conf = conf; read = read; run = run })) (record { file = well.0; reads = well.1; listens = listens; nexts = nexts })
@@ -270,14 +270,14 @@ due_listener _ o files conf text tells read sound fails due = absurd due
 
 -- ---- the headline
 
-unused_run : (o : Outside) (s : Setting) (P : History → Type 0) → P [] → IsUnused o → AppendsRun s o.wire.told o.wire_after.told P
-unused_run o s P begins unused = run_told s o.wire.told o.wire.told o.wire_after.told P (ap (λ wire. wire.told) unused) (run_begins s o.wire.told P begins)
+unused_run : (o : Outside) (conf : ConfSeen) (P : History → Type 0) → P [] → IsUnused o → RunsFor conf o.wire.told o.wire_after.told P
+unused_run o conf P begins unused = subst (λ told. RunsFor conf o.wire.told told P) (sym (ap (λ wire. wire.told) unused)) (runs_begin conf o.wire.told P begins)
 
 served_run : (o : Outside) (files : List MemFile) (conf : ConfSeen) (P : Setting → History → Type 0) → o.files.told ≡ Some files → HasNamed task.Serve o.words o.files.told conf → IsServed o P
-    → AppendsRun (setting_of conf) o.wire.told o.wire_after.told (P (setting_of conf))
+    → RunsFor conf o.wire.told o.wire_after.told (P (setting_named conf))
 served_run o files conf P tells read served =
     let same = same_conf o.words files served.conf conf (at_files task.Serve o files served.conf tells served.read) (at_files task.Serve o files conf tells read) in
-    subst (λ c. AppendsRun (setting_of c) o.wire.told o.wire_after.told (P (setting_of c))) same served.run
+    subst (λ c. RunsFor c o.wire.told o.wire_after.told (P (setting_named c))) same served.run
 
 -- where nothing but listeners was opened, no link was numbered
 listens_fresh : (more : History) → are_listens more ≡ true → HasFreshLinks more
@@ -287,10 +287,10 @@ listens_fresh (_ ∷ more) only = absurd (false≢true only)
 
 -- a run of which the end says no more
 goes_on : (o : Outside) (files : List MemFile) (conf : ConfSeen) (code : ℕ) → (code ≡ 0 → ⊥) → (code ≡ 5 → ⊥) → o.files.told ≡ Some files → HasNamed task.Serve o.words o.files.told conf
-    → IsUnused o ⊎ IsServed o (λ s. HasFreshLinks) → AppendsRun (setting_of conf) o.wire.told o.wire_after.told (Ended code (setting_of conf))
+    → IsUnused o ⊎ IsServed o (λ s. HasFreshLinks) → RunsFor conf o.wire.told o.wire_after.told (Ended code (setting_named conf))
 goes_on o files conf code not_0 not_5 tells read =
     ⊎_elim
-    (unused_run o (setting_of conf) (Ended code (setting_of conf)) (ends (setting_of conf) [] tt))
+    (unused_run o conf (Ended code (setting_named conf)) (ends (setting_named conf) [] tt))
     (λ served. served_run o files conf (Ended code) tells read (served_weaker o (λ s. HasFreshLinks) (Ended code) ends served))
   where
     ends : (s : Setting) (more : History) → HasFreshLinks more → Ended code s more
@@ -298,11 +298,11 @@ goes_on o files conf code not_0 not_5 tells read =
 
 opens_some : (o : Outside) (text : List ℕ) → HasNoListener o text → IsServed o Opening
 opens_some o text due =
-    let s = setting_of due.run.conf in
+    let s = setting_named due.run.conf in
     record {
       conf = due.run.conf;
       read = due.run.read;
-      run = run_weaker s o.wire.told o.wire_after.told (OpensOnly due.number) (Opening s) (λ more opens. subst (λ m. m < length s.listens) (sym opens.0) due.within) due.run.run;
+      run = runs_so due.run.conf o.wire.told o.wire_after.told (OpensOnly due.number) (Opening s) (λ more opens. subst (λ m. m < length s.listens) (sym opens.0) due.within) due.run.run;
     }
 
 -- where a text is due nothing happened, or listeners alone were opened
@@ -316,12 +316,12 @@ due_run _ o text due = inl due.unused
 
 -- and so the end says nothing
 due_ended : (wanted : Status) (o : Outside) (text : List ℕ) (files : List MemFile) (conf : ConfSeen) (code : ℕ) → (code ≡ 0 → ⊥) → (code ≡ 5 → ⊥) → o.files.told ≡ Some files
-    → HasNamed task.Serve o.words o.files.told conf → IsDue wanted o text → AppendsRun (setting_of conf) o.wire.told o.wire_after.told (Ended code (setting_of conf))
+    → HasNamed task.Serve o.words o.files.told conf → IsDue wanted o text → RunsFor conf o.wire.told o.wire_after.told (Ended code (setting_named conf))
 due_ended wanted o text files conf code not_0 not_5 tells read due =
     goes_on o files conf code not_0 not_5 tells read (due_run wanted o text due)
 
 pub headline : (o : Outside) (files : List MemFile) (conf : ConfSeen) (ending : Status) → o.files.told ≡ Some files → HasNamed task.Serve o.words o.files.told conf → Cause ending o
-    → AppendsRun (setting_of conf) o.wire.told o.wire_after.told (Ended (code_of_status ending) (setting_of conf))
+    → RunsFor conf o.wire.told o.wire_after.told (Ended (code_of_status ending) (setting_named conf))
 headline o files conf status.Stopped tells read cause =
     served_run o files conf (Ended 0) tells read (served_weaker o Finished (Ended 0) (λ s more at. record { fresh = at.idle.fresh; stopped = λ e. at; lost = λ e. absurd (omega arith) }) cause.run)
 headline o files conf status.Checked tells read cause = absurd (one_task o.words o.files.told conf cause.due.conf read cause.due.read)
@@ -340,25 +340,34 @@ headline o files conf wanted tells read cause =
     due_ended wanted o cause.text files conf (code_of_status wanted) (λ e. omega arith) (λ e. omega arith) tells read cause.due
 
 -- a run whose links were numbered freshly keeps its promise
-pub keeps_promise : (s : Setting) (start now : Option Told) (code : ℕ) → AppendsRun s start now (Ended code s) → AppendsRun s start now (KeepsPromise s)
-keeps_promise s None now code run = run
-keeps_promise s (Some told) now code run = (
-  run.0,
-  run.1,
-  run.2,
-  record {
-    takes = links_take_prefixes s run.0 run.2 run.3.fresh;
-    others = none_hear_themselves s (trace_of s run.0);
-    ends = links_end_by_rules s run.0;
-    closes = λ later earlier link is. closes_have_reasons s later earlier link (subst (IsRun s) is run.2);
-  },
-)
+pub keeps_promise : (conf : ConfSeen) (start now : Option Told) (code : ℕ) → RunsFor conf start now (Ended code (setting_named conf)) → RunsFor conf start now (KeepsPromise (setting_named conf))
+keeps_promise conf None now code run = run
+keeps_promise conf (Some told) now code run =
+    let s = setting_named conf in
+    let serves = run.2 in
+    let seen = serves.1 in (
+      run.0,
+      run.1,
+      (
+        serves.0,
+        seen,
+        serves.2,
+        serves.3,
+        serves.4,
+        record {
+          takes = links_take_prefixes s seen serves.4 serves.5.fresh;
+          others = none_hear_themselves s (trace_of s seen);
+          ends = links_end_by_rules s seen;
+          closes = λ later earlier link is. closes_have_reasons s later earlier link (subst (IsRun s) is serves.4);
+        },
+      ),
+    )
 
 -- ---- the sink fails early
 
 pub early : (o : Outside) (files : List MemFile) (conf : ConfSeen) (ending : Status) → o.files.told ≡ Some files → HasNamed task.Serve o.words o.files.told conf
     → ¬ Rose o.files.faults o.files_after.faults → code_of_status ending ≡ 7 → Cause ending o
-    → AppendsRun (setting_of conf) o.wire.told o.wire_after.told (Opening (setting_of conf))
+    → RunsFor conf o.wire.told o.wire_after.told (Opening (setting_named conf))
 early o files conf status.LostSink tells read sound is cause =
     served_run o files conf Opening tells read (opens_some o cause.part.text (due_listener cause.part.wanted o files conf cause.part.text tells read sound cause.part.fails cause.part.due))
 early o files conf _ tells read sound is cause = absurd (omega arith)

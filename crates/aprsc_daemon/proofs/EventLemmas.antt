@@ -4,8 +4,7 @@ use Rattle.std.proofs.Math.Bool.{or-true}
 use Rattle.std.proofs.Math.Nat.{eq-or-lt_of_le}
 use Rattle.std.specs.Bool.{MatchBool}
 use Rattle.std.proofs.lemmas.Bool.{and_parts, false≢true, not-true}
-use Rattle.std.specs.Option.{option_map}
-use Rattle.aprs_base.specs.Outside.{Told, with_done, CountsLink, new_link}
+use Rattle.aprs_base.specs.Outside.{Told, CountsLink, new_link}
 use Rattle.aprs_base.specs.declared.events.Event.{Event}
 use Rattle.aprs_base.specs.declared.events.Happening.TheVariants as did
 use Rattle.aprs_base.specs.declared.events.WireError.TheVariants as wire_error
@@ -14,13 +13,17 @@ use Rattle.aprs_history.specs.Setting.{Setting}
 use Rattle.aprs_history.specs.History.{History, ends_round, is_round_event, is_stop, is_stopped, open_events, greater_link, greatest_link}
 use Rattle.aprs_history.specs.Rounds.{is_whole, with_events, AreFresh, greatest_after}
 use Rattle.aprs_history.specs.Headline.{HasFreshLinks}
-use Rattle.aprs_history.specs.Acts.{Act, MayCome, due, acts_after}
-use Rattle.aprs_history.specs.Runs.{AppendsRun}
+use Rattle.aprs_history.specs.Acts.{due, acts_after}
+use Rattle.http_submit.specs.Fronts.{FrontSeen, paid_front}
+use Rattle.http_submit.specs.Owing.{TakesTurn}
+use Rattle.front_history.specs.Answers.{front_state}
+use Rattle.front_history.specs.Serving.{GoesOn}
+use Rattle.front_history.proofs.FrontLemmas.{turn_taken, turns_keep}
+use Rattle.front_history.proofs.ServesLemmas.{IsIdle}
 use Rattle.server_core.specs.Meaning.{CoreMeaning, setting_of}
 use Rattle.server_core.proofs.RoundLemmas.{more_events}
 use Rattle.server_core.proofs.RoundLemmas.{no_stop}
 use Rattle.aprsc_daemon.specs.Phases.{is_partial, Counted, Gathering, Idle}
-use Rattle.aprsc_daemon.proofs.RunLemmas.{run_goes_on, tells_done}
 
 pub with_push : (events : List Event) (e : Event) (h : History) → with_events (events ++ e ∷ []) h ≡ did.Event e ∷ with_events events h
 with_push [] e h = refl
@@ -45,28 +48,31 @@ stopped_partial n (e ∷ events) h partial going =
     let parts = parts_of n e events partial in
     stopped_partial (n + 1) events (did.Event e ∷ h) parts.1 (ap (λ b. Rattle.std.proofs.Common.◌||◌ b (is_stopped h)) (no_stop n e parts.0) ∙ going)
 
-event_comes : (acts : List Act) (stopped : Bool) (e : Event) → acts ≡ [] → stopped ≡ false → MayCome acts stopped (did.Event e)
-event_comes acts stopped e none going = subst (λ xs. MayCome xs stopped (did.Event e)) (sym none) (going, tt)
+-- where a part of a round is there, nothing is to be done and no stop has come
+pub gathered_idles : {lines : List JournalLineSeen} (s : Setting) (core : CoreMeaning) (events : List Event) (more : History) → setting_of core.conf ≡ s → is_partial 0 events ≡ true → Gathering lines core events more → IsIdle s more
+gathered_idles s core events more same partial phase = (
+  ap (due s) phase.since ∙ due_partial s 0 events phase.before partial phase.resting.stands.finished (subst (λ t. due t phase.before ≡ []) same phase.resting.none),
+  ap is_stopped phase.since ∙ stopped_partial 0 events phase.before partial phase.going,
+)
 
 -- one event more of the same round
-pub run_gathers : (lines : List JournalLineSeen) (s : Setting) (start now next : Option Told) (core : CoreMeaning) (events : List Event) (e : Event) → setting_of core.conf ≡ s → is_partial 0 events ≡ true
-    → next ≡ option_map (with_done (did.Event e)) now → AppendsRun s start now (Gathering lines core events) → AppendsRun s start next (Gathering lines core (events ++ e ∷ []))
-run_gathers lines s start now next core events e same partial is run =
-    run_goes_on s start now next (did.Event e) (with_done (did.Event e)) (Gathering lines core events) (Gathering lines core (events ++ e ∷ []))
-    (tells_done s (did.Event e) refl refl refl) is (λ more phase.
-    let none : due s more ≡ [] =
-    ap (due s) phase.since
-    ∙ due_partial s 0 events phase.before partial phase.resting.stands.finished (subst (λ t. due t phase.before ≡ []) same phase.resting.none) in
-    let going : is_stopped more ≡ false = ap is_stopped phase.since ∙ stopped_partial 0 events phase.before partial phase.going in (
-      event_comes (due s more) (is_stopped more) e none going,
-      record {
-        before = phase.before;
-        since = ap (λ h. did.Event e ∷ h) phase.since ∙ sym (with_push events e phase.before);
-        resting = phase.resting;
-        going = phase.going;
-        all = phase.all;
-      },
-    )) run
+pub gathers_next : {lines : List JournalLineSeen} (core : CoreMeaning) (events : List Event) (e : Event) (more : History) → Gathering lines core events more → Gathering lines core (events ++ e ∷ []) (did.Event e ∷ more)
+gathers_next core events e more phase = record {
+  before = phase.before;
+  since = ap (λ h. did.Event e ∷ h) phase.since ∙ sym (with_push events e phase.before);
+  resting = phase.resting;
+  going = phase.going;
+  all = phase.all;
+}
+
+pub run_gathers : (lines : List JournalLineSeen) (s : Setting) (now next : Option Told) (before after : FrontSeen) (core : CoreMeaning) (events : List Event) (e : Event) → setting_of core.conf ≡ s → is_partial 0 events ≡ true
+    → TakesTurn now next before after e → GoesOn s now (front_state before) next (front_state after) (Gathering lines core events) (Gathering lines core (events ++ e ∷ []))
+run_gathers lines s now next before after core events e same partial turn =
+    turn_taken s now next before after e (Gathering lines core events) (Gathering lines core (events ++ e ∷ [])) turn
+    (λ more phase. (gathered_idles s core events more same partial phase, gathers_next core events e more phase))
+
+pub turn_port : (now next : Option Told) (before after : FrontSeen) (e : Event) → TakesTurn now next before after e → after.at ≡ before.at
+turn_port now next before after e turn = sym (turns_keep (paid_front before) turn.came after e turn.turns)
 
 -- where a part of a round is there, no act is due
 pub gathered_none : {lines : List JournalLineSeen} (s : Setting) (core : CoreMeaning) (events : List Event) (more : History) → setting_of core.conf ≡ s → is_partial 0 events ≡ true → Gathering lines core events more → due s more ≡ []

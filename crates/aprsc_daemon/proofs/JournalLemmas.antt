@@ -9,7 +9,11 @@ use Rattle.aprs_history.specs.Setting.{Setting}
 use Rattle.aprs_history.specs.History.{History, ends_round, open_events, trace_of}
 use Rattle.aprs_history.specs.Rounds.{AreFresh, is_whole, listens_after, with_events}
 use Rattle.aprs_history.specs.Dials.{CastSeen}
-use Rattle.aprs_history.specs.Runs.{AppendsRun, are_listens}
+use Rattle.aprs_conf.specs.Seen.{ConfSeen}
+use Rattle.aprsc_daemon.specs.Runs.{RunsFor, setting_named}
+use Rattle.aprs_history.specs.Runs.{are_listens}
+use Rattle.front_history.specs.Serving.{ActsOn}
+use Rattle.front_history.proofs.ServesLemmas.{acts_then, serves_same, serves_so}
 use Rattle.aprs_base.specs.Outside.{Told}
 use Rattle.aprs_history.specs.Journal.{journal_of, round_lines}
 use Rattle.server_core.proofs.RoundLemmas.{ends_not, more_events}
@@ -18,7 +22,7 @@ use Rattle.aprsc_daemon.specs.Phases.{Acting, AreFirst, Broken, Counted, Gatheri
 use Rattle.aprsc_daemon.specs.Causes.{code_of_status, status_of}
 use Rattle.aprsc_daemon.specs.declared.serving.End.{End}
 use Rattle.aprsc_daemon.specs.declared.serving.End.TheVariants as ended
-use Rattle.aprsc_daemon.proofs.RunLemmas.{run_begins, run_told, run_weaker}
+use Rattle.aprsc_daemon.proofs.RunLemmas.{runs_begin}
 use Rattle.aprsc_daemon.proofs.EventLemmas.{counted_fresh, gathered_fresh, gathering_idle, partial_next, parts_of, whole_next}
 
 -- an event adds lines where it ends its round
@@ -151,11 +155,12 @@ acts_break {lines} s core dial casts offers closes more same phase = record {
 }
 
 -- an act for which memory was wanting
-pub acts_broken : (lines : List JournalLineSeen) (s : Setting) (start now next : Option Told) (core : CoreMeaning) (dial : Option ℕ) (casts : List CastSeen) (offers closes : List ℕ) → setting_of core.conf ≡ s → next ≡ now
-    → AppendsRun s start now (Acting lines core dial casts offers closes) → AppendsRun s start next (Broken s lines)
-acts_broken lines s start now next core dial casts offers closes same stays run =
-    run_told s start now next (Broken s lines) stays
-    (run_weaker s start now (Acting lines core dial casts offers closes) (Broken s lines) (λ more. acts_break s core dial casts offers closes more same) run)
+pub acts_broken : (lines : List JournalLineSeen) (s : Setting) (now next : Option Told) (core : CoreMeaning) (dial : Option ℕ) (casts : List CastSeen) (offers closes : List ℕ) → setting_of core.conf ≡ s → next ≡ now
+    → ActsOn s now next (Acting lines core dial casts offers closes) (Broken s lines)
+acts_broken lines s now next core dial casts offers closes same stays =
+    acts_then s now now next (Acting lines core dial casts offers closes) (Broken s lines) (Broken s lines)
+    (serves_so s now (Acting lines core dial casts offers closes) (Broken s lines) (λ more. acts_break s core dial casts offers closes more same))
+    (serves_same s now next (Broken s lines) stays)
 
 -- where nothing but listeners was opened there is no line
 pub only_listens_untold : (s : Setting) (h : History) → are_listens h ≡ true → journal_of s h ≡ []
@@ -177,5 +182,5 @@ told_none code s more only =
     record { first = all_first s more [] none; whole = λ sound. none }
 
 -- nor where nothing happened
-pub untouched : (s : Setting) (now : Option Told) (code : ℕ) → AppendsRun s now now (JournalTold code s [])
-untouched s now code = run_begins s now (JournalTold code s []) (told_none code s [] refl)
+pub untouched : (conf : ConfSeen) (now : Option Told) (code : ℕ) → RunsFor conf now now (JournalTold code (setting_named conf) [])
+untouched conf now code = runs_begin conf now (JournalTold code (setting_named conf) []) (told_none code (setting_named conf) [] refl)

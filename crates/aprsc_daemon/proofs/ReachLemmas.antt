@@ -1,5 +1,5 @@
 -- A run goes on by a dial or a cast.
-use Rattle.std.proofs.Common.{◌≡◌, ℕ, zero, suc, ◌<◌, ◌≤◌, get_or, Bool, List, [], ◌∷◌, ◌++◌, length, map, refl, sym, ap, ◌∙◌, subst, arith, Option, Some, None, append-nil, Result, Ok, Err, OnOk}
+use Rattle.std.proofs.Common.{◌≡◌, ℕ, zero, suc, ◌<◌, ◌≤◌, get_or, Bool, List, [], ◌∷◌, ◌++◌, length, map, refl, sym, ap, ◌∙◌, subst, arith, Option, Some, None, append-nil, Result, Ok, Err, OnErr, OnOk}
 use Rattle.std.specs.Option.{option_map}
 use Rattle.std.specs.Prelude.{slice_get}
 use Rattle.std.proofs.lemmas.List.{length-map}
@@ -16,16 +16,23 @@ use Rattle.aprs_history.specs.Setting.{Setting}
 use Rattle.aprs_history.specs.History.{History, is_stopped, trace_of}
 use Rattle.aprs_history.specs.Acts.{Act, Casts, Closes, Dials, MayCome, but_first, cast_act, due, offer_to}
 use Rattle.aprs_history.specs.Dials.{CastSeen}
-use Rattle.aprs_history.specs.Runs.{AppendsRun, address_of}
+use Rattle.aprs_history.specs.Runs.{address_of}
+use Rattle.front_history.specs.Answers.{wired}
+use Rattle.front_history.specs.Serving.{ActsOn, Serves}
+use Rattle.front_history.proofs.ServesLemmas.{Tells, server_acts}
 use Rattle.aprs_history.proofs.ReachLemmas.{dials_are_of_uplinks, peers_get_submissions}
 use Rattle.server_core.specs.Meaning.{CoreMeaning, Stands, peer_of, setting_of}
 use Rattle.aprsc_daemon.specs.Phases.{Acting, Owing}
-use Rattle.aprsc_daemon.proofs.RunLemmas.{Tells, run_goes_on}
 
 -- what follows in each good answer
 pub ok_then : {T E P Q : Type 0} (result : Result T E) → OnOk result P → (P → Q) → OnOk result Q
 ok_then (Ok x) p then = then p
 ok_then (Err e) p then = tt
+
+-- and in each error
+pub err_then : {T E P Q : Type 0} (result : Result T E) → OnErr result P → (P → Q) → OnErr result Q
+err_then (Ok x) p then = tt
+err_then (Err e) p then = then p
 
 -- what a search by number gave
 pub found_at : {X : Type 0} (xs : List X) (i n : ℕ) (x : X) → i ≡ n → i < length xs → x ≡ get_or xs i x → slice_get xs n ≡ Some x
@@ -61,22 +68,22 @@ due_dial s core uplink casts offers closes more same phase =
     subst (λ t. MayCome (due t more) (is_stopped more) (did.Dialled uplink)) same
     (dial_comes (due (setting_of core.conf) more) (is_stopped more) uplink (map cast_act casts ++ (map (offer_to (setting_of core.conf) phase.owing.round) offers ++ map Closes closes)) phase.owing.owed)
 
-pub run_dials : (lines : List JournalLineSeen) (s : Setting) (start now next : Option Told) (core : CoreMeaning) (uplink : ℕ) (spec : UplinkSeen) (casts : List CastSeen) (offers closes : List ℕ) → setting_of core.conf ≡ s
+pub run_dials : (lines : List JournalLineSeen) (s : Setting) (now next : Option Told) (core : CoreMeaning) (uplink : ℕ) (spec : UplinkSeen) (casts : List CastSeen) (offers closes : List ℕ) → setting_of core.conf ≡ s
     → slice_get core.conf.uplinks uplink ≡ Some spec → next ≡ option_map (with_dial uplink spec) now
-    → AppendsRun s start now (Acting lines core (Some uplink) casts offers closes) → AppendsRun s start next (Acting lines core None casts offers closes)
-run_dials lines s start now next core uplink spec casts offers closes same at is run =
-    run_goes_on s start now next (did.Dialled uplink) (with_dial uplink spec) (Acting lines core (Some uplink) casts offers closes) (Acting lines core None casts offers closes)
-    (tells_dial s uplink spec (ap (λ t. slice_get t.uplinks uplink) (sym same) ∙ at)) is (λ more phase. (
+    → ActsOn s now next (Acting lines core (Some uplink) casts offers closes) (Acting lines core None casts offers closes)
+run_dials lines s now next core uplink spec casts offers closes same at is =
+    server_acts s now next (did.Dialled uplink) (with_dial uplink spec) (Acting lines core (Some uplink) casts offers closes) (Acting lines core None casts offers closes)
+    tt (λ port. tells_dial (wired port s) uplink spec (ap (λ t. slice_get t.uplinks uplink) (sym same) ∙ at)) is (λ more phase. (
       due_dial s core uplink casts offers closes more same phase,
       record { stands = stands_dialled core uplink more phase.stands; journal = phase.journal; owing = owing_dialled core.conf uplink casts offers closes more phase.owing },
-    )) run
+    ))
 
 -- a dial that is due is of an uplink that is there
-pub dial_there : (lines : List JournalLineSeen) (s : Setting) (start now : Option Told) (core : CoreMeaning) (uplink : ℕ) (casts : List CastSeen) (offers closes : List ℕ) → setting_of core.conf ≡ s → slice_get core.conf.uplinks uplink ≡ None
-    → AppendsRun s start now (Acting lines core (Some uplink) casts offers closes) → AppendsRun s start now (Acting lines core None casts offers closes)
-dial_there lines s None now core uplink casts offers closes same none run = run
-dial_there lines s (Some old) now core uplink casts offers closes same none run =
-    let lt = dials_are_of_uplinks s [] run.0 uplink (run.2, due_dial s core uplink casts offers closes run.0 same run.3) in
+pub dial_there : (lines : List JournalLineSeen) (s : Setting) (now : Option Told) (core : CoreMeaning) (uplink : ℕ) (casts : List CastSeen) (offers closes : List ℕ) → setting_of core.conf ≡ s → slice_get core.conf.uplinks uplink ≡ None
+    → ActsOn s now now (Acting lines core (Some uplink) casts offers closes) (Acting lines core None casts offers closes)
+dial_there lines s now core uplink casts offers closes same none state None serves = serves
+dial_there lines s now core uplink casts offers closes same none state (Some old) serves =
+    let lt = dials_are_of_uplinks s [] serves.1 uplink (serves.4, due_dial s core uplink casts offers closes serves.1 same serves.5) in
     absurd (none_within core.conf.uplinks uplink none (subst (λ t. uplink < length t.uplinks) (sym same) lt))
 
 -- ---- a cast
@@ -102,24 +109,32 @@ due_cast s core cast bytes casts offers closes more same line phase =
     subst (λ t. MayCome (due t more) (is_stopped more) (did.Cast cast.peer bytes)) same
     (cast_comes (due (setting_of core.conf) more) (is_stopped more) cast.peer bytes (ended_line cast.line) (map cast_act casts ++ (map (offer_to (setting_of core.conf) phase.owing.round) offers ++ map Closes closes)) phase.owing.owed line)
 
-pub run_casts : (lines : List JournalLineSeen) (s : Setting) (start now next : Option Told) (core : CoreMeaning) (cast : CastSeen) (peer : PeerSpec) (bytes : List ℕ) (casts : List CastSeen) (offers closes : List ℕ) → setting_of core.conf ≡ s
+pub run_casts : (lines : List JournalLineSeen) (s : Setting) (now next : Option Told) (core : CoreMeaning) (cast : CastSeen) (peer : PeerSpec) (bytes : List ℕ) (casts : List CastSeen) (offers closes : List ℕ) → setting_of core.conf ≡ s
     → slice_get core.conf.peers cast.peer ≡ Some peer → bytes ≡ ended_line cast.line → next ≡ option_map (with_cast cast.peer peer.at bytes) now
-    → AppendsRun s start now (Acting lines core None (cast ∷ casts) offers closes) → AppendsRun s start next (Acting lines core None casts offers closes)
-run_casts lines s start now next core cast peer bytes casts offers closes same at line is run =
+    → ActsOn s now next (Acting lines core None (cast ∷ casts) offers closes) (Acting lines core None casts offers closes)
+run_casts lines s now next core cast peer bytes casts offers closes same at line is =
     let to : option_map address_of (slice_get s.peers cast.peer) ≡ Some peer.at =
     ap (λ t. option_map address_of (slice_get t.peers cast.peer)) (sym same)
     ∙ ap (option_map address_of) (slice_get-map peer_of core.conf.peers cast.peer ∙ ap (option_map peer_of) at) in
-    run_goes_on s start now next (did.Cast cast.peer bytes) (with_cast cast.peer peer.at bytes) (Acting lines core None (cast ∷ casts) offers closes) (Acting lines core None casts offers closes)
-    (tells_cast s cast.peer peer.at bytes to) is (λ more phase. (
+    server_acts s now next (did.Cast cast.peer bytes) (with_cast cast.peer peer.at bytes) (Acting lines core None (cast ∷ casts) offers closes) (Acting lines core None casts offers closes)
+    tt (λ port. tells_cast (wired port s) cast.peer peer.at bytes to) is (λ more phase. (
       due_cast s core cast bytes casts offers closes more same line phase,
       record { stands = stands_cast core cast.peer bytes more phase.stands; journal = phase.journal; owing = owing_cast core.conf cast bytes casts offers closes more phase.owing },
-    )) run
+    ))
 
 -- a cast that is due is for a peer that is there
-pub cast_there : (lines : List JournalLineSeen) (s : Setting) (start now : Option Told) (core : CoreMeaning) (cast : CastSeen) (casts : List CastSeen) (offers closes : List ℕ) → setting_of core.conf ≡ s → slice_get core.conf.peers cast.peer ≡ None
-    → AppendsRun s start now (Acting lines core None (cast ∷ casts) offers closes) → AppendsRun s start now (Acting lines core None casts offers closes)
-cast_there lines s None now core cast casts offers closes same none run = run
-cast_there lines s (Some old) now core cast casts offers closes same none run =
+pub cast_there : (lines : List JournalLineSeen) (s : Setting) (now : Option Told) (core : CoreMeaning) (cast : CastSeen) (casts : List CastSeen) (offers closes : List ℕ) → setting_of core.conf ≡ s → slice_get core.conf.peers cast.peer ≡ None
+    → ActsOn s now now (Acting lines core None (cast ∷ casts) offers closes) (Acting lines core None casts offers closes)
+cast_there lines s now core cast casts offers closes same none state None serves = serves
+cast_there lines s now core cast casts offers closes same none state (Some old) serves =
     let bytes = ended_line cast.line in
-    let lt = (peers_get_submissions s [] run.0 cast.peer bytes (run.2, due_cast s core cast bytes casts offers closes run.0 same refl run.3)).0 in
+    let lt = (peers_get_submissions s [] serves.1 cast.peer bytes (serves.4, due_cast s core cast bytes casts offers closes serves.1 same refl serves.5)).0 in
     absurd (none_within core.conf.peers cast.peer none (subst (λ n. cast.peer < n) (length-map core.conf.peers peer_of) (subst (λ t. cast.peer < length t.peers) (sym same) lt)))
+
+-- the dial, and then the casts, as the acts have them
+pub reach_then : (lines : List JournalLineSeen) (s : Setting) (old mid new : Option Told) (core : CoreMeaning) (given dial : Option ℕ) (listed casts : List CastSeen) (offers closes : List ℕ) (R : History → Type 0) → given ≡ dial → listed ≡ casts
+    → ActsOn s old mid (Acting lines core given casts offers closes) (Acting lines core None casts offers closes) → ActsOn s mid new (Acting lines core None listed offers closes) R
+    → ActsOn s old new (Acting lines core dial casts offers closes) R
+reach_then lines s old mid new core given dial listed casts offers closes R dial_is casts_are dials reaches state start run =
+    reaches state start (subst (λ xs. Serves s start mid state (Acting lines core None xs offers closes)) (sym casts_are)
+    (dials state start (subst (λ d. Serves s start old state (Acting lines core d casts offers closes)) (sym dial_is) run)))

@@ -14,6 +14,14 @@ use Rattle.aprs_history.specs.Rounds.{AreFresh, is_whole, with_events, listens_a
 use Rattle.aprs_history.specs.Journal.{journal_of}
 use Rattle.aprs_history.specs.Acts.{due, listens_from}
 use Rattle.aprs_history.specs.Runs.{AppendsRun}
+use Rattle.aprs_conf.specs.Served.{served_conf, upload_number}
+use Rattle.http_submit.specs.Fronts.{FrontSeen, fresh_front}
+use Rattle.front_history.specs.Answers.{front_state}
+use Rattle.front_history.specs.Serving.{ActsOn, EndsOn, Opens}
+use Rattle.front_history.proofs.FrontLemmas.{appends_alone}
+use Rattle.aprsc_daemon.specs.Runs.{RunsFor, setting_named}
+use Rattle.aprsc_daemon.proofs.RunLemmas.{runs_opened, runs_served}
+use Rattle.front_history.proofs.ServesLemmas.{serves_so}
 use Rattle.server_core.proofs.OfferLemmas.{numbered_short}
 use Rattle.server_core.specs.ActsSeen.{ActsSeen}
 use Rattle.server_core.specs.Meaning.{AreActs, CoreMeaning, Stands, group_listens, listeners, numbered, setting_of}
@@ -22,14 +30,13 @@ use Rattle.aprsc_daemon.specs.Phases.{Acting, AreOfRound, Finished, Gathering, L
 use Rattle.aprsc_daemon.specs.declared.serving.End.TheVariants as ended
 use Rattle.aprsc_daemon.proofs.EventLemmas.{gathered_fresh}
 use Rattle.aprsc_daemon.proofs.JournalLemmas.{listens_untold, round_added}
-use Rattle.aprsc_daemon.proofs.RunLemmas.{run_weaker}
 
-pub begins_acts : (lines : List JournalLineSeen) (s : Setting) (start now : Option Told) (core new : CoreMeaning) (events : List Event) (acts : ActsSeen) (told : List JournalLineSeen) → new.conf ≡ core.conf
+pub begins_acts : (lines : List JournalLineSeen) (s : Setting) (now : Option Told) (core new : CoreMeaning) (events : List Event) (acts : ActsSeen) (told : List JournalLineSeen) → new.conf ≡ core.conf
     → is_whole 0 events ≡ true → AreOfRound core events told
     → AreFresh core.seen.greatest events → ((h : History) → Stands core h → Stands new (with_events events h)) → ((h : History) → Stands core h → AreActs (setting_of new.conf) (with_events events h) acts)
-    → AppendsRun s start now (Gathering lines core events) → AppendsRun s start now (Acting (lines ++ told) new acts.dial acts.casts acts.offers acts.closes)
-begins_acts lines s start now core new events acts told conf whole are fresh stands acts_are =
-    run_weaker s start now (Gathering lines core events) (Acting (lines ++ told) new acts.dial acts.casts acts.offers acts.closes) (λ more phase.
+    → ActsOn s now now (Gathering lines core events) (Acting (lines ++ told) new acts.dial acts.casts acts.offers acts.closes)
+begins_acts lines s now core new events acts told conf whole are fresh stands acts_are =
+    serves_so s now (Gathering lines core events) (Acting (lines ++ told) new acts.dial acts.casts acts.offers acts.closes) (λ more phase.
     record {
       stands = subst (Stands new) (sym phase.since) (stands phase.before phase.resting.stands);
       journal = ap (λ c. journal_of (setting_of c) more) conf ∙ ap (journal_of (setting_of core.conf)) phase.since
@@ -44,37 +51,29 @@ begins_acts lines s start now core new events acts told conf whole are fresh sta
     })
 
 -- the same links, as a slice has them
-pub offers_listed : (lines : List JournalLineSeen) (s : Setting) (start now : Option Told) (core : CoreMeaning) (offers closes links closed : List ℕ) → links ≡ offers → closed ≡ closes
-    → AppendsRun s start now (Offering lines core offers closes) → AppendsRun s start now (Offering lines core links closed)
-offers_listed lines s start now core offers closes links closed offers_are closes_are run =
-    subst (λ ns. AppendsRun s start now (Offering lines core links ns)) (sym closes_are) (subst (λ ns. AppendsRun s start now (Offering lines core ns closes)) (sym offers_are) run)
+pub offers_listed : (lines : List JournalLineSeen) (s : Setting) (now : Option Told) (core : CoreMeaning) (offers closes links closed : List ℕ) → links ≡ offers → closed ≡ closes
+    → ActsOn s now now (Offering lines core offers closes) (Offering lines core links closed)
+offers_listed lines s now core offers closes links closed offers_are closes_are =
+    serves_so s now (Offering lines core offers closes) (Offering lines core links closed) (λ more phase.
+    subst (λ ns. Offering lines core links ns more) (sym closes_are) (subst (λ ns. Offering lines core ns closes more) (sym offers_are) phase))
 
-pub rests : (lines : List JournalLineSeen) (s : Setting) (start now : Option Told) (core : CoreMeaning) → AppendsRun s start now (Offering lines core [] []) → AppendsRun s start now (Resting lines core)
-rests lines s start now core = run_weaker s start now (Offering lines core [] []) (Resting lines core) (λ more phase. record { stands = phase.stands; journal = phase.journal; none = phase.owing.owed; all = phase.owing.all; fresh = phase.owing.fresh })
+pub rests : (lines : List JournalLineSeen) (s : Setting) (now : Option Told) (core : CoreMeaning) → ActsOn s now now (Offering lines core [] []) (Resting lines core)
+rests lines s now core = serves_so s now (Offering lines core [] []) (Resting lines core) (λ more phase. record { stands = phase.stands; journal = phase.journal; none = phase.owing.owed; all = phase.owing.all; fresh = phase.owing.fresh })
 
-pub begins_round : (lines : List JournalLineSeen) (s : Setting) (start now : Option Told) (core : CoreMeaning) → core.seen.stopped ≡ false → AppendsRun s start now (Resting lines core) → AppendsRun s start now (Gathering lines core [])
-begins_round lines s start now core going = run_weaker s start now (Resting lines core) (Gathering lines core []) (λ more phase.
+pub begins_round : (lines : List JournalLineSeen) (s : Setting) (now : Option Told) (core : CoreMeaning) → core.seen.stopped ≡ false → ActsOn s now now (Resting lines core) (Gathering lines core [])
+begins_round lines s now core going = serves_so s now (Resting lines core) (Gathering lines core []) (λ more phase.
     record { before = more; since = refl; resting = phase; going = sym phase.stands.stopped ∙ going; all = phase.all })
 
 -- where the core stopped, the run is finished, and the core stands for it
-stopped_rests : {lines : List JournalLineSeen} (s : Setting) (core : CoreMeaning) (more : History) → setting_of core.conf ≡ s → core.seen.stopped ≡ true → Resting lines core more
+pub stopped_rests : {lines : List JournalLineSeen} (s : Setting) (core : CoreMeaning) (more : History) → setting_of core.conf ≡ s → core.seen.stopped ≡ true → Resting lines core more
     → Finished s more × StandsFor s core.seen more
 stopped_rests s core more same stopped phase = (
   record { stopped = sym phase.stands.stopped ∙ stopped; idle = record { none = subst (λ t. due t more ≡ []) same phase.none; all = phase.all ∙ ap (λ s. length s.listens) same; fresh = phase.fresh } },
   subst (λ t. StandsFor t core.seen more) same phase.stands,
 )
 
-pub finishes : (lines : List JournalLineSeen) (s : Setting) (start now : Option Told) (core : CoreMeaning) → setting_of core.conf ≡ s → core.seen.stopped ≡ true → AppendsRun s start now (Resting lines core)
-    → AppendsRun s start now (Served s ended.Stopped lines)
-finishes lines s start now core same stopped = run_weaker s start now (Resting lines core) (Served s ended.Stopped lines) (λ more phase. (
-  (stopped_rests s core more same stopped phase).0,
-  ap (λ t. journal_of t more) (sym same) ∙ phase.journal,
-))
-
-pub stands_at_last : (lines : List JournalLineSeen) (s : Setting) (start now : Option Told) (core : CoreMeaning) → setting_of core.conf ≡ s → core.seen.stopped ≡ true → AppendsRun s start now (Resting lines core)
-    → AppendsRun s start now (λ more. Finished s more × StandsFor s core.seen more)
-stands_at_last lines s start now core same stopped =
-    run_weaker s start now (Resting lines core) (λ more. Finished s more × StandsFor s core.seen more) (λ more phase. stopped_rests s core more same stopped phase)
+pub finishes : (lines : List JournalLineSeen) (s : Setting) (core : CoreMeaning) (more : History) → setting_of core.conf ≡ s → core.seen.stopped ≡ true → Resting lines core more → Served s ended.Stopped lines more
+finishes lines s core more same stopped phase = ((stopped_rests s core more same stopped phase).0, ap (λ t. journal_of t more) (sym same) ∙ phase.journal)
 
 -- where every listener is open, and nothing else happened, a new core stands for what happened
 pub listening_rests : (core : CoreMeaning) (conf : ConfSeen) (more : History) → core.conf ≡ conf → Stands core (only_listens (setting_of conf))
@@ -103,3 +102,28 @@ few_listeners conf sound =
     group_short : (group : Option Addr) → length (group_listens group) ≤ 1
     group_short None = omega arith
     group_short (Some at) = omega arith
+
+-- ---- a run from its configuration on
+
+-- listeners were opened for the configuration that is served
+pub run_opened : (conf served : ConfSeen) (front : FrontSeen) (start now : Option Told) (P : Setting → History → Type 0) → served ≡ served_conf conf → front ≡ fresh_front (upload_number conf)
+    → Opens (setting_of served) front start now (P (setting_of served)) → RunsFor conf start now (P (setting_named conf))
+run_opened conf served front start now P is front_is opens =
+    runs_opened conf front start now (P (setting_named conf)) front_is (subst (λ k. Opens (setting_of k) front start now (P (setting_of k))) is opens)
+
+-- and it was served up to its end
+pub run_ended : (conf served : ConfSeen) (front after : FrontSeen) (start mid now : Option Told) (core : CoreMeaning) (Q : Setting → History → Type 0) → served ≡ served_conf conf → front ≡ fresh_front (upload_number conf)
+    → after ≡ front → core.conf ≡ served → Opens (setting_of served) front start mid (Resting [] core)
+    → ((s : Setting) → setting_of core.conf ≡ s → EndsOn s mid (front_state after) now (Resting [] core) (Q s)) → RunsFor conf start now (Q (setting_named conf))
+run_ended conf served front after start mid now core Q is front_is after_is conf_is opens ends =
+    let s = setting_named conf in
+    runs_served conf front start mid now (Resting [] core) (Q s) front_is (subst (λ k. Opens (setting_of k) front start mid (Resting [] core)) is opens)
+    (subst (λ f. EndsOn s mid (front_state f) now (Resting [] core) (Q s)) after_is (ends s (ap setting_of (conf_is ∙ is))))
+
+-- behind a front without a port
+pub run_alone : (s : Setting) (front after : FrontSeen) (start mid now : Option Told) (P Q : History → Type 0) → front ≡ fresh_front None → after ≡ front → Opens s front start mid P
+    → EndsOn s mid (front_state after) now P Q → AppendsRun s start now Q
+run_alone s front after start mid now P Q front_is after_is opens ends =
+    let at : front.at ≡ None = ap (λ f. f.at) front_is in
+    let last = subst (λ f. EndsOn s mid (front_state f) now P Q) after_is ends start (opens (front_is ∙ ap fresh_front (sym at))) in
+    appends_alone s start now Q (last.0, last.1 ∙ at, last.2)

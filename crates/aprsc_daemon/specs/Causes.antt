@@ -12,10 +12,10 @@ use Rattle.aprs_history.specs.declared.verdicts.EndReason.{EndReason}
 use Rattle.aprs_history.specs.Trace.{Trace}
 use Rattle.aprs_history.specs.Trace as trace
 use Rattle.aprs_history.specs.Headline.{EndsBy, HasEnded, HasFreshLinks, IsOfAnother, TakesPrefix}
-use Rattle.aprs_history.specs.Runs.{AppendsRun, are_listens, listens_in}
+use Rattle.aprs_history.specs.Runs.{are_listens, listens_in}
 use Rattle.aprs_conf.specs.Seen.{ConfSeen}
 use Rattle.aprs_conf.specs.Grammar.{conf_of}
-use Rattle.server_core.specs.Meaning.{setting_of}
+use Rattle.aprsc_daemon.specs.Runs.{RunsFor, setting_named}
 use Rattle.aprsc_daemon.specs.Phases.{Finished, Idle}
 use Rattle.aprsc_daemon.specs.Saying.{Grew, bad_step_text, listen_failed_text, trouble_text, too_large_text, unread_text, usage_text, valid_text}
 use Rattle.drill_plan.specs.declared.plan.Plan.{Plan}
@@ -101,7 +101,7 @@ NamesNone words told = (conf : ConfSeen) → HasNamed task.Serve words told conf
 pub record IsServed (o : Outside) (P : Setting → History → Type 0) : Type 0 where
   pub conf : ConfSeen
   pub read : HasNamed task.Serve o.words o.files.told conf
-  pub run : AppendsRun (setting_of conf) o.wire.told o.wire_after.told (P (setting_of conf))
+  pub run : RunsFor conf o.wire.told o.wire_after.told (P (setting_named conf))
 
 -- ---- what is written
 
@@ -198,7 +198,7 @@ OpensOnly n more = (listens_in more ≡ n) × (are_listens more ≡ true)
 pub record HasNoListener (o : Outside) (text : List ℕ) : Type 0 where
   pub number : ℕ
   pub run : IsServed o (λ setting. OpensOnly number)
-  pub within : number < length (setting_of run.conf).listens
+  pub within : number < length (setting_named run.conf).listens
   pub line : text ≡ listen_failed_text number
 
 -- the status's cause is there but for the writing of this text

@@ -5,6 +5,7 @@ pub mod Drill
 pub mod Failing
 pub mod Loading
 pub mod Phases
+pub mod Runs
 pub mod Saying
 pub mod Telling
 pub mod Words

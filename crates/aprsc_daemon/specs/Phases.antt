@@ -1,7 +1,9 @@
 -- How far the serving of a wire has come: what holds of the happenings so far.
-use Rattle.std.specs.Prelude.{◌≡◌, ℕ, ◌+◌, ◌&&◌, Bool, true, false, not, List, [], ◌∷◌, ◌++◌, length, drop, map, Option, Some, None, if◌then◌else◌}
+use Rattle.std.specs.List.{AllZip}
+use Rattle.std.specs.Prelude.{◌≡◌, ◌⊎◌, ℕ, ◌+◌, ◌&&◌, Bool, true, false, not, List, [], ◌∷◌, ◌++◌, length, drop, map, Option, Some, None, if◌then◌else◌}
 use Rattle.aprs_base.specs.Outside.{Told}
 use Rattle.aprs_base.specs.declared.events.Event.{Event}
+use Rattle.aprs_base.specs.declared.events.Event.TheVariants as event
 use Rattle.aprs_base.specs.declared.events.Happening.{Happening}
 use Rattle.aprs_base.specs.declared.events.Happening.TheVariants as did
 use Rattle.aprs_history.specs.Setting.{Setting}
@@ -95,6 +97,20 @@ events_in (x ∷ more) = events_in more
 abbrev pub Brings : List Event → Option Told → Option Told → Type 0
 Brings events None new = new ≡ None
 Brings events (Some old) new = (told : Told) × (more : List Happening) × (new ≡ Some told) × (told.done ≡ old.done ++ more) × (events_in more ≡ events)
+
+-- bytes are handed up as a datagram to that port
+abbrev pub IsSubmitted : ℕ → Event → Event → Type 0
+IsSubmitted port (event.Bytes link bytes) (event.Datagram listener from body) = listener ≡ port
+IsSubmitted port came up = ⊥
+
+-- an event is handed up as it came, or its bytes as a datagram to the front's port
+abbrev pub IsHandedUp : Option ℕ → Event → Event → Type 0
+IsHandedUp None came up = up ≡ came
+IsHandedUp (Some port) came up = (up ≡ came) ⊎ IsSubmitted port came up
+
+-- events came, and for each of them one of these was handed up
+abbrev pub BringsUp : Option ℕ → List Event → Option Told → Option Told → Type 0
+BringsUp at events old new = (came : List Event) × Brings came old new × AllZip (IsHandedUp at) came events
 
 -- ---- the journal
 

@@ -13,6 +13,7 @@ use aprs_base::{
 };
 use aprs_conf::Conf;
 use drill_plan::{Events, Plan, copy_events};
+use http_submit::HttpFront;
 use std::alloc::Global;
 use std::hash::RandomState;
 use std::marker::{Model, Sync};
@@ -144,13 +145,15 @@ pub(crate) fn drill<R: Threads + Sync + Wait>(
 {
     let conf = drill_conf(alloc)?;
     let mut wire = DrillWire::new(alloc, asked.plan)?;
-    let Ok(mut core) = open(alloc, conf, asked.workers, &mut wire, hasher) else {
+    let mut front = HttpFront::new(alloc, None)?;
+    let Ok(mut core) = open(alloc, conf, asked.workers, &mut front, &mut wire, hasher) else {
         return Err(Memory);
     };
     let end = serve(
         rt,
         alloc,
         &mut core,
+        &mut front,
         &mut wire,
         &mut Vec::new(alloc),
         &OpenGate,

@@ -6,14 +6,13 @@ ghost use Rattle.aprs_base.specs.Stores.{FilesShown, Holds, SinkShown, bytes_nam
 ghost use Rattle.aprs_base.specs.Journals.{JournalLineSeen};
 ghost use Rattle.aprs_base.specs.Slots.{TakesDue, TakesLines};
 ghost use Rattle.aprs_base.specs.declared.files.MemFile.{MemFile};
-ghost use Rattle.aprs_history.specs.Runs.{AppendsRun};
 ghost use Rattle.aprs_conf.specs.Seen.{ConfSeen};
 ghost use Rattle.aprs_conf.specs.Sound.{IsSound};
 ghost use Rattle.aprs_conf.specs.Grammar.{conf_of};
-ghost use Rattle.server_core.specs.Meaning.{setting_of};
 ghost use Rattle.aprsc_daemon.specs.Causes.{Asks, Cause, CountsOnce, DrillEnds, Ended, HasCause, HasNamed, KeepsPromise, NamesNone, NetEnds, Opening, ReadsWell, Said, code_of_status, is_before_serving, outside_of, status_of};
 ghost use Rattle.aprsc_daemon.specs.Loading.{SaysUnfit};
 ghost use Rattle.aprsc_daemon.specs.Phases.{JournalTold};
+ghost use Rattle.aprsc_daemon.specs.Runs.{RunsFor, setting_named};
 ghost use Rattle.aprsc_daemon.specs.Asked.{IsBounded};
 ghost use Rattle.aprsc_daemon.specs.Words.{NetWordsSeen, ServerWordsSeen, asked_of, drill_of, net_of};
 
@@ -26,6 +25,7 @@ use crate::serving::{End, ListenError, open, serve};
 use crate::words::{DrillWords, NetWords, Task, Words, WordsError, read_words};
 use aprs_base::{FileError, Files, Gate, Memory, Sink, SinkError, Slot, Wire};
 use aprs_conf::Conf;
+use http_submit::HttpFront;
 use net_report::text_of;
 use net_script::ScriptError;
 use std::alloc::Global;
@@ -115,15 +115,21 @@ fn run_conf<R: Threads + Sync + Wait, W: Wire, S: Sink, G: Gate + Sync>(
     requires some { 1 ≤ workers }
     requires most { workers ≤ 64 }
     ensures journals { (told : List JournalLineSeen) × AllZip (TakesLines journal_shown told) journals.old.items journals.new.items
-        × AppendsRun (setting_of conf) (W.shown wire.old).told (W.shown wire.new).told (JournalTold (code_of_status result) (setting_of conf) told) }
+        × RunsFor conf (W.shown wire.old).told (W.shown wire.new).told (JournalTold (code_of_status result) (setting_named conf) told) }
     ensures still { is_before_serving (code_of_status result) ≡ true → journals.new ≡ journals.old }
     ensures cause { (words : List (List ℕ)) (files files_after : FilesShown) → HasNamed Task.Serve words files.told conf
         → ReadsWell words files files_after → Cause result (outside_of words files files_after
         (W.shown wire.old) (W.shown wire.new) (S.shown out.old) (S.shown out.new)) }
 {
-    match open(alloc, conf, workers, wire, hasher) {
+    let Ok(mut front) = HttpFront::new(alloc, conf.upload_number()) else {
+        return Status::NoMemory;
+    };
+    let Ok(served) = conf.served(alloc) else {
+        return Status::NoMemory;
+    };
+    match open(alloc, served, workers, &mut front, wire, hasher) {
         Ok(mut core) => {
-            let end = serve(rt, alloc, &mut core, wire, journals, gate);
+            let end = serve(rt, alloc, &mut core, &mut front, wire, journals, gate);
             // What it keeps isn't taken apart: the process ends next.
             forget(core);
             ended(end)
@@ -221,7 +227,7 @@ fn run<R: Threads + Sync + Wait, F: Files, W: Wire, S: Sink, G: Gate + Sync>(
     ensures journals { (conf : ConfSeen) (told_files : List MemFile) → (F.shown files.old).told ≡ Some told_files
         → HasNamed Task.Serve (map string_bytes words.now) (F.shown files.old).told conf
         → (told : List JournalLineSeen) × AllZip (TakesLines journal_shown told) journals.old.items journals.new.items
-        × AppendsRun (setting_of conf) (W.shown wire.old).told (W.shown wire.new).told (JournalTold (code_of_status result) (setting_of conf) told) }
+        × RunsFor conf (W.shown wire.old).told (W.shown wire.new).told (JournalTold (code_of_status result) (setting_named conf) told) }
     ensures checks { (asked : ServerWordsSeen) → asked_of (map string_bytes words.now) ≡ Some asked → asked.task ≡ Task.Check
         → (wire.new ≡ wire.old) × (journals.new ≡ journals.old) }
     ensures drill { (asked : DrillWords) → drill_of (map string_bytes words.now) ≡ Some asked
@@ -258,9 +264,11 @@ fn run<R: Threads + Sync + Wait, F: Files, W: Wire, S: Sink, G: Gate + Sync>(
 }
 
 /// Runs the server: the words are `-c FILE` and perhaps `-w N`, and the file holds the configuration. N is the most workers,
-/// 1 to 64, and 1 where it isn't given; each part of the links that they match goes through the gate. What happens on the wire is a run for this configuration, and the bytes that each link
-/// takes are a prefix of its defined text. With `-y` beside them the configuration is read and nothing else. `hasher` is the
-/// key of the tables in memory, on which no text depends.
+/// 1 to 64, and 1 where it isn't given; each part of the links that they match goes through the gate. What the server sees of
+/// what happens on the wire is a run for this configuration, and the bytes that each link takes are a prefix of its defined
+/// text. Those who submit by HTTP get a reply and are closed; the server sees a datagram in the place of a whole request, and
+/// nothing of the replies. With `-y` beside them the configuration is read and nothing else. `hasher` is the key of the tables
+/// in memory, on which no text depends.
 ///
 /// With `drill SEED LINES LINKS` and perhaps `-w N` in their place, the events of that drill are run over a wire of its own, and
 /// a line says what was counted. It depends on the three numbers alone.
@@ -283,21 +291,21 @@ pub fn aprsc<R: Threads + Sync + Wait, F: Files, W: Wire, S: Sink, G: Gate + Syn
     journals: &mut Vec<Slot>,
     gate: &G,
 ) -> u8
-    // Where the words ask for a run and the files tell what they hold, the happenings that the call appended are a run for
-    // the named configuration.
+    // Where the words ask for a run and the files tell what they hold, what the server saw of the happenings that the call
+    // appended is a run for the named configuration. All else of them are the replies that its front owed, and their closes.
     ensures run { (conf : ConfSeen) (told : List MemFile) → (F.shown files.old).told ≡ Some told
         → HasNamed Task.Serve (map string_bytes words.now) (F.shown files.old).told conf
-        → AppendsRun (setting_of conf) (W.shown wire.old).told (W.shown wire.new).told (Ended result (setting_of conf)) }
+        → RunsFor conf (W.shown wire.old).told (W.shown wire.new).told (Ended result (setting_named conf)) }
     // So the bytes that each link took are a prefix of its text, and a link was closed only for a reason.
     ensures headline { (conf : ConfSeen) (told : List MemFile) → (F.shown files.old).told ≡ Some told
         → HasNamed Task.Serve (map string_bytes words.now) (F.shown files.old).told conf
-        → AppendsRun (setting_of conf) (W.shown wire.old).told (W.shown wire.new).told (KeepsPromise (setting_of conf)) }
+        → RunsFor conf (W.shown wire.old).told (W.shown wire.new).told (KeepsPromise (setting_named conf)) }
     // The journals were told the lines of the history, each those of its kinds, as far as they didn't fail; after status 6
     // the lines of the last finished round may be missing.
     ensures journals { (conf : ConfSeen) (told_files : List MemFile) → (F.shown files.old).told ≡ Some told_files
         → HasNamed Task.Serve (map string_bytes words.now) (F.shown files.old).told conf
         → (told : List JournalLineSeen) × AllZip (TakesDue journal_shown told) journals.old.items journals.new.items
-        × AppendsRun (setting_of conf) (W.shown wire.old).told (W.shown wire.new).told (JournalTold result (setting_of conf) told) }
+        × RunsFor conf (W.shown wire.old).told (W.shown wire.new).told (JournalTold result (setting_named conf) told) }
     // Where the words ask for a check, the wire and the journals stay as they were.
     ensures checks { (asked : ServerWordsSeen) → asked_of (map string_bytes words.now) ≡ Some asked → asked.task ≡ Task.Check
         → (wire.new ≡ wire.old) × (journals.new ≡ journals.old) }
@@ -333,7 +341,7 @@ pub fn aprsc<R: Threads + Sync + Wait, F: Files, W: Wire, S: Sink, G: Gate + Syn
         → HasNamed Task.Serve (map string_bytes words.now) (F.shown files.old).told conf
         → ¬ Rose (F.shown files.old).faults (F.shown files.new).faults
         → result ≡ 7
-        → AppendsRun (setting_of conf) (W.shown wire.old).told (W.shown wire.new).told (Opening (setting_of conf)) }
+        → RunsFor conf (W.shown wire.old).told (W.shown wire.new).told (Opening (setting_named conf)) }
 {
     run(rt, alloc, words, files, wire, out, hasher, journals, gate).code()
 }

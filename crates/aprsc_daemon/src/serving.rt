@@ -10,13 +10,14 @@ ghost use Rattle.link_queue.specs.Lines.{ended_line};
 ghost use Rattle.aprs_history.specs.History.{History, ends_round, is_stopped, trace_of};
 ghost use Rattle.aprs_history.specs.Headline.{HasFreshLinks};
 ghost use Rattle.aprs_history.specs.Rounds.{AreFresh, greatest_after, is_whole, with_events};
-ghost use Rattle.aprs_history.specs.Runs.{AppendsRun};
+ghost use Rattle.front_history.specs.Answers.{front_state};
+ghost use Rattle.front_history.specs.Serving.{ActsOn, EndsOn, GoesOn, Opens};
 ghost use Rattle.aprs_history.specs.Trace.{is_member};
 ghost use Rattle.server_core.specs.LinkSteps.{AreServed, Rises, has_number, numbers, pending_at};
 ghost use Rattle.server_core.specs.Meaning.{CoreMeaning, listeners, setting_of};
 ghost use Rattle.aprsc_daemon.specs.Causes.{OpensOnly};
 ghost use Rattle.aprsc_daemon.specs.Failing.{FailsNot, failed_by_opening, failed_by_serving};
-ghost use Rattle.aprsc_daemon.specs.Phases.{Acting, AreOfRound, Brings, Broken, Counted, Finished, Gathering, Idling, Listening, Offering, Resting, Served, is_partial};
+ghost use Rattle.aprsc_daemon.specs.Phases.{Acting, AreOfRound, Brings, BringsUp, Broken, Counted, Finished, Gathering, Idling, Listening, Offering, Resting, Served, is_partial};
 ghost use Rattle.aprs_base.specs.Journals.{JournalLineSeen};
 ghost use Rattle.aprs_base.specs.Slots.{TakesLines};
 ghost use Rattle.aprs_history.specs.Runs.{are_listens};
@@ -28,6 +29,7 @@ use crate::journals::tell_all;
 use aprs_base::{Event, Gate, Line, ListenSpec, Memory, Sent, Slot, UplinkSpec, Wire, WireError};
 use aprs_conf::{Conf, PeerSpec};
 use arrayvec::ArrayVec;
+use http_submit::HttpFront;
 use server_core::{Acts, CastOut, Core, listeners};
 use std::alloc::Global;
 use std::hash::RandomState;
@@ -47,21 +49,26 @@ pub(crate) enum ListenError {
 }
 
 /// Opens each listener, in rising number.
-pub(crate) fn listen_all<W: Wire>(wire: &mut W, listens: &[ListenSpec]) -> Result<(), ListenError>
+pub(crate) fn listen_all<W: Wire>(
+    front: &mut HttpFront,
+    wire: &mut W,
+    listens: &[ListenSpec],
+) -> Result<(), ListenError>
     requires { length listens.now ≤ 17 }
+    ensures front { front.new ≡ front.old }
     ensures run { (s : Setting) → s.listens ≡ listens.now
-        → OnOk result (AppendsRun s (W.shown wire.old).told (W.shown wire.new).told (Listening s (length listens.now))) }
+        → OnOk result (Opens s front.old (W.shown wire.old).told (W.shown wire.new).told (Listening s (length listens.now))) }
     ensures failed { IfErr result (λ e. (n : ℕ) → e ≡ ListenError.Failed n
-        → (s : Setting) → s.listens ≡ listens.now → AppendsRun s (W.shown wire.old).told (W.shown wire.new).told (Listening s n)) }
+        → (s : Setting) → s.listens ≡ listens.now → Opens s front.old (W.shown wire.old).told (W.shown wire.new).told (Listening s n)) }
     ensures within { IfErr result (λ e. (n : ℕ) → e ≡ ListenError.Failed n → n < length listens.now) }
     ensures err { (s : Setting) → s.listens ≡ listens.now
-        → OnErr result (AppendsRun s (W.shown wire.old).told (W.shown wire.new).told (λ more. HasFreshLinks more × (are_listens more ≡ true))) }
+        → OnErr result (Opens s front.old (W.shown wire.old).told (W.shown wire.new).told (λ more. HasFreshLinks more × (are_listens more ≡ true))) }
     ensures listens { (W.shown wire.new).failed_listens ≡ failed_by_opening result (W.shown wire.old).failed_listens }
     ensures nexts { (W.shown wire.new).failed_nexts ≡ (W.shown wire.old).failed_nexts }
 {
     let mut n = 0;
     for spec in listens {
-        match wire.listen(n, spec) {
+        match front.listen(wire, n, spec) {
             Ok(()) => n += 1,
             Err(WireError::Failed) => return Err(ListenError::Failed(n)),
             Err(WireError::Memory) => return Err(ListenError::Memory),
@@ -75,26 +82,28 @@ pub(crate) fn open<W: Wire>(
     alloc: Global,
     conf: Conf,
     workers: u32,
+    front: &mut HttpFront,
     wire: &mut W,
     hasher: &RandomState,
 ) -> Result<Core, ListenError>
     requires sound { IsSound conf }
     requires some { 1 ≤ workers }
     requires most { workers ≤ 64 }
-    ensures run { IfOk result (λ core. AppendsRun (setting_of conf) (W.shown wire.old).told (W.shown wire.new).told (Resting [] core)) }
+    ensures front { front.new ≡ front.old }
+    ensures run { IfOk result (λ core. Opens (setting_of conf) front.old (W.shown wire.old).told (W.shown wire.new).told (Resting [] core)) }
     ensures conf { IfOk result (λ core. core.conf ≡ conf) }
     ensures fresh { IfOk result (λ core. (core.seen.greatest ≡ 0) × (core.seen.stopped ≡ false)) }
     ensures listen { IfErr result (λ e. (n : ℕ) → e ≡ ListenError.Failed n
-        → AppendsRun (setting_of conf) (W.shown wire.old).told (W.shown wire.new).told (OpensOnly n)) }
+        → Opens (setting_of conf) front.old (W.shown wire.old).told (W.shown wire.new).told (OpensOnly n)) }
     ensures within { IfErr result (λ e. (n : ℕ) → e ≡ ListenError.Failed n → n < length (listeners conf)) }
-    ensures err { OnErr result (AppendsRun (setting_of conf) (W.shown wire.old).told (W.shown wire.new).told (λ more. HasFreshLinks more × (are_listens more ≡ true))) }
+    ensures err { OnErr result (Opens (setting_of conf) front.old (W.shown wire.old).told (W.shown wire.new).told (λ more. HasFreshLinks more × (are_listens more ≡ true))) }
     ensures listens { (W.shown wire.new).failed_listens ≡ failed_by_opening result (W.shown wire.old).failed_listens }
     ensures nexts { (W.shown wire.new).failed_nexts ≡ (W.shown wire.old).failed_nexts }
 {
     let Ok(listens) = listeners(alloc, &conf) else {
         return Err(ListenError::Memory);
     };
-    listen_all(wire, listens.as_slice())?;
+    listen_all(front, wire, listens.as_slice())?;
     match Core::new(alloc, hasher, conf, workers) {
         Ok(core) => Ok(core),
         Err(Memory) => Err(ListenError::Memory),
@@ -109,54 +118,61 @@ fn is_last(before: usize, event: &Event) -> bool
 }
 
 /// Takes the next event, and says whether the round is whole with it.
-fn take_next<W: Wire>(wire: &mut W, events: &mut Vec<Event>) -> Result<bool, WireError>
+fn take_next<W: Wire>(
+    front: &mut HttpFront,
+    wire: &mut W,
+    events: &mut Vec<Event>,
+) -> Result<bool, WireError>
     requires { is_partial 0 events.old.items ≡ true }
     ensures whole { IfOk result (λ whole. MatchBool whole (is_whole 0 events.new.items ≡ true) (is_partial 0 events.new.items ≡ true)) }
     ensures more { OnOk result (length events.new.items ≡ length events.old.items + 1) }
-    ensures brings { (start : Option Told) → Brings events.old.items start (W.shown wire.old).told
-        → OnOk result (Brings events.new.items start (W.shown wire.new).told) }
+    ensures brings { (at : Option ℕ) (start : Option Told) → at ≡ front.old.at → BringsUp at events.old.items start (W.shown wire.old).told
+        → OnOk result (BringsUp at events.new.items start (W.shown wire.new).told) }
     ensures counted { (first : ℕ) → Counted first events.old.items (W.shown wire.old).links
         → OnOk result (Counted first events.new.items (W.shown wire.new).links) }
-    ensures run { (s : Setting) (start : Option Told) (lines : List JournalLineSeen) (core : CoreMeaning) → setting_of core.conf ≡ s
-        → AppendsRun s start (W.shown wire.old).told (Gathering lines core events.old.items)
-        → OnOk result (AppendsRun s start (W.shown wire.new).told (Gathering lines core events.new.items)) }
-    ensures failed { IsErrOf result WireError.Failed → (events.new.items ≡ events.old.items) × ((W.shown wire.new).told ≡ (W.shown wire.old).told) }
-    ensures err { (s : Setting) (start : Option Told) (lines : List JournalLineSeen) (core : CoreMeaning) (first : ℕ) → setting_of core.conf ≡ s
+    ensures run { (s : Setting) (lines : List JournalLineSeen) (core : CoreMeaning) → setting_of core.conf ≡ s
+        → OnOk result (GoesOn s (W.shown wire.old).told (front_state front.old) (W.shown wire.new).told (front_state front.new) (Gathering lines core events.old.items) (Gathering lines core events.new.items)) }
+    ensures idle { (s : Setting) (lines : List JournalLineSeen) (core : CoreMeaning) (first : ℕ) → setting_of core.conf ≡ s
         → core.seen.greatest ≤ first → Counted first events.old.items (W.shown wire.old).links
-        → AppendsRun s start (W.shown wire.old).told (Gathering lines core events.old.items)
-        → OnErr result (AppendsRun s start (W.shown wire.new).told (Broken s lines)) }
+        → IsErrOf result WireError.Failed → EndsOn s (W.shown wire.old).told (front_state front.old) (W.shown wire.new).told (Gathering lines core events.old.items) (Idling s lines) }
+    ensures err { (s : Setting) (lines : List JournalLineSeen) (core : CoreMeaning) (first : ℕ) → setting_of core.conf ≡ s
+        → core.seen.greatest ≤ first → Counted first events.old.items (W.shown wire.old).links
+        → OnErr result (EndsOn s (W.shown wire.old).told (front_state front.old) (W.shown wire.new).told (Gathering lines core events.old.items) (Broken s lines)) }
+    ensures port { OnOk result (front.new.at ≡ front.old.at) }
     ensures listens { (W.shown wire.new).failed_listens ≡ (W.shown wire.old).failed_listens }
     ensures nexts { (W.shown wire.new).failed_nexts ≡ failed_after result (W.shown wire.old).failed_nexts }
 {
-    let event = wire.next()?;
+    let event = front.next(wire)?;
     let whole = is_last(events.as_slice().len(), &event);
     events.push(event)?;
     Ok(whole)
 }
 
 /// Takes the events of one whole round.
-fn gather<W: Wire>(wire: &mut W, events: &mut Vec<Event>) -> Result<(), WireError>
+fn gather<W: Wire>(
+    front: &mut HttpFront,
+    wire: &mut W,
+    events: &mut Vec<Event>,
+) -> Result<(), WireError>
     requires { events.old.items ≡ [] }
     ensures whole { OnOk result (is_whole 0 events.new.items ≡ true) }
-    ensures brings { OnOk result (Brings events.new.items (W.shown wire.old).told (W.shown wire.new).told) }
+    ensures brings { OnOk result (BringsUp front.old.at events.new.items (W.shown wire.old).told (W.shown wire.new).told) }
     ensures counted { OnOk result (Counted (W.shown wire.old).links events.new.items (W.shown wire.new).links) }
-    ensures run { (s : Setting) (start : Option Told) (lines : List JournalLineSeen) (core : CoreMeaning) → setting_of core.conf ≡ s
-        → AppendsRun s start (W.shown wire.old).told (Gathering lines core [])
-        → OnOk result (AppendsRun s start (W.shown wire.new).told (Gathering lines core events.new.items)) }
-    ensures idle { (s : Setting) (start : Option Told) (lines : List JournalLineSeen) (core : CoreMeaning) → setting_of core.conf ≡ s
+    ensures run { (s : Setting) (lines : List JournalLineSeen) (core : CoreMeaning) → setting_of core.conf ≡ s
+        → OnOk result (GoesOn s (W.shown wire.old).told (front_state front.old) (W.shown wire.new).told (front_state front.new) (Gathering lines core []) (Gathering lines core events.new.items)) }
+    ensures idle { (s : Setting) (lines : List JournalLineSeen) (core : CoreMeaning) → setting_of core.conf ≡ s
         → core.seen.greatest ≤ (W.shown wire.old).links
-        → AppendsRun s start (W.shown wire.old).told (Gathering lines core [])
-        → IsErrOf result WireError.Failed → AppendsRun s start (W.shown wire.new).told (Idling s lines) }
-    ensures err { (s : Setting) (start : Option Told) (lines : List JournalLineSeen) (core : CoreMeaning) → setting_of core.conf ≡ s
+        → IsErrOf result WireError.Failed → EndsOn s (W.shown wire.old).told (front_state front.old) (W.shown wire.new).told (Gathering lines core []) (Idling s lines) }
+    ensures err { (s : Setting) (lines : List JournalLineSeen) (core : CoreMeaning) → setting_of core.conf ≡ s
         → core.seen.greatest ≤ (W.shown wire.old).links
-        → AppendsRun s start (W.shown wire.old).told (Gathering lines core [])
-        → OnErr result (AppendsRun s start (W.shown wire.new).told (Broken s lines)) }
+        → OnErr result (EndsOn s (W.shown wire.old).told (front_state front.old) (W.shown wire.new).told (Gathering lines core []) (Broken s lines)) }
+    ensures port { OnOk result (front.new.at ≡ front.old.at) }
     ensures listens { (W.shown wire.new).failed_listens ≡ (W.shown wire.old).failed_listens }
     ensures nexts { (W.shown wire.new).failed_nexts ≡ failed_after result (W.shown wire.old).failed_nexts }
 {
     let mut whole = false;
     while !whole {
-        whole = take_next(wire, events)?;
+        whole = take_next(front, wire, events)?;
     }
     Ok(())
 }
@@ -185,9 +201,8 @@ fn send_one<W: Wire>(
 ) -> Result<(), Memory>
     requires served { has_number link core.old.seen.links ≡ true }
     requires room { length buffer.old ≡ 65536 }
-    ensures run { (s : Setting) (start : Option Told) (lines : List JournalLineSeen) (offers closes : List ℕ) → setting_of core.old.conf ≡ s → is_member link offers ≡ false
-        → AppendsRun s start (W.shown wire.old).told (Offering lines core.old (link ∷ offers) closes)
-        → OnOk result (AppendsRun s start (W.shown wire.new).told (Offering lines core.new offers closes)) }
+    ensures run { (s : Setting) (lines : List JournalLineSeen) (offers closes : List ℕ) → setting_of core.old.conf ≡ s → is_member link offers ≡ false
+        → OnOk result (ActsOn s (W.shown wire.old).told (W.shown wire.new).told (Offering lines core.old (link ∷ offers) closes) (Offering lines core.new offers closes)) }
     ensures brings { OnOk result (Brings [] (W.shown wire.old).told (W.shown wire.new).told) }
     ensures err { OnErr result ((W.shown wire.new).told ≡ (W.shown wire.old).told) }
     ensures rest { SameRest core.old core.new }
@@ -214,12 +229,10 @@ fn send_all<W: Wire>(
     requires served { AreServed offers.now core.old.seen.links }
     requires rising { (high : ℕ) × Rises 0 offers.now high }
     requires room { length buffer.old ≡ 65536 }
-    ensures run { (s : Setting) (start : Option Told) (lines : List JournalLineSeen) (closes : List ℕ) → setting_of core.old.conf ≡ s
-        → AppendsRun s start (W.shown wire.old).told (Offering lines core.old offers.now closes)
-        → OnOk result (AppendsRun s start (W.shown wire.new).told (Offering lines core.new [] closes)) }
-    ensures err { (s : Setting) (start : Option Told) (lines : List JournalLineSeen) (closes : List ℕ) → setting_of core.old.conf ≡ s
-        → AppendsRun s start (W.shown wire.old).told (Offering lines core.old offers.now closes)
-        → OnErr result (AppendsRun s start (W.shown wire.new).told (Broken s lines)) }
+    ensures run { (s : Setting) (lines : List JournalLineSeen) (closes : List ℕ) → setting_of core.old.conf ≡ s
+        → OnOk result (ActsOn s (W.shown wire.old).told (W.shown wire.new).told (Offering lines core.old offers.now closes) (Offering lines core.new [] closes)) }
+    ensures err { (s : Setting) (lines : List JournalLineSeen) (closes : List ℕ) → setting_of core.old.conf ≡ s
+        → OnErr result (ActsOn s (W.shown wire.old).told (W.shown wire.new).told (Offering lines core.old offers.now closes) (Broken s lines)) }
     ensures brings { OnOk result (Brings [] (W.shown wire.old).told (W.shown wire.new).told) }
     ensures rest { SameRest core.old core.new }
     ensures failures { FailsNot (W.shown wire.old) (W.shown wire.new) }
@@ -233,12 +246,10 @@ fn send_all<W: Wire>(
 
 /// Closes each of these links.
 fn close_all<W: Wire>(wire: &mut W, closes: &[u32]) -> Result<(), Memory>
-    ensures run { (s : Setting) (start : Option Told) (lines : List JournalLineSeen) (core : CoreMeaning) → setting_of core.conf ≡ s
-        → AppendsRun s start (W.shown wire.old).told (Offering lines core [] closes.now)
-        → OnOk result (AppendsRun s start (W.shown wire.new).told (Offering lines core [] [])) }
-    ensures err { (s : Setting) (start : Option Told) (lines : List JournalLineSeen) (core : CoreMeaning) → setting_of core.conf ≡ s
-        → AppendsRun s start (W.shown wire.old).told (Offering lines core [] closes.now)
-        → OnErr result (AppendsRun s start (W.shown wire.new).told (Broken s lines)) }
+    ensures run { (s : Setting) (lines : List JournalLineSeen) (core : CoreMeaning) → setting_of core.conf ≡ s
+        → OnOk result (ActsOn s (W.shown wire.old).told (W.shown wire.new).told (Offering lines core [] closes.now) (Offering lines core [] [])) }
+    ensures err { (s : Setting) (lines : List JournalLineSeen) (core : CoreMeaning) → setting_of core.conf ≡ s
+        → OnErr result (ActsOn s (W.shown wire.old).told (W.shown wire.new).told (Offering lines core [] closes.now) (Broken s lines)) }
     ensures brings { OnOk result (Brings [] (W.shown wire.old).told (W.shown wire.new).told) }
     ensures failures { FailsNot (W.shown wire.old) (W.shown wire.new) }
     ensures links { (W.shown wire.new).links ≡ (W.shown wire.old).links }
@@ -251,10 +262,9 @@ fn close_all<W: Wire>(wire: &mut W, closes: &[u32]) -> Result<(), Memory>
 
 /// Begins the dial that is due.
 fn dial_due<W: Wire>(wire: &mut W, uplinks: &[UplinkSpec], dial: Option<u16>) -> Result<(), Memory>
-    ensures run { (s : Setting) (start : Option Told) (lines : List JournalLineSeen) (core : CoreMeaning) (casts : List CastSeen) (offers closes : List ℕ)
+    ensures run { (s : Setting) (lines : List JournalLineSeen) (core : CoreMeaning) (casts : List CastSeen) (offers closes : List ℕ)
         → setting_of core.conf ≡ s → core.conf.uplinks ≡ uplinks.now
-        → AppendsRun s start (W.shown wire.old).told (Acting lines core dial casts offers closes)
-        → OnOk result (AppendsRun s start (W.shown wire.new).told (Acting lines core None casts offers closes)) }
+        → OnOk result (ActsOn s (W.shown wire.old).told (W.shown wire.new).told (Acting lines core dial casts offers closes) (Acting lines core None casts offers closes)) }
     ensures err { OnErr result ((W.shown wire.new).told ≡ (W.shown wire.old).told) }
     ensures brings { OnOk result (Brings [] (W.shown wire.old).told (W.shown wire.new).told) }
     ensures failures { FailsNot (W.shown wire.old) (W.shown wire.new) }
@@ -282,10 +292,9 @@ fn datagram_of(line: &Line) -> ArrayVec<u8, 512>
 
 /// Casts a line to its peer.
 fn cast_one<W: Wire>(wire: &mut W, peers: &[PeerSpec], cast: &CastOut) -> Result<(), Memory>
-    ensures run { (s : Setting) (start : Option Told) (lines : List JournalLineSeen) (core : CoreMeaning) (casts : List CastSeen) (offers closes : List ℕ)
+    ensures run { (s : Setting) (lines : List JournalLineSeen) (core : CoreMeaning) (casts : List CastSeen) (offers closes : List ℕ)
         → setting_of core.conf ≡ s → core.conf.peers ≡ peers.now
-        → AppendsRun s start (W.shown wire.old).told (Acting lines core None (cast.now ∷ casts) offers closes)
-        → OnOk result (AppendsRun s start (W.shown wire.new).told (Acting lines core None casts offers closes)) }
+        → OnOk result (ActsOn s (W.shown wire.old).told (W.shown wire.new).told (Acting lines core None (cast.now ∷ casts) offers closes) (Acting lines core None casts offers closes)) }
     ensures err { OnErr result ((W.shown wire.new).told ≡ (W.shown wire.old).told) }
     ensures brings { OnOk result (Brings [] (W.shown wire.old).told (W.shown wire.new).told) }
     ensures failures { FailsNot (W.shown wire.old) (W.shown wire.new) }
@@ -299,14 +308,12 @@ fn cast_one<W: Wire>(wire: &mut W, peers: &[PeerSpec], cast: &CastOut) -> Result
 
 /// Makes each cast, in order.
 fn cast_all<W: Wire>(wire: &mut W, peers: &[PeerSpec], casts: &[CastOut]) -> Result<(), Memory>
-    ensures run { (s : Setting) (start : Option Told) (lines : List JournalLineSeen) (core : CoreMeaning) (offers closes : List ℕ)
+    ensures run { (s : Setting) (lines : List JournalLineSeen) (core : CoreMeaning) (offers closes : List ℕ)
         → setting_of core.conf ≡ s → core.conf.peers ≡ peers.now
-        → AppendsRun s start (W.shown wire.old).told (Acting lines core None casts.now offers closes)
-        → OnOk result (AppendsRun s start (W.shown wire.new).told (Offering lines core offers closes)) }
-    ensures err { (s : Setting) (start : Option Told) (lines : List JournalLineSeen) (core : CoreMeaning) (offers closes : List ℕ)
+        → OnOk result (ActsOn s (W.shown wire.old).told (W.shown wire.new).told (Acting lines core None casts.now offers closes) (Offering lines core offers closes)) }
+    ensures err { (s : Setting) (lines : List JournalLineSeen) (core : CoreMeaning) (offers closes : List ℕ)
         → setting_of core.conf ≡ s → core.conf.peers ≡ peers.now
-        → AppendsRun s start (W.shown wire.old).told (Acting lines core None casts.now offers closes)
-        → OnErr result (AppendsRun s start (W.shown wire.new).told (Broken s lines)) }
+        → OnErr result (ActsOn s (W.shown wire.old).told (W.shown wire.new).told (Acting lines core None casts.now offers closes) (Broken s lines)) }
     ensures brings { OnOk result (Brings [] (W.shown wire.old).told (W.shown wire.new).told) }
     ensures failures { FailsNot (W.shown wire.old) (W.shown wire.new) }
     ensures links { (W.shown wire.new).links ≡ (W.shown wire.old).links }
@@ -319,12 +326,12 @@ fn cast_all<W: Wire>(wire: &mut W, peers: &[PeerSpec], casts: &[CastOut]) -> Res
 
 /// Does what is due for other servers: the dial, and then the casts.
 fn reach_out<W: Wire>(wire: &mut W, conf: &Conf, acts: &Acts) -> Result<(), Memory>
-    ensures run { (s : Setting) (start : Option Told) (lines : List JournalLineSeen) (core : CoreMeaning) → setting_of core.conf ≡ s → core.conf ≡ conf.now
-        → AppendsRun s start (W.shown wire.old).told (Acting lines core acts.now.dial acts.now.casts acts.now.offers acts.now.closes)
-        → OnOk result (AppendsRun s start (W.shown wire.new).told (Offering lines core acts.now.offers acts.now.closes)) }
-    ensures err { (s : Setting) (start : Option Told) (lines : List JournalLineSeen) (core : CoreMeaning) → setting_of core.conf ≡ s → core.conf ≡ conf.now
-        → AppendsRun s start (W.shown wire.old).told (Acting lines core acts.now.dial acts.now.casts acts.now.offers acts.now.closes)
-        → OnErr result (AppendsRun s start (W.shown wire.new).told (Broken s lines)) }
+    ensures run { (s : Setting) (lines : List JournalLineSeen) (core : CoreMeaning) → setting_of core.conf ≡ s → core.conf ≡ conf.now
+        → OnOk result (ActsOn s (W.shown wire.old).told (W.shown wire.new).told
+        (Acting lines core acts.now.dial acts.now.casts acts.now.offers acts.now.closes) (Offering lines core acts.now.offers acts.now.closes)) }
+    ensures err { (s : Setting) (lines : List JournalLineSeen) (core : CoreMeaning) → setting_of core.conf ≡ s → core.conf ≡ conf.now
+        → OnErr result (ActsOn s (W.shown wire.old).told (W.shown wire.new).told
+        (Acting lines core acts.now.dial acts.now.casts acts.now.offers acts.now.closes) (Broken s lines)) }
     ensures brings { OnOk result (Brings [] (W.shown wire.old).told (W.shown wire.new).told) }
     ensures failures { FailsNot (W.shown wire.old) (W.shown wire.new) }
     ensures links { (W.shown wire.new).links ≡ (W.shown wire.old).links }
@@ -379,10 +386,9 @@ fn act<R: Threads + Sync, W: Wire, G: Gate + Sync>(
     requires going { core.old.seen.stopped ≡ false }
     requires room { length buffer.old ≡ 65536 }
     ensures run { (told : List JournalLineSeen) × AllZip (TakesLines journal_shown told) journals.old.items journals.new.items
-        × ((s : Setting) (start : Option Told) (lines : List JournalLineSeen) → setting_of core.old.conf ≡ s
-        → AppendsRun s start (W.shown wire.old).told (Gathering lines core.old events.now)
-        → OnOk result (AppendsRun s start (W.shown wire.new).told (Resting (lines ++ told) core.new))
-        × OnErr result (AppendsRun s start (W.shown wire.new).told (Broken s (lines ++ told)))) }
+        × ((s : Setting) (lines : List JournalLineSeen) → setting_of core.old.conf ≡ s
+        → OnOk result (ActsOn s (W.shown wire.old).told (W.shown wire.new).told (Gathering lines core.old events.now) (Resting (lines ++ told) core.new))
+        × OnErr result (ActsOn s (W.shown wire.old).told (W.shown wire.new).told (Gathering lines core.old events.now) (Broken s (lines ++ told)))) }
     ensures brings { OnOk result (Brings [] (W.shown wire.old).told (W.shown wire.new).told) }
     ensures conf { OnOk result (core.new.conf ≡ core.old.conf) }
     ensures greatest { OnOk result (core.new.seen.greatest ≡ greatest_after events.now core.old.seen.greatest) }
@@ -398,11 +404,13 @@ fn act<R: Threads + Sync, W: Wire, G: Gate + Sync>(
 }
 
 /// Serves one round, and says whether the server stopped with it. The events are those of a whole round; where the wire
-/// tells what happened, it brought them and no other in this call. The journals are told the round's lines, or none.
+/// tells what happened, it brought them and no other in this call, each as the front hands it up. The journals are told the
+/// round's lines, or none.
 fn serve_round<R: Threads + Sync, W: Wire, G: Gate + Sync>(
     rt: &R,
     alloc: Global,
     core: &mut Core,
+    front: &mut HttpFront,
     wire: &mut W,
     events: &mut Vec<Event>,
     journals: &mut Vec<Slot>,
@@ -413,13 +421,13 @@ fn serve_round<R: Threads + Sync, W: Wire, G: Gate + Sync>(
     requires numbered { core.old.seen.greatest ≤ (W.shown wire.old).links }
     requires room { length buffer.old ≡ 65536 }
     ensures run { (told : List JournalLineSeen) × AllZip (TakesLines journal_shown told) journals.old.items journals.new.items
-        × ((s : Setting) (start : Option Told) (lines : List JournalLineSeen) → setting_of core.old.conf ≡ s
-        → AppendsRun s start (W.shown wire.old).told (Resting lines core.old)
-        → OnOk result (AppendsRun s start (W.shown wire.new).told (Resting (lines ++ told) core.new))
-        × OnErr result (AppendsRun s start (W.shown wire.new).told (Broken s (lines ++ told)))
-        × (IsErrOf result WireError.Failed → AppendsRun s start (W.shown wire.new).told (Idling s (lines ++ told)))) }
+        × ((s : Setting) (lines : List JournalLineSeen) → setting_of core.old.conf ≡ s
+        → OnOk result (GoesOn s (W.shown wire.old).told (front_state front.old) (W.shown wire.new).told (front_state front.new) (Resting lines core.old) (Resting (lines ++ told) core.new))
+        × OnErr result (EndsOn s (W.shown wire.old).told (front_state front.old) (W.shown wire.new).told (Resting lines core.old) (Broken s (lines ++ told)))
+        × (IsErrOf result WireError.Failed → EndsOn s (W.shown wire.old).told (front_state front.old) (W.shown wire.new).told (Resting lines core.old) (Idling s (lines ++ told)))) }
+    ensures port { OnOk result (front.new.at ≡ front.old.at) }
     ensures whole { OnOk result (is_whole 0 events.new.items ≡ true) }
-    ensures brings { OnOk result (Brings events.new.items (W.shown wire.old).told (W.shown wire.new).told) }
+    ensures brings { OnOk result (BringsUp front.old.at events.new.items (W.shown wire.old).told (W.shown wire.new).told) }
     ensures conf { OnOk result (core.new.conf ≡ core.old.conf) }
     ensures numbered { OnOk result (core.new.seen.greatest ≤ (W.shown wire.new).links) }
     ensures done { IfOk result (λ done. done ≡ core.new.seen.stopped) }
@@ -427,7 +435,7 @@ fn serve_round<R: Threads + Sync, W: Wire, G: Gate + Sync>(
     ensures nexts { (W.shown wire.new).failed_nexts ≡ failed_after result (W.shown wire.old).failed_nexts }
 {
     events.clear();
-    gather(wire, events)?;
+    gather(front, wire, events)?;
     match act(
         rt,
         alloc,
@@ -458,6 +466,7 @@ pub(crate) fn serve<R: Threads + Sync + Wait, W: Wire, G: Gate + Sync>(
     rt: &R,
     alloc: Global,
     core: &mut Core,
+    front: &mut HttpFront,
     wire: &mut W,
     journals: &mut Vec<Slot>,
     gate: &G,
@@ -465,12 +474,10 @@ pub(crate) fn serve<R: Threads + Sync + Wait, W: Wire, G: Gate + Sync>(
     requires going { core.old.seen.stopped ≡ false }
     requires numbered { core.old.seen.greatest ≤ (W.shown wire.old).links }
     ensures run { (told : List JournalLineSeen) × AllZip (TakesLines journal_shown told) journals.old.items journals.new.items
-        × ((s : Setting) (start : Option Told) (lines : List JournalLineSeen) → setting_of core.old.conf ≡ s
-        → AppendsRun s start (W.shown wire.old).told (Resting lines core.old)
-        → AppendsRun s start (W.shown wire.new).told (Served s result (lines ++ told))) }
-    ensures stands { result ≡ End.Stopped → (s : Setting) (start : Option Told) (lines : List JournalLineSeen) → setting_of core.old.conf ≡ s
-        → AppendsRun s start (W.shown wire.old).told (Resting lines core.old)
-        → AppendsRun s start (W.shown wire.new).told (λ more. Finished s more × StandsFor s core.new.seen more) }
+        × ((s : Setting) (lines : List JournalLineSeen) → setting_of core.old.conf ≡ s
+        → EndsOn s (W.shown wire.old).told (front_state front.old) (W.shown wire.new).told (Resting lines core.old) (Served s result (lines ++ told))) }
+    ensures stands { result ≡ End.Stopped → (s : Setting) (lines : List JournalLineSeen) → setting_of core.old.conf ≡ s
+        → EndsOn s (W.shown wire.old).told (front_state front.old) (W.shown wire.new).told (Resting lines core.old) (λ more. Finished s more × StandsFor s core.new.seen more) }
     ensures listens { (W.shown wire.new).failed_listens ≡ (W.shown wire.old).failed_listens }
     ensures nexts { (W.shown wire.new).failed_nexts ≡ failed_by_serving result (W.shown wire.old).failed_nexts }
 {
@@ -481,6 +488,7 @@ pub(crate) fn serve<R: Threads + Sync + Wait, W: Wire, G: Gate + Sync>(
             rt,
             alloc,
             core,
+            front,
             wire,
             &mut events,
             journals,

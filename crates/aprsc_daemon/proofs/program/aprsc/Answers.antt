@@ -1,8 +1,7 @@
 use Rattle.std.proofs.Common.{◌≡◌, ◌⊎◌, ap, map, sym, ◌∙◌, subst}
 use Rattle.std.specs.Prelude.{string_bytes}
-use Rattle.aprs_history.specs.Runs.{AppendsRun}
 use Rattle.aprs_base.proofs.SlotLemmas.{each_takes_due}
-use Rattle.server_core.specs.Meaning.{setting_of}
+use Rattle.aprsc_daemon.specs.Runs.{RunsFor, setting_named}
 use Rattle.aprsc_daemon.specs.Phases.{JournalTold}
 use Rattle.aprsc_daemon.specs.Causes.{CountsOnce, DrillEnds, Ended, NetEnds, Outside, is_before_serving, outside_of}
 use Rattle.aprsc_daemon.proofs.CauseLemmas.{complete, counts, early, headline, keeps_promise, net_ends, not_named}
@@ -11,12 +10,12 @@ use Rattle.aprsc_daemon.proofs.program.aprsc.Goals as goal
 
 pub returns-clause-run : goal.returns-clause-run
 returns-clause-run g c = λ conf told tells read.
-    subst (λ n. AppendsRun (setting_of conf) (g.W.Wire.shown c.args.wire.now).told (g.W.Wire.shown c.run.new.wire).told (Ended n (setting_of conf))) (sym c.code.ensures)
+    subst (λ n. RunsFor conf (g.W.Wire.shown c.args.wire.now).told (g.W.Wire.shown c.run.new.wire).told (Ended n (setting_named conf))) (sym c.code.ensures)
     (headline _ told conf c.run.result tells read c.run.ensures.cause)
 
 pub returns-clause-headline : goal.returns-clause-headline
 returns-clause-headline g c = λ conf told tells read.
-    keeps_promise (setting_of conf) (g.W.Wire.shown c.args.wire.now).told (g.W.Wire.shown c.run.new.wire).told _ (headline _ told conf c.run.result tells read c.run.ensures.cause)
+    keeps_promise conf (g.W.Wire.shown c.args.wire.now).told (g.W.Wire.shown c.run.new.wire).told _ (headline _ told conf c.run.result tells read c.run.ensures.cause)
 
 pub returns-clause-cause : goal.returns-clause-cause
 returns-clause-cause g c = (c.run.result, c.code.ensures, c.run.ensures.cause)
@@ -40,7 +39,7 @@ returns-clause-journals g c = λ conf told_files tells read.
     let told = c.run.ensures.journals conf told_files tells read in (
       told.0,
       each_takes_due (λ z. (goal.Journal-dyn g z).journal_shown z.1) told.0 c.args.journals.now.items c.run.new.journals.items told.1,
-      subst (λ n. AppendsRun (setting_of conf) (g.W.Wire.shown c.args.wire.now).told (g.W.Wire.shown c.run.new.wire).told (JournalTold n (setting_of conf) told.0)) (sym c.code.ensures) told.2,
+      subst (λ n. RunsFor conf (g.W.Wire.shown c.args.wire.now).told (g.W.Wire.shown c.run.new.wire).told (JournalTold n (setting_named conf) told.0)) (sym c.code.ensures) told.2,
     )
 
 pub returns-clause-drill : goal.returns-clause-drill

@@ -1,7 +1,6 @@
 use Rattle.std.proofs.Common.{◌≡◌, ◌∙◌, [], Err, Some, ap, inl, map, refl, subst, sym}
 use Rattle.std.specs.Prelude.{string_bytes}
 use Rattle.aprs_base.proofs.SlotLemmas.{each_takes-none}
-use Rattle.server_core.specs.Meaning.{setting_of}
 use Rattle.aprsc_daemon.specs.Causes.{code_of_status}
 use Rattle.aprsc_daemon.specs.Asked.{AskFor}
 use Rattle.aprsc_daemon.specs.Words.{ServerWordsSeen, asked_of}
@@ -22,10 +21,10 @@ pub returns-in-Err-Memory-clause-cause : goal.returns-in-Err-Memory-clause-cause
 returns-in-Err-Memory-clause-cause g c = memory_cause _ refl (inl refl) (record { file = inl (refl, refl, refl); reads = refl; listens = refl; nexts = refl })
 
 pub returns-in-Err-Refused-clause-journals : goal.returns-in-Err-Refused-clause-journals
-returns-in-Err-Refused-clause-journals g c = λ conf told_files tells read. ([], each_takes-none (λ z. (goal.Journal-dyn g z).journal_shown z.1) c.args.journals.now.items, untouched (setting_of conf) (g.W.Wire.shown c.args.wire.now).told (code_of_status _))
+returns-in-Err-Refused-clause-journals g c = λ conf told_files tells read. ([], each_takes-none (λ z. (goal.Journal-dyn g z).journal_shown z.1) c.args.journals.now.items, untouched conf (g.W.Wire.shown c.args.wire.now).told (code_of_status _))
 
 pub returns-in-Err-Memory-clause-journals : goal.returns-in-Err-Memory-clause-journals
-returns-in-Err-Memory-clause-journals g c = λ conf told_files tells read. ([], each_takes-none (λ z. (goal.Journal-dyn g z).journal_shown z.1) c.args.journals.now.items, untouched (setting_of conf) (g.W.Wire.shown c.args.wire.now).told (code_of_status status.NoMemory))
+returns-in-Err-Memory-clause-journals g c = λ conf told_files tells read. ([], each_takes-none (λ z. (goal.Journal-dyn g z).journal_shown z.1) c.args.journals.now.items, untouched conf (g.W.Wire.shown c.args.wire.now).told (code_of_status status.NoMemory))
 
 pub returns-in-Ok-Drill-clause-journals : goal.returns-in-Ok-Drill-clause-journals
 returns-in-Ok-Drill-clause-journals g c = λ conf told_files tells read. absurd (not_both_modes (map string_bytes c.args.words.now) c.in-Ok-Drill.asked read.asked (subst (AskFor (map string_bytes c.args.words.now)) c.in-Ok-Drill.field-0-is c.in-Ok-Drill.ensures.value) read.named)
@@ -71,7 +70,7 @@ returns-in-Check-clause-cause g c =
     valid_cause _ c.in-Ok.conf c.say_made.result read refl (record { file = well.0; reads = well.1; listens = refl; nexts = refl }) (c.say_made.ensures (valid_text c.asked.inside.file.now) c.valid.ensures)
 
 pub returns-in-Err-clause-journals : goal.returns-in-Err-clause-journals
-returns-in-Err-clause-journals g c = λ conf told_files tells read. ([], each_takes-none (λ z. (goal.Journal-dyn g z).journal_shown z.1) c.args.journals.now.items, untouched (setting_of conf) (g.W.Wire.shown c.args.wire.now).told (code_of_status _))
+returns-in-Err-clause-journals g c = λ conf told_files tells read. ([], each_takes-none (λ z. (goal.Journal-dyn g z).journal_shown z.1) c.args.journals.now.items, untouched conf (g.W.Wire.shown c.args.wire.now).told (code_of_status _))
 
 pub returns-in-Err-clause-cause : goal.returns-in-Err-clause-cause
 returns-in-Err-clause-cause g c =

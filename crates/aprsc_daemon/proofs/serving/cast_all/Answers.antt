@@ -1,9 +1,9 @@
 use Rattle.std.proofs.Common.{◌+◌, ◌∙◌, [], None, drop, subst}
-use Rattle.aprs_history.specs.Runs.{AppendsRun}
+use Rattle.front_history.specs.Serving.{ActsOn, Serves}
 use Rattle.server_core.proofs.WholeRoundLemmas.{next_item}
 use Rattle.aprsc_daemon.specs.Phases.{Acting}
-use Rattle.aprsc_daemon.proofs.BringLemmas.{brings_on}
 use Rattle.aprsc_daemon.specs.Phases.{Broken}
+use Rattle.aprsc_daemon.proofs.BringLemmas.{brings_on}
 use Rattle.aprsc_daemon.proofs.EventLemmas.{err_any}
 use Rattle.aprsc_daemon.proofs.JournalLemmas.{acts_broken}
 use Rattle.aprsc_daemon.proofs.serving.cast_all.Goals as goal
@@ -13,16 +13,16 @@ loop-cast-preserved g c = (
   (c.cast_one.ensures.failures.0 ∙ c.loop-cast.invariant.0.0, c.cast_one.ensures.failures.1 ∙ c.loop-cast.invariant.0.1),
   c.cast_one.ensures.links ∙ c.loop-cast.invariant.1,
   brings_on [] (g.W.Wire.shown c.args.wire.now).told (g.W.Wire.shown c.loop-cast.wire).told (g.W.Wire.shown c.cast_one.new.wire).told c.loop-cast.invariant.2 c.in_ok-cast_one.ensures.brings,
-  λ s start lines core offers closes same peers run.
+  λ s lines core offers closes same peers state start run.
       let casts = c.args.casts.now in
       let i = c.loop-cast.cast-index in
       let left = next_item casts i c.cast-item.result c.loop-cast-test.true c.cast-item.is in
-      c.in_ok-cast_one.ensures.run s start lines core (drop (i + 1) casts) offers closes same peers
-      (subst (λ owed. AppendsRun s start (g.W.Wire.shown c.loop-cast.wire).told (Acting lines core None owed offers closes)) left (c.loop-cast.invariant.3 s start lines core offers closes same peers run)),
+      c.in_ok-cast_one.ensures.run s lines core (drop (i + 1) casts) offers closes same peers state start
+      (subst (λ owed. Serves s start (g.W.Wire.shown c.loop-cast.wire).told state (Acting lines core None owed offers closes)) left (c.loop-cast.invariant.3 s lines core offers closes same peers state start run)),
 )
 
 pub returns-in_err-cast_one-clause-err : goal.returns-in_err-cast_one-clause-err
-returns-in_err-cast_one-clause-err g c = λ s start lines core offers closes same peers run.
-    err_any {P = AppendsRun s start (g.W.Wire.shown c.cast_one.new.wire).told (Broken s lines)} c.from_residual.result
-    (acts_broken lines s start (g.W.Wire.shown c.loop-cast.wire).told (g.W.Wire.shown c.cast_one.new.wire).told core None (drop c.loop-cast.cast-index c.args.casts.now) offers closes same c.in_err-cast_one.ensures.err
-    (c.loop-cast.invariant.3 s start lines core offers closes same peers run))
+returns-in_err-cast_one-clause-err g c = λ s lines core offers closes same peers.
+    err_any {P = ActsOn s (g.W.Wire.shown c.args.wire.now).told (g.W.Wire.shown c.cast_one.new.wire).told (Acting lines core None c.args.casts.now offers closes) (Broken s lines)} c.from_residual.result (λ state start run.
+    acts_broken lines s (g.W.Wire.shown c.loop-cast.wire).told (g.W.Wire.shown c.cast_one.new.wire).told core None (drop c.loop-cast.cast-index c.args.casts.now) offers closes same c.in_err-cast_one.ensures.err state start
+    (c.loop-cast.invariant.3 s lines core offers closes same peers state start run))

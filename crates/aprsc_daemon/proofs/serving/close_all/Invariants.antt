@@ -1,8 +1,7 @@
-use Rattle.std.proofs.Common.{List, ◌≡◌, [], drop, Option}
+use Rattle.std.proofs.Common.{List, ◌≡◌, [], drop}
 use Rattle.aprs_base.specs.Journals.{JournalLineSeen}
-use Rattle.aprs_base.specs.Outside.{Told}
 use Rattle.aprs_history.specs.Setting.{Setting}
-use Rattle.aprs_history.specs.Runs.{AppendsRun}
+use Rattle.front_history.specs.Serving.{ActsOn}
 use Rattle.server_core.specs.Meaning.{CoreMeaning, setting_of}
 use Rattle.aprsc_daemon.specs.Failing.{FailsNot}
 use Rattle.aprsc_daemon.specs.Phases.{Brings, Offering}
@@ -13,6 +12,5 @@ invariant-loop-link g l =
     FailsNot (g.W.Wire.shown l.initial.wire) (g.W.Wire.shown l.wire)
     × ((g.W.Wire.shown l.wire).links ≡ (g.W.Wire.shown l.initial.wire).links)
     × Brings [] (g.W.Wire.shown l.initial.wire).told (g.W.Wire.shown l.wire).told
-    × ((s : Setting) (start : Option Told) (lines : List JournalLineSeen) (core : CoreMeaning) → setting_of core.conf ≡ s
-    → AppendsRun s start (g.W.Wire.shown l.initial.wire).told (Offering lines core [] l.closes)
-    → AppendsRun s start (g.W.Wire.shown l.wire).told (Offering lines core [] (drop l.link-index l.closes)))
+    × ((s : Setting) (lines : List JournalLineSeen) (core : CoreMeaning) → setting_of core.conf ≡ s
+    → ActsOn s (g.W.Wire.shown l.initial.wire).told (g.W.Wire.shown l.wire).told (Offering lines core [] l.closes) (Offering lines core [] (drop l.link-index l.closes)))

@@ -1,6 +1,6 @@
 use Rattle.std.proofs.Common.{◌≡◌}
 use Rattle.aprs_history.specs.Setting.{Setting}
-use Rattle.aprs_history.specs.Runs.{AppendsRun}
+use Rattle.front_history.specs.Serving.{Opens}
 use Rattle.aprsc_daemon.specs.Failing.{FailsNot}
 use Rattle.aprsc_daemon.specs.Phases.{Listening}
 use Rattle.aprsc_daemon.proofs.serving.listen_all.Given as goal
@@ -9,4 +9,5 @@ abbrev pub invariant-loop-spec : goal.invariant-loop-spec
 invariant-loop-spec g l =
     (l.n ≡ l.spec-index)
     × FailsNot (g.W.Wire.shown l.initial.wire) (g.W.Wire.shown l.wire)
-    × ((s : Setting) → s.listens ≡ l.listens → AppendsRun s (g.W.Wire.shown l.initial.wire).told (g.W.Wire.shown l.wire).told (Listening s l.n))
+    × (l.front ≡ l.initial.front)
+    × ((s : Setting) → s.listens ≡ l.listens → Opens s l.initial.front (g.W.Wire.shown l.initial.wire).told (g.W.Wire.shown l.wire).told (Listening s l.n))

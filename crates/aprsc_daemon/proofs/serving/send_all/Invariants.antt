@@ -1,8 +1,7 @@
-use Rattle.std.proofs.Common.{◌≡◌, [], drop, List, ℕ, Option, length}
+use Rattle.std.proofs.Common.{◌≡◌, [], drop, List, ℕ, length}
 use Rattle.aprs_base.specs.Journals.{JournalLineSeen}
-use Rattle.aprs_base.specs.Outside.{Told}
 use Rattle.aprs_history.specs.Setting.{Setting}
-use Rattle.aprs_history.specs.Runs.{AppendsRun}
+use Rattle.front_history.specs.Serving.{ActsOn}
 use Rattle.server_core.specs.LinkSteps.{numbers}
 use Rattle.server_core.specs.Meaning.{setting_of}
 use Rattle.server_core.specs.Steps.{SameRest}
@@ -18,6 +17,5 @@ invariant-loop-link g l =
     × ((g.W.Wire.shown l.wire).links ≡ (g.W.Wire.shown l.initial.wire).links)
     × Brings [] (g.W.Wire.shown l.initial.wire).told (g.W.Wire.shown l.wire).told
     × (length l.buffer ≡ 65536)
-    × ((s : Setting) (start : Option Told) (lines : List JournalLineSeen) (closes : List ℕ) → setting_of l.initial.core.conf ≡ s
-    → AppendsRun s start (g.W.Wire.shown l.initial.wire).told (Offering lines l.initial.core l.offers closes)
-    → AppendsRun s start (g.W.Wire.shown l.wire).told (Offering lines l.core (drop l.link-index l.offers) closes))
+    × ((s : Setting) (lines : List JournalLineSeen) (closes : List ℕ) → setting_of l.initial.core.conf ≡ s
+    → ActsOn s (g.W.Wire.shown l.initial.wire).told (g.W.Wire.shown l.wire).told (Offering lines l.initial.core l.offers closes) (Offering lines l.core (drop l.link-index l.offers) closes))

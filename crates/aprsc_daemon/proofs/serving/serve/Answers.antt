@@ -1,11 +1,13 @@
 use Rattle.std.proofs.Common.{◌++◌, ◌∙◌, [], Err, ap, append-nil, append_assoc, refl, subst, sym}
 use Rattle.aprs_base.proofs.SlotLemmas.{each_takes-append, each_takes-none}
-use Rattle.aprs_history.specs.Runs.{AppendsRun}
+use Rattle.front_history.specs.Answers.{front_state}
+use Rattle.front_history.specs.Serving.{Serves}
+use Rattle.front_history.proofs.ServesLemmas.{serves_so}
+use Rattle.aprs_history.specs.Stands.{StandsFor}
 use Rattle.server_core.specs.Meaning.{setting_of}
-use Rattle.aprsc_daemon.specs.Phases.{Broken, Idling, Resting, Served}
+use Rattle.aprsc_daemon.specs.Phases.{Broken, Finished, Idling, Resting, Served}
 use Rattle.aprsc_daemon.specs.declared.serving.End.TheVariants as ended
-use Rattle.aprsc_daemon.proofs.RunLemmas.{run_weaker}
-use Rattle.aprsc_daemon.proofs.ServeLemmas.{finishes, stands_at_last}
+use Rattle.aprsc_daemon.proofs.ServeLemmas.{finishes, stopped_rests}
 use Rattle.aprsc_daemon.proofs.serving.serve.Goals as goal
 
 pub loop-init : goal.loop-init
@@ -16,9 +18,10 @@ loop-init g c = (
   c.requires.going,
   c.requires.numbered,
   (refl, refl),
+  refl,
   [],
   each_takes-none (λ z. (goal.Journal-dyn g z).journal_shown z.1) c.args.journals.now.items,
-  λ s start lines same run. subst (λ all. AppendsRun s start (g.W.Wire.shown c.args.wire.now).told (Resting all c.args.core.now)) (sym (append-nil lines)) run,
+  λ s lines same start run. subst (λ all. Serves s start (g.W.Wire.shown c.args.wire.now).told (front_state c.args.front.now) (Resting all c.args.core.now)) (sym (append-nil lines)) run,
 )
 
 pub loop-preserved : goal.loop-preserved
@@ -31,49 +34,72 @@ loop-preserved g c =
       sym c.in-Ok-false.ensures.done ∙ c.in-Ok-false.field-0-test,
       c.in-Ok-false.ensures.numbered,
       (c.serve_round.ensures.listens ∙ before.5.0, c.in-Ok-false.ensures.nexts ∙ before.5.1),
-      before.6 ++ now.0,
-      each_takes-append (λ z. (goal.Journal-dyn g z).journal_shown z.1) before.6 now.0 _ _ _ before.7 now.1,
-      λ s start lines same run.
-          subst (λ all. AppendsRun s start (g.W.Wire.shown c.serve_round.new.wire).told (Resting all c.serve_round.new.core)) (append_assoc lines before.6 now.0)
-          (now.2 s start (lines ++ before.6) (ap setting_of before.2 ∙ same) (before.8 s start lines same run)).0,
+      c.in-Ok-false.ensures.port ∙ before.6,
+      before.7 ++ now.0,
+      each_takes-append (λ z. (goal.Journal-dyn g z).journal_shown z.1) before.7 now.0 _ _ _ before.8 now.1,
+      λ s lines same start run.
+          subst (λ all. Serves s start (g.W.Wire.shown c.serve_round.new.wire).told (front_state c.serve_round.new.front) (Resting all c.serve_round.new.core)) (append_assoc lines before.7 now.0)
+          ((now.2 s (lines ++ before.7) (ap setting_of before.2 ∙ same)).0 start (before.9 s lines same start run)),
     )
 
 pub returns-in-Ok-true-clause-run : goal.returns-in-Ok-true-clause-run
 returns-in-Ok-true-clause-run g c =
     let before = c.loop.invariant in
     let now = c.in-Ok-true.ensures.run in (
-      before.6 ++ now.0,
-      each_takes-append (λ z. (goal.Journal-dyn g z).journal_shown z.1) before.6 now.0 _ _ _ before.7 now.1,
-      λ s start lines same run.
-          subst (λ all. AppendsRun s start (g.W.Wire.shown c.serve_round.new.wire).told (Served s ended.Stopped all)) (append_assoc lines before.6 now.0)
-          (finishes ((lines ++ before.6) ++ now.0) s start (g.W.Wire.shown c.serve_round.new.wire).told c.serve_round.new.core (ap setting_of (c.in-Ok-true.ensures.conf ∙ before.2) ∙ same) (sym c.in-Ok-true.ensures.done ∙ c.in-Ok-true.field-0-test) (now.2 s start (lines ++ before.6) (ap setting_of before.2 ∙ same) (before.8 s start lines same run)).0),
+      before.7 ++ now.0,
+      each_takes-append (λ z. (goal.Journal-dyn g z).journal_shown z.1) before.7 now.0 _ _ _ before.8 now.1,
+      λ s lines same start run.
+          let all = (lines ++ before.7) ++ now.0 in
+          let core = c.serve_round.new.core in (
+            (front_state c.serve_round.new.front),
+            c.in-Ok-true.ensures.port ∙ before.6,
+            subst (λ all. Serves s start (g.W.Wire.shown c.serve_round.new.wire).told (front_state c.serve_round.new.front) (Served s ended.Stopped all)) (append_assoc lines before.7 now.0)
+                (serves_so s (g.W.Wire.shown c.serve_round.new.wire).told (Resting all core) (Served s ended.Stopped all)
+                (λ more. finishes all s core more (ap setting_of (c.in-Ok-true.ensures.conf ∙ before.2) ∙ same) (sym c.in-Ok-true.ensures.done ∙ c.in-Ok-true.field-0-test)) (front_state c.serve_round.new.front) start
+                ((now.2 s (lines ++ before.7) (ap setting_of before.2 ∙ same)).0 start (before.9 s lines same start run))),
+          ),
     )
 
 pub returns-in-Ok-true-clause-stands : goal.returns-in-Ok-true-clause-stands
-returns-in-Ok-true-clause-stands g c = λ stopped s start lines same run.
+returns-in-Ok-true-clause-stands g c = λ stopped s lines same start run.
     let before = c.loop.invariant in
     let now = c.in-Ok-true.ensures.run in
-    stands_at_last ((lines ++ before.6) ++ now.0) s start (g.W.Wire.shown c.serve_round.new.wire).told c.serve_round.new.core (ap setting_of (c.in-Ok-true.ensures.conf ∙ before.2) ∙ same) (sym c.in-Ok-true.ensures.done ∙ c.in-Ok-true.field-0-test)
-    (now.2 s start (lines ++ before.6) (ap setting_of before.2 ∙ same) (before.8 s start lines same run)).0
+    let core = c.serve_round.new.core in (
+      (front_state c.serve_round.new.front),
+      c.in-Ok-true.ensures.port ∙ before.6,
+      serves_so s (g.W.Wire.shown c.serve_round.new.wire).told (Resting ((lines ++ before.7) ++ now.0) core) (λ more. Finished s more × StandsFor s core.seen more)
+          (λ more. stopped_rests s core more (ap setting_of (c.in-Ok-true.ensures.conf ∙ before.2) ∙ same) (sym c.in-Ok-true.ensures.done ∙ c.in-Ok-true.field-0-test)) (front_state c.serve_round.new.front) start
+          ((now.2 s (lines ++ before.7) (ap setting_of before.2 ∙ same)).0 start (before.9 s lines same start run)),
+    )
 
 pub returns-in-Err-Failed-clause-run : goal.returns-in-Err-Failed-clause-run
 returns-in-Err-Failed-clause-run g c =
     let before = c.loop.invariant in
     let now = c.in-Err-Failed.ensures.run in (
-      before.6 ++ now.0,
-      each_takes-append (λ z. (goal.Journal-dyn g z).journal_shown z.1) before.6 now.0 _ _ _ before.7 now.1,
-      λ s start lines same run.
-          subst (λ all. AppendsRun s start (g.W.Wire.shown c.serve_round.new.wire).told (Served s ended.Failed all)) (append_assoc lines before.6 now.0)
-          (run_weaker s start (g.W.Wire.shown c.serve_round.new.wire).told (Idling s ((lines ++ before.6) ++ now.0)) (Served s ended.Failed ((lines ++ before.6) ++ now.0)) (λ more phase. (phase.idle, phase.journal)) ((now.2 s start (lines ++ before.6) (ap setting_of before.2 ∙ same) (before.8 s start lines same run)).2 (ap Err c.in-Err-Failed.field-0-is))),
+      before.7 ++ now.0,
+      each_takes-append (λ z. (goal.Journal-dyn g z).journal_shown z.1) before.7 now.0 _ _ _ before.8 now.1,
+      λ s lines same start run.
+          let all = (lines ++ before.7) ++ now.0 in
+          let last = (now.2 s (lines ++ before.7) (ap setting_of before.2 ∙ same)).2 (ap Err c.in-Err-Failed.field-0-is) start (before.9 s lines same start run) in (
+            last.0,
+            last.1 ∙ before.6,
+            subst (λ all. Serves s start (g.W.Wire.shown c.serve_round.new.wire).told last.0 (Served s ended.Failed all)) (append_assoc lines before.7 now.0)
+                (serves_so s (g.W.Wire.shown c.serve_round.new.wire).told (Idling s all) (Served s ended.Failed all) (λ more phase. (phase.idle, phase.journal)) last.0 start last.2),
+          ),
     )
 
 pub returns-in-Err-Memory-clause-run : goal.returns-in-Err-Memory-clause-run
 returns-in-Err-Memory-clause-run g c =
     let before = c.loop.invariant in
     let now = c.in-Err-Memory.ensures.run in (
-      before.6 ++ now.0,
-      each_takes-append (λ z. (goal.Journal-dyn g z).journal_shown z.1) before.6 now.0 _ _ _ before.7 now.1,
-      λ s start lines same run.
-          subst (λ all. AppendsRun s start (g.W.Wire.shown c.serve_round.new.wire).told (Served s ended.Memory all)) (append_assoc lines before.6 now.0)
-          (run_weaker s start (g.W.Wire.shown c.serve_round.new.wire).told (Broken s ((lines ++ before.6) ++ now.0)) (Served s ended.Memory ((lines ++ before.6) ++ now.0)) (λ more phase. (phase.fresh, phase.told)) ((now.2 s start (lines ++ before.6) (ap setting_of before.2 ∙ same) (before.8 s start lines same run)).1)),
+      before.7 ++ now.0,
+      each_takes-append (λ z. (goal.Journal-dyn g z).journal_shown z.1) before.7 now.0 _ _ _ before.8 now.1,
+      λ s lines same start run.
+          let all = (lines ++ before.7) ++ now.0 in
+          let last = (now.2 s (lines ++ before.7) (ap setting_of before.2 ∙ same)).1 start (before.9 s lines same start run) in (
+            last.0,
+            last.1 ∙ before.6,
+            subst (λ all. Serves s start (g.W.Wire.shown c.serve_round.new.wire).told last.0 (Served s ended.Memory all)) (append_assoc lines before.7 now.0)
+                (serves_so s (g.W.Wire.shown c.serve_round.new.wire).told (Broken s all) (Served s ended.Memory all) (λ more phase. (phase.fresh, phase.told)) last.0 start last.2),
+          ),
     )
