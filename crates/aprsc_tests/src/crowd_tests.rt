@@ -14,8 +14,9 @@ use std::time::{Clock, Duration};
 /// The packets that are said at once.
 const BATCH: u32 = 100;
 
-/// More packets than the system and the server hold for a client: some 18 MB.
-const MOST: u32 = 40_000;
+/// More packets than the system and the server hold for a client, and than are said in the two seconds after which the stream
+/// of a closed link is let go.
+const MOST: u32 = 4_000_000;
 
 /// The lines that the server keeps for a client that doesn't read.
 const KEPT: u32 = 1000;

@@ -173,6 +173,33 @@ fn keeps_links_apart(rt: HostRuntime) {
     assert!(rt; matches!(end_apart(&rt, &mut wire), Ok(true)));
 }
 
+/// A client that has sent more than the server reads hears the last that it is told, and an end.
+fn hears_the_last<R: Net<Stream = TcpStream>, W: Wire>(
+    rt: &R,
+    wire: &mut W,
+    bytes: &[u8],
+) -> io::Result<bool> {
+    let mut client = meet(rt, wire, 1, "127.0.0.1:24020")?;
+    client.write_all(bytes)?;
+    let closed = gives(wire, Seen::Bytes(1, b'p'))
+        && takes(wire, 1, b"no\r\n")
+        && wire.close(1) == Ok(())
+        && is_gone(wire, 1)
+        && next(wire) == Seen::Tick;
+    let mut last = [0; 4];
+    client.read_exact(&mut last)?;
+    Ok(closed && last == *b"no\r\n" && client.read(&mut [0])? == 0)
+}
+
+#[test]
+fn a_closed_link_hears_the_last(rt: HostRuntime) -> Result<(), Fail> {
+    let bytes = Vec::from_elem(rt.alloc(), b'p', 100_000)?;
+    let mut wire = MioWire::new(&rt, rt.alloc(), None);
+    let _ = listens(&mut wire, 0, PortKind::Igate, 24020);
+    assert!(rt; matches!(hears_the_last(&rt, &mut wire, bytes.as_slice()), Ok(true)));
+    Ok(())
+}
+
 /// How many offers the link takes whole, each answered by a tick, before one that it doesn't.
 fn whole_offers<W: Wire>(wire: &mut W, bytes: &[u8]) -> usize {
     let mut offers = 0;
@@ -244,6 +271,35 @@ fn a_flood_keeps_nobody_waiting(rt: HostRuntime) -> Result<(), Fail> {
     // One read of at most 2,920 bytes in pieces of 1,460, and a tick after each, since each has more than 400 line ends.
     assert!(rt; matches!(flood(&rt, &mut wire, lines.as_slice()), Ok((1..=2, true))));
     Ok(())
+}
+
+/// Two clients go, and then a third speaks: what it says comes before their ends.
+fn speaks_before_ends<R: Net<Stream = TcpStream> + Clock, W: Wire>(
+    rt: &R,
+    wire: &mut W,
+) -> io::Result<bool> {
+    let first = meet(rt, wire, 1, "127.0.0.1:24020")?;
+    let second = meet(rt, wire, 2, "127.0.0.1:24020")?;
+    let mut third = meet(rt, wire, 3, "127.0.0.1:24020")?;
+    // The tick of their openings, and that of the next second, before which the sockets were asked.
+    let ticked = next(wire) == Seen::Tick && next(wire) == Seen::Tick;
+    drop(first);
+    drop(second);
+    third.write_all(b"hi\r\n")?;
+    thread::sleep(rt, Duration::from_millis(100));
+    Ok(
+        ticked
+            && gives(wire, Seen::Bytes(3, b'h'))
+            && gives(wire, Seen::Ended(1))
+            && gives(wire, Seen::Ended(2)),
+    )
+}
+
+#[test]
+fn lines_come_before_ends(rt: HostRuntime) {
+    let mut wire = MioWire::new(&rt, rt.alloc(), None);
+    let _ = listens(&mut wire, 0, PortKind::Full, 24020);
+    assert!(rt; matches!(speaks_before_ends(&rt, &mut wire), Ok(true)));
 }
 
 /// What no second listener can do.

@@ -7,3 +7,4 @@ pub mod NextLemmas
 pub mod HeldLemmas
 pub mod ListenLemmas
 pub mod StepLemmas
+pub mod TurnLemmas

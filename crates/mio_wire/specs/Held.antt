@@ -1,5 +1,5 @@
 -- What the sockets hold.
-use Rattle.std.specs.Prelude.{◌≡◌, ◌≢◌, ℕ, ⊤, Bool, true, false, if◌then◌else◌, List, [], ◌∷◌, ◌++◌, length, map, Contains, slice_get, Option, Some, None}
+use Rattle.std.specs.Prelude.{◌≡◌, ◌≢◌, ℕ, ⊤, ◌==◌, ◌&&◌, nat_le, nat_lt, Bool, true, false, if◌then◌else◌, List, [], ◌∷◌, ◌++◌, length, map, Contains, slice_get, Option, Some, None}
 use Rattle.std.specs.List.{list_any}
 use Rattle.aprs_base.specs.declared.events.Event.{Event}
 use Rattle.aprs_base.specs.declared.events.Event.TheVariants as event
@@ -17,6 +17,10 @@ use Rattle.mio_wire.specs.Unread.{Brought, nothing}
 unfoldable pub reads_on : Option Sockets → Bool
 reads_on None = false
 reads_on (Some sockets) = list_any reads_link sockets.turns.later.items
+
+-- links that end are left, of which as many had their turn as have it between two askings, and all that was read is handed up
+unfoldable pub is_to_ask : Sockets → Bool
+is_to_ask sockets = (length sockets.inbox.left == 0) && (nat_le sockets.turns.ask_at sockets.turns.at && nat_lt sockets.turns.at (length sockets.turns.ready.items))
 
 -- the numbers of the listeners for links and for datagrams, in the order in which they listen, and where datagrams are cast from
 pub record Listening : Type 0 where

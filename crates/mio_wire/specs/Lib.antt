@@ -9,3 +9,4 @@ pub mod Mail
 pub mod Sources
 pub mod Held
 pub mod Seen
+pub mod Turning

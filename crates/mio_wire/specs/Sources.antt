@@ -1,5 +1,5 @@
 -- What the tokens of the poll stand for.
-use Rattle.std.specs.Prelude.{ℕ, ◌-◌, ◌*◌, ◌^◌, ◌==◌, ◌&&◌, not, nat_le, nat_lt, Bool, true, false, List, [], ◌∷◌, ◌++◌, if◌then◌else◌}
+use Rattle.std.specs.Prelude.{ℕ, ◌-◌, ◌*◌, ◌^◌, ◌==◌, ◌&&◌, not, nat_le, nat_lt, Bool, true, false, List, [], ◌∷◌, ◌++◌, filter, if◌then◌else◌}
 use Rattle.std.specs.List.{list_any}
 use Rattle.mio_wire.specs.declared.links.Reading.{Reading}
 use Rattle.mio_wire.specs.declared.links.Reading.TheVariants as reading
@@ -29,6 +29,17 @@ after_read reading.More token later = later ++ to_read token ∷ []
 after_read reading.Last token later = later ++ to_end token ∷ []
 after_read reading.All token later = later
 after_read reading.End token later = later
+
+-- a link whose peer will send no more
+abbrev pub is_end : Ready → Bool
+is_end r = r.closed && nat_lt r.token (2 ^ 32)
+
+-- the links that end, and what doesn't
+abbrev pub ending : List Ready → List Ready
+ending sources = filter is_end sources
+
+abbrev pub going : List Ready → List Ready
+going sources = filter (λ r. not (is_end r)) sources
 
 -- a link of which more can be read in another turn, and not only its end
 abbrev pub reads_link : Ready → Bool

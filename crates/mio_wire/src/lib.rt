@@ -9,6 +9,7 @@ mod links;
 mod mail;
 mod names;
 mod pace;
+mod parting;
 mod sockets;
 mod turns;
 mod wire;

@@ -1,5 +1,7 @@
 //! The links, and what is read from them and written to them.
-ghost use Rattle.std.specs.Prelude.{◌≡◌, ◌≢◌, ℕ, ◌+◌, ◌≤◌, ◌<◌, ◌^◌, [], ◌∷◌, ◌++◌, Some, OnOk, OnErr, OnSome, IfSome, IfNone, IfOk, All, Contains, false, ◌&&◌, ◌||◌, nat_lt, length, take, option_map, slice_get, vec_len, vec_capacity};
+ghost use Rattle.std.specs.Prelude.{◌≡◌, ◌≢◌, ℕ, ◌+◌, ◌≤◌, ◌<◌, ◌^◌, [], ◌∷◌, ◌++◌, Some, OnOk, OnErr, OnSome, IfSome, IfNone, IfOk, All, Contains, false, ◌&&◌, ◌||◌, nat_lt, length, take, option_map, slice_get};
+ghost use Rattle.std.specs.List.{remove};
+ghost use Rattle.std.specs.VecDeque.{deque_capacity, deque_len};
 ghost use Rattle.std.specs.Io.KnownBytes.{Appends, Consumes};
 ghost use Rattle.mio_wire.specs.declared.links.Reading.TheVariants.{End};
 ghost use Rattle.mio_wire.specs.Linked.{IsCounted, IsRising, at_place, dropped, noted, numbers, reading_of, without};
@@ -7,6 +9,7 @@ ghost use Rattle.mio_wire.specs.Linked.{IsCounted, IsRising, at_place, dropped, 
 use crate::inbox::{Inbox, MOST_READ};
 use crate::turns::Ready;
 use std::alloc::{AllocError, Global};
+use std::collections::VecDeque;
 use std::io::{ErrorKind, Read, Write};
 
 /// A link to a client, over a stream.
@@ -93,7 +96,7 @@ impl<S: Write> Link<S> {
 /// The links that are open, in rising number, and the number of the last that was made.
 #[derive(Drop)]
 pub(crate) struct Links<S> {
-    pub(crate) list: Vec<Link<S>>,
+    pub(crate) list: VecDeque<Link<S>>,
     pub(crate) made: u32,
     ghost rising: { IsRising (numbers list.items) },
     ghost counted: { IsCounted made (numbers list.items) },
@@ -104,14 +107,14 @@ impl<S: Drop> Links<S> {
         ensures { (result.list.items ≡ []) × (result.made ≡ 0) }
     {
         Links {
-            list: Vec::new(alloc),
+            list: VecDeque::new(alloc),
             made: 0,
         }
     }
 
     /// Has room for one link more.
     pub(crate) fn make_room(&mut self) -> Result<(), AllocError>
-        ensures room { OnOk result (vec_len self.new.list < vec_capacity self.new.list) }
+        ensures room { OnOk result (deque_len self.new.list < deque_capacity self.new.list) }
         ensures same { (self.new.list.items ≡ self.old.list.items) × (self.new.made ≡ self.old.made) }
     {
         self.list.reserve(1)
@@ -123,9 +126,9 @@ impl<S: Drop> Links<S> {
         ensures ok { OnOk result (self.new.made ≡ self.old.made + 1) }
         ensures link { OnOk result (self.new.list.items ≡ self.old.list.items ++ record { number = self.old.made + 1; stream = stream; later = false; closed = false; blocked = false } ∷ []) }
         ensures err { OnErr result ((self.new.list.items ≡ self.old.list.items) × (self.new.made ≡ self.old.made)) }
-        ensures full { OnErr result (vec_capacity self.old.list ≤ vec_len self.old.list) }
+        ensures full { OnErr result (deque_capacity self.old.list ≤ deque_len self.old.list) }
     {
-        self.list.push(Link {
+        self.list.push_back(Link {
             number: self.made + 1,
             stream,
             later: false,
@@ -167,16 +170,35 @@ impl<S: Drop> Links<S> {
         self.list[place].later
     }
 
+    /// Takes the stream of the link with a number, which is there no more.
+    pub(crate) fn take(&mut self, number: u32) -> Option<S>
+        ensures links { (self.new.list.items ≡ without number self.old.list.items) × (self.new.made ≡ self.old.made) }
+        ensures numbers { numbers self.new.list.items ≡ dropped number (numbers self.old.list.items) }
+        ensures others { without number self.new.list.items ≡ without number self.old.list.items }
+        ensures stream { (place : ℕ) → option_map (λ l. l.number) (slice_get self.old.list.items place) ≡ Some number → IfSome result (λ stream. option_map (λ l. l.stream) (slice_get self.old.list.items place) ≡ Some stream) }
+        ensures none { IfNone result (All (λ n. n ≢ number) (numbers self.old.list.items)) }
+    {
+        let place = self.place_of(number)?;
+        let link = remove(&mut self.list, place)?;
+        Some(link.stream)
+    }
+
     /// Lets go the link with a number.
     pub(crate) fn let_go(&mut self, number: u32)
         ensures links { (self.new.list.items ≡ without number self.old.list.items) × (self.new.made ≡ self.old.made) }
         ensures numbers { numbers self.new.list.items ≡ dropped number (numbers self.old.list.items) }
         ensures others { without number self.new.list.items ≡ without number self.old.list.items }
     {
-        if let Some(place) = self.place_of(number) {
-            let _ = self.list.remove(place);
-        }
+        let _ = self.take(number);
     }
+}
+
+/// Removes the link at a place.
+fn remove<S: Drop>(list: &mut VecDeque<Link<S>>, place: usize) -> Option<Link<S>>
+    ensures others { list.new.items ≡ remove list.old.items place }
+    ensures link { slice_get list.old.items place ≡ result }
+{
+    list.remove(place)
 }
 
 impl<S: Read + Drop> Links<S> {

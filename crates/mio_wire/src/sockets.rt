@@ -1,16 +1,17 @@
 //! The poll with the sockets that it watches.
-ghost use Rattle.std.specs.Prelude.{◌≡◌, ◌≤◌, ◌⊎◌, ◌++◌, [], ◌∷◌, map, None, true, false, OnOk, OnErr, IfOk, IfNone, IfSome, is_some, length, option_map, slice_get, take, drop, ℕ, Some};
+ghost use Rattle.std.specs.Prelude.{◌≡◌, ◌≤◌, ◌⊎◌, ◌++◌, ◌+◌, ◌-◌, ◌*◌, ◌^◌, min, [], ◌∷◌, map, None, true, false, OnOk, OnErr, IfOk, IfNone, IfSome, is_some, length, option_map, slice_get, take, drop, ℕ, Some};
 ghost use Rattle.aprs_base.specs.Outside.{IsOutcome};
 ghost use Rattle.aprs_base.specs.declared.packets.PortKind.TheVariants.{Core, Submit};
 ghost use Rattle.mio_wire.specs.Arrivals.{after_sent};
 ghost use Rattle.mio_wire.specs.Linked.{TakesBytes, TakesOf, at_place, dropped, numbers, without};
-ghost use Rattle.mio_wire.specs.Held.{holding_of, listening_after, listening_of, with_deaf, woken};
+ghost use Rattle.mio_wire.specs.Held.{holding_of, is_to_ask, listening_after, listening_of, with_deaf, woken};
 ghost use Rattle.mio_wire.specs.Sources.{reads_link};
 ghost use Rattle.mio_wire.specs.Unread.{IsHeld, forgotten, nothing, unread_after};
 ghost use Rattle.std.specs.List.{list_any};
 
 mod serving;
 
+use self::serving::MOST_OPENED;
 use crate::addresses::socket_of;
 use crate::inbox::Inbox;
 use crate::links::Links;
@@ -25,7 +26,19 @@ use std::net::Net;
 use std::time::Duration;
 
 /// How many events one poll brings at most.
-const MOST_EVENTS: usize = 512;
+const MOST_EVENTS: usize = 16_384;
+
+/// How many links that end have their turn between two askings, beside one for each link that may be opened meanwhile.
+const MOST_ENDED: usize = 256;
+
+/// How many links that end have their turn before the sockets are asked again, by the number of listeners: more than those open
+/// in a turn, so that there is an end of them.
+fn share_of(ears: usize) -> usize
+    ensures { result ≡ min (64 * ears + 256) (2 ^ 64 - 1) }
+{
+    ears.saturating_mul(MOST_OPENED as usize)
+        .saturating_add(MOST_ENDED)
+}
 
 /// A listener for links.
 #[derive(Drop)]
@@ -193,7 +206,7 @@ impl Sockets {
         if self.poll.poll(&mut self.events, Some(most)).is_err() {
             return Err(WireError::Failed);
         }
-        self.turns.begin(&self.events)?;
+        self.turns.begin(&self.events, share_of(self.ears.len()))?;
         open_anew(self.ears.as_mut_slice());
         receive_anew(self.mailboxes.as_mut_slice());
         Ok(())
@@ -236,11 +249,32 @@ impl Sockets {
         self.turns.current().is_some()
     }
 
+    /// Whether the sockets are asked again before more links end: once all that was read is handed up.
+    #[tactic(auto, unfolding(crate::specs::Held::is_to_ask))]
+    pub(crate) fn is_to_ask(&self) -> bool
+        ensures { result ≡ is_to_ask self.now }
+    {
+        self.inbox.is_empty() && self.turns.is_to_ask()
+    }
+
     /// Whether more is to be read from a link that was read in this turn.
     pub(crate) fn reads_on(&self) -> bool
         ensures { result ≡ list_any reads_link self.now.turns.later.items }
     {
         self.turns.reads_on()
+    }
+
+    /// Takes the stream of a link, which is let go with what it brought.
+    pub(crate) fn take<S: Drop>(&mut self, links: &mut Links<S>, number: u32) -> Option<S>
+        ensures links { (links.new.list.items ≡ without number links.old.list.items) × (links.new.made ≡ links.old.made) }
+        ensures numbers { numbers links.new.list.items ≡ dropped number (numbers links.old.list.items) }
+        ensures others { without number links.new.list.items ≡ without number links.old.list.items }
+        ensures kept { self.new ≡ record self.old { inbox = forgotten number self.old.inbox; retry = true } }
+    {
+        let stream = links.take(number);
+        self.inbox.forget(number);
+        self.retry = true;
+        stream
     }
 
     /// Lets go a link with what it brought.
@@ -250,9 +284,7 @@ impl Sockets {
         ensures others { without number links.new.list.items ≡ without number links.old.list.items }
         ensures kept { self.new ≡ record self.old { inbox = forgotten number self.old.inbox; retry = true } }
     {
-        links.let_go(number);
-        self.inbox.forget(number);
-        self.retry = true;
+        let _ = self.take(links, number);
     }
 
     /// Offers bytes to a link.

@@ -1,8 +1,9 @@
 //! What is ready and is served in turn, and what waits for another turn.
-ghost use Rattle.std.specs.Prelude.{◌≡◌, ◌==◌, ◌≢◌, ◌↔◌, ◌+◌, ◌-◌, ◌^◌, true, false, List, [], ◌∷◌, ◌++◌, OnOk, OnErr, IsTrue, min, slice_get, ◌<◌, ◌≤◌, vec_len, vec_capacity};
+ghost use Rattle.std.specs.Prelude.{◌≡◌, ◌==◌, ◌≢◌, ◌↔◌, ◌+◌, ◌-◌, ◌^◌, true, false, List, [], ◌∷◌, ◌++◌, OnOk, OnErr, IsTrue, min, slice_get, ◌<◌, ◌≤◌, vec_len, vec_capacity, ◌&&◌, drop, length, nat_le, nat_lt};
 ghost use Rattle.std.specs.List.{list_any};
 ghost use Rattle.mio_wire.specs.declared.turns.Ready.{Ready};
-ghost use Rattle.mio_wire.specs.Sources.{after_read, reads_link, source_of, to_end, to_read, with_waiting};
+ghost use Rattle.mio_wire.specs.Sources.{after_read, ending, going, is_end, reads_link, source_of, to_end, to_read, with_waiting};
+ghost use Rattle.mio_wire.specs.Turning.{BeginsTurn};
 
 use crate::links::Reading;
 use mio::Events;
@@ -86,6 +87,13 @@ impl Ready {
         }
     }
 
+    /// Whether it is a link whose peer will send no more.
+    fn is_end(self) -> bool
+        ensures { result ≡ is_end self }
+    {
+        self.closed && self.token < FIRST_EAR
+    }
+
     /// A link to which more can be written.
     pub(crate) fn to_write(token: usize) -> Ready
         ensures { result ≡ record { token = token; readable = false; writable = true; closed = false; again = true } }
@@ -106,16 +114,26 @@ pub(crate) struct Turns {
     ready: Vec<Ready>,
     at: usize,
     later: Vec<Ready>,
+    /// What came, while a turn is made of it.
+    came: Vec<Ready>,
+    /// The links that end, while a turn is made.
+    ends: Vec<Ready>,
+    /// From this place on only links that end are left, and the sockets are asked again before them.
+    ask_at: usize,
 }
 
 impl Turns {
     pub(crate) fn new(alloc: Global) -> Turns
-        ensures { (result.ready.items ≡ []) × (result.at ≡ 0) × (result.later.items ≡ []) }
+        ensures turn { (result.ready.items ≡ []) × (result.at ≡ 0) × (result.ask_at ≡ 0) }
+        ensures later { result.later.items ≡ [] }
     {
         Turns {
             ready: Vec::new(alloc),
             at: 0,
             later: Vec::new(alloc),
+            came: Vec::new(alloc),
+            ends: Vec::new(alloc),
+            ask_at: 0,
         }
     }
 
@@ -202,17 +220,85 @@ impl Turns {
         !self.later.is_empty()
     }
 
-    /// Begins a turn with what the poll brought and what waited.
-    pub(crate) fn begin(&mut self, events: &Events) -> Result<(), AllocError>
+    /// Whether links that end are left, of which as many had their turn as have it between two askings.
+    pub(crate) fn is_to_ask(&self) -> bool
+        ensures { result ≡ (nat_le self.now.ask_at self.now.at && nat_lt self.now.at (length self.now.ready.items)) }
+    {
+        self.ask_at <= self.at && self.at < self.ready.len()
+    }
+
+    /// Begins a turn with what the poll brought and what waited: first what doesn't end, then what is left of the turn
+    /// before, and then the links that end. So many of those have their turn before the sockets are to be asked again.
+    pub(crate) fn begin(&mut self, events: &Events, share: usize) -> Result<(), AllocError>
         ensures first { self.new.at ≡ 0 }
-        ensures waited { OnOk result ((brought : List Ready) × (self.new.ready.items ≡ brought ++ self.old.later.items)) }
+        ensures turn { OnOk result ((brought : List Ready) × BeginsTurn share (brought ++ self.old.later.items) (drop self.old.at self.old.ready.items) self.new) }
         ensures later { OnOk result (self.new.later.items ≡ []) }
     {
+        self.keep_rest()?;
+        self.collect(events)?;
+        line_up(&mut self.ready, &mut self.ends, self.came.as_slice())?;
+        self.ask_at = self.ready.len().saturating_add(share);
+        self.ready.append(&mut self.ends)
+    }
+
+    /// Keeps what is left of the turn.
+    fn keep_rest(&mut self) -> Result<(), AllocError>
+        ensures rest { OnOk result (self.new.ends.items ≡ drop self.old.at self.old.ready.items) }
+        ensures turn { (self.new.ready.items ≡ []) × (self.new.at ≡ 0) }
+        ensures later { self.new.later ≡ self.old.later }
+    {
+        self.ends.clear();
+        let kept = match self.ready.get(self.at..) {
+            Some(rest) => self.ends.extend_from_slice(rest),
+            None => Ok(()),
+        };
         self.ready.clear();
         self.at = 0;
-        for event in events.iter() {
-            self.ready.push(Ready::of(event))?;
-        }
-        self.ready.append(&mut self.later)
+        kept
     }
+
+    /// Collects what the poll brought and what waited.
+    fn collect(&mut self, events: &Events) -> Result<(), AllocError>
+        ensures came { OnOk result ((brought : List Ready) × (self.new.came.items ≡ brought ++ self.old.later.items)) }
+        ensures later { OnOk result (self.new.later.items ≡ []) }
+        ensures kept { self.new ≡ record self.old { came = self.new.came; later = self.new.later } }
+    {
+        self.came.clear();
+        for event in events.iter() {
+            self.came.push(Ready::of(event))?;
+        }
+        self.came.append(&mut self.later)
+    }
+}
+
+/// Adds a source to those that are ready, or to the links that end.
+fn place_one(
+    ready: &mut Vec<Ready>,
+    ends: &mut Vec<Ready>,
+    source: &Ready,
+) -> Result<(), AllocError>
+    ensures ready { OnOk result (ready.new.items ≡ ready.old.items ++ going (source.now ∷ [])) }
+    ensures ends { OnOk result (ends.new.items ≡ ends.old.items ++ ending (source.now ∷ [])) }
+{
+    if source.is_end() {
+        ends.push(*source)?;
+    } else {
+        ready.push(*source)?;
+    }
+    Ok(())
+}
+
+/// Adds each source to those that are ready, or to the links that end.
+fn line_up(
+    ready: &mut Vec<Ready>,
+    ends: &mut Vec<Ready>,
+    sources: &[Ready],
+) -> Result<(), AllocError>
+    ensures ready { OnOk result (ready.new.items ≡ ready.old.items ++ going sources.now) }
+    ensures ends { OnOk result (ends.new.items ≡ ends.old.items ++ ending sources.now) }
+{
+    for source in sources {
+        place_one(ready, ends, source)?;
+    }
+    Ok(())
 }

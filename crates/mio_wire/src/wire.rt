@@ -19,11 +19,12 @@ use crate::course::Course;
 use crate::dials::{Dial, Dials};
 use crate::links::Links;
 use crate::names::Names;
+use crate::parting::Parting;
 use crate::sockets::Sockets;
 use aprs_base::{Addr, Event, ListenSpec, Memory, Sent, UplinkSpec, Wire, WireError};
 use mio::net::TcpStream;
 use std::alloc::Global;
-use std::net::Net;
+use std::net::{Net, Shutdown};
 use std::sync::Wait;
 use std::time::{Clock, Duration, SystemTime};
 
@@ -56,13 +57,16 @@ const NOWHERE: Addr = Addr {
 /// The tick of a new second comes once the sockets were asked twice since the last tick's second was over and all that they had is handed up: so
 /// nothing that came is late by a pause of the process, not even what a link says that is let in only then. Beside it there is a tick of the last moment as soon as all that came is handed
 /// up, where something was handed up since the last tick; one where 400 line ends or 48,000 bytes were handed up; and one where
-/// a send took 65,536 bytes whole. Listeners that couldn't open a link try again with the tick of a new second.
+/// a send took 65,536 bytes whole. Links that end come after all else that came; where many do, the sockets are asked again in
+/// between, after a tick of the last moment. Listeners that couldn't open a link try again with the tick of a new second.
 #[derive(Drop)]
 pub struct MioWire<'a, R: Net + Clock> {
     rt: &'a R,
     alloc: Global,
     sockets: Option<Sockets>,
     links: Links<TcpStream>,
+    /// The streams of links that were closed in this second and in the one before.
+    parting: Parting<TcpStream>,
     dials: Dials,
     names: Names,
     course: Course,
@@ -88,6 +92,7 @@ impl<'a, R: Net + Clock> MioWire<'a, R> {
             alloc,
             sockets: None,
             links: Links::new(alloc),
+            parting: Parting::new(alloc),
             dials: Dials::new(alloc),
             names: Names::new(alloc),
             course: Course::new(stop_after),
@@ -129,14 +134,17 @@ impl<'a, R: Net + Clock> MioWire<'a, R> {
             .unwrap_or(Duration::from_secs(self.course.second.unwrap_or(0)))
     }
 
-    /// The tick of another second than the last one's: listeners that failed to open a link try again.
+    /// The tick of another second than the last one's: listeners that failed to open a link try again, and streams of links that
+    /// were closed before the last such tick are dropped.
     #[tactic(auto, unfolding(crate::specs::Held::IsServed, crate::specs::Held::MovesAt, crate::specs::Held::Retries, crate::specs::Held::holding))]
     fn move_on(&mut self, second: u64) -> Event
         ensures event { result ≡ Tick second }
         ensures moves { (self.old.course.second ≢ None → IsServed self.old.sockets) → MovesAt self.old.course.second self.new.sockets result }
-        ensures kept { self.new ≡ record self.old { sockets = self.new.sockets } }
+        ensures kept { self.new ≡ record self.old { sockets = self.new.sockets; parting = self.new.parting } }
+        ensures parting { (self.new.parting.older.items ≡ self.old.parting.late.items) × (self.new.parting.late.items ≡ []) }
         ensures holding { holding self.new.sockets ≡ holding self.old.sockets }
     {
+        self.parting.move_on();
         if let Some(sockets) = &mut self.sockets {
             sockets.retry();
         }
@@ -164,6 +172,17 @@ impl<'a, R: Net + Clock> MioWire<'a, R> {
     {
         match &self.sockets {
             Some(sockets) => sockets.has_bytes() || sockets.has_ready(),
+            None => false,
+        }
+    }
+
+    /// Whether links that end wait until the sockets are asked again.
+    #[tactic(auto, unfolding(crate::specs::Held::holding, crate::specs::Held::is_to_ask))]
+    fn is_to_ask(&self) -> bool
+        ensures { result ≡ true → length (unread self.now.sockets).left ≡ 0 }
+    {
+        match &self.sockets {
+            Some(sockets) => sockets.is_to_ask(),
             None => false,
         }
     }
@@ -204,7 +223,7 @@ impl<'a, R: Net + Clock> MioWire<'a, R> {
         ensures moves { IfSome result (MovesAt self.old.course.second self.new.sockets) }
         ensures none { IfNone result (StepGives self.old.course self.old.dials.list.items nothing None × (self.new ≡ self.old)) }
         ensures holding { holding self.new.sockets ≡ holding self.old.sockets }
-        ensures kept { self.new ≡ record self.old { sockets = self.new.sockets; dials = self.new.dials } }
+        ensures kept { self.new ≡ record self.old { sockets = self.new.sockets; parting = self.new.parting; dials = self.new.dials } }
     {
         let Some(second) = self.course.second else {
             return Some(self.move_on(self.clock().as_secs()));
@@ -225,12 +244,29 @@ impl<'a, R: Net + Clock> MioWire<'a, R> {
         ensures ticks { IfOk result (TicksAt self.old.course) }
         ensures moves { IfOk result (λ o. IfSome o (MovesAt self.old.course.second self.new.sockets)) }
         ensures holding { holding self.new.sockets ≡ holding self.old.sockets }
-        ensures kept { self.new ≡ record self.old { sockets = self.new.sockets; ahead = self.new.ahead; asked = self.new.asked } }
+        ensures kept { self.new ≡ record self.old { sockets = self.new.sockets; parting = self.new.parting; ahead = self.new.ahead; asked = self.new.asked } }
     {
         match self.ahead.take() {
             Some(second) if self.course.second != Some(second) => Ok(Some(self.move_on(second))),
             _ => self.idle(),
         }
+    }
+
+    /// Gives a tick that is due since all that came but ends is handed up, and else asks the sockets again before more links end.
+    #[tactic(auto, unfolding(crate::specs::Coming::TicksAt, crate::specs::Held::MovesAt))]
+    fn ask_again(&mut self) -> Result<Option<Event>, WireError>
+        ensures ticks { IfOk result (TicksAt self.old.course) }
+        ensures moves { IfOk result (λ o. IfSome o (MovesAt self.old.course.second self.new.sockets)) }
+        ensures holding { holding self.new.sockets ≡ holding self.old.sockets }
+        ensures kept { self.new ≡ record self.old { sockets = self.new.sockets } }
+    {
+        if let Some(second) = self.course.second {
+            if self.course.pace.is_due() && !self.reads_on() {
+                return Ok(Some(Event::Tick(second)));
+            }
+        }
+        self.poll(Duration::ZERO)?;
+        Ok(None)
     }
 
     /// Asks the sockets in a new second, twice before its tick, gives a tick that is due since all that came is handed up, and else waits.
@@ -264,10 +300,13 @@ impl<'a, R: Net + Clock> MioWire<'a, R> {
         ensures step { StepsTo (seen self.old) (seen self.new) result }
         ensures gives { IfOk result (StepGives self.old.course self.old.dials.list.items (unread self.old.sockets)) }
         ensures moves { IfOk result (λ o. IfSome o (MovesAt self.old.course.second self.new.sockets)) }
-        ensures kept { self.new ≡ record self.old { sockets = self.new.sockets; links = self.new.links; dials = self.new.dials; ahead = self.new.ahead; asked = self.new.asked } }
+        ensures kept { self.new ≡ record self.old { sockets = self.new.sockets; parting = self.new.parting; links = self.new.links; dials = self.new.dials; ahead = self.new.ahead; asked = self.new.asked } }
     {
         if let Some(event) = self.due() {
             return Ok(Some(event));
+        }
+        if self.is_to_ask() {
+            return self.ask_again();
         }
         if self.has_arrived() {
             return self.arrived();
@@ -348,6 +387,30 @@ impl<'a, R: Net + Clock> MioWire<'a, R> {
         match &self.sockets {
             Some(sockets) => Ok(sockets.connect(self.rt, at, token)),
             None => Ok(None),
+        }
+    }
+
+    /// Takes the stream of a link, which is there no more, with what it brought.
+    #[tactic(auto, unfolding(crate::specs::Held::holding, crate::specs::Unread::IsHeld))]
+    fn take(&mut self, link: u32) -> Option<TcpStream>
+        ensures held { IsHeld (unread self.old.sockets) (numbers self.old.links.list.items) → IsHeld (unread self.new.sockets) (numbers self.new.links.list.items) }
+        ensures links { (self.new.links.list.items ≡ without link self.old.links.list.items) × (self.new.links.made ≡ self.old.links.made) }
+        ensures holding { holding self.new.sockets ≡ record (holding self.old.sockets) { unread = forgotten link (unread self.old.sockets) } }
+        ensures kept { self.new ≡ record self.old { sockets = self.new.sockets; links = self.new.links } }
+    {
+        match &mut self.sockets {
+            Some(sockets) => sockets.take(&mut self.links, link),
+            None => self.links.take(link),
+        }
+    }
+
+    /// Ends the writing side of the stream of a link that is closed, and keeps the stream for a while.
+    fn part(&mut self, stream: TcpStream)
+        ensures kept { self.new ≡ record self.old { parting = self.new.parting } }
+    {
+        if stream.shutdown(Shutdown::Write).is_ok() {
+            // Where memory is wanting, it is dropped.
+            let _ = self.parting.keep(stream);
         }
     }
 
@@ -445,18 +508,18 @@ impl<'a, R: Net + Clock + Wait> Wire for MioWire<'a, R> {
         Ok(sent)
     }
 
-    #[tactic(auto, unfolding(crate::specs::Held::holding, crate::specs::Unread::IsHeld))]
+    /// Closes a link. What was sent to it reaches its peer also where more that it sent isn't read: only the writing side is ended
+    /// at once, and the stream is dropped with the second tick of another second, or at once where 256 are kept so.
     fn close(&mut self, link: u32) -> Result<(), Memory>
         ensures close { AfterAct (counts self.old.failed_listens self.old.failed_nexts self.old.gones self.old.links.made) (counts self.new.failed_listens self.new.failed_nexts self.new.gones self.new.links.made) (with_closed link) result }
         ensures held { IsHeld (unread self.old.sockets) (numbers self.old.links.list.items) → IsHeld (unread self.new.sockets) (numbers self.new.links.list.items) }
         ensures links { (self.new.links.list.items ≡ without link self.old.links.list.items) × (self.new.links.made ≡ self.old.links.made) }
         ensures unread { unread self.new.sockets ≡ forgotten link (unread self.old.sockets) }
         ensures listening { listening self.new.sockets ≡ listening self.old.sockets }
-        ensures kept { self.new ≡ record self.old { sockets = self.new.sockets; links = self.new.links } }
+        ensures kept { self.new ≡ record self.old { sockets = self.new.sockets; links = self.new.links; parting = self.new.parting } }
     {
-        match &mut self.sockets {
-            Some(sockets) => sockets.let_go(&mut self.links, link),
-            None => self.links.let_go(link),
+        if let Some(stream) = self.take(link) {
+            self.part(stream);
         }
         Ok(())
     }

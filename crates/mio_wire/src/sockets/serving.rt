@@ -21,7 +21,7 @@ use std::alloc::AllocError;
 use std::io::{self, ErrorKind, Read};
 
 /// How many links one listener opens in a turn.
-const MOST_OPENED: u32 = 64;
+pub(super) const MOST_OPENED: u32 = 64;
 
 /// How many datagrams one socket brings in a turn.
 const MOST_DATAGRAMS: u32 = 64;
