@@ -9,8 +9,8 @@ use Rattle.aprs_base.specs.declared.events.Sent.TheVariants as sent
 use Rattle.aprs_base.specs.declared.events.Happening.TheVariants as did
 use Rattle.aprs_base.specs.declared.events.WireError.{WireError}
 use Rattle.aprs_base.specs.declared.events.WireError.TheVariants as wire_error
-use Rattle.aprs_base.specs.declared.wire.Take.{Take}
-use Rattle.aprs_base.specs.declared.wire.Take.TheVariants as take
+use Rattle.aprs_base.specs.declared.memory_wire.Take.{Take}
+use Rattle.aprs_base.specs.declared.memory_wire.Take.TheVariants as take
 
 pub record WireScript : Type 0 where
   pub told : Told
