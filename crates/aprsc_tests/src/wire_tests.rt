@@ -333,20 +333,23 @@ fn hands_up_whole_datagrams(rt: HostRuntime) {
     assert!(rt; listened == Ok(()) && sent && gives(&mut wire, Seen::Datagram(4, b'b', 1460)));
 }
 
-/// Whether a cast comes from the peer group's listener with the greatest number.
+/// Whether a cast to a peer comes from the peer group's listener with the greatest number, and one to a downlink from the listener
+/// for datagrams that has it.
 fn casts<R: Net, W: Wire>(rt: &R, wire: &mut W) -> io::Result<bool> {
     let peer = UdpSocket::bind(rt, "127.0.0.1:24012")?;
     let cast = listens(wire, 5, PortKind::Core, 24009) == Ok(())
         && listens(wire, 2, PortKind::Core, 24010) == Ok(())
         && listens(wire, 7, PortKind::Submit, 24011) == Ok(())
-        && wire.cast(0, loopback(24012), b"cast") == Ok(());
+        && wire.cast(255, loopback(24012), b"cast") == Ok(())
+        && wire.cast(256, loopback(24012), b"lines") == Ok(());
     let mut bytes = [0; 9];
     let (count, from) = peer.recv_from(&mut bytes)?;
-    Ok(cast && count == 4 && from.port() == 24009)
+    let (lines, port) = peer.recv_from(&mut bytes)?;
+    Ok(cast && count == 4 && from.port() == 24009 && lines == 5 && port.port() == 24011)
 }
 
 #[test]
-fn casts_from_the_peer_group(rt: HostRuntime) {
+fn casts_from_the_listener_of_its_kind(rt: HostRuntime) {
     let mut wire = MioWire::new(&rt, rt.alloc(), None);
     assert!(rt; matches!(casts(&rt, &mut wire), Ok(true)));
 }

@@ -1,5 +1,5 @@
 //! A queue of lines: what is pushed is taken in order, byte by byte.
-ghost use Rattle.std.specs.Prelude.{◌≡◌, ◌+◌, ◌-◌, ◌≤◌, IfOk, IfSome, IsErr, OnOk, OnErr, ◌↔◌, length, take, drop, min};
+ghost use Rattle.std.specs.Prelude.{◌≡◌, ◌==◌, ◌+◌, ◌-◌, ◌≤◌, IfOk, IfSome, IsErr, OnOk, OnErr, ◌↔◌, length, take, drop, min};
 ghost use Rattle.std.specs.Arc.{arc_value};
 ghost use Rattle.link_queue.specs.Pieces.{IsPiece, lines_of};
 ghost use Rattle.link_queue.specs.Queues.{empty_queue, pending_bytes, with_line, with_lines, without_bytes};
@@ -135,6 +135,13 @@ impl Queue {
         ensures { result ≡ length (pending_bytes self.now) }
     {
         self.pending
+    }
+
+    /// Whether no byte of the first line is taken. Takes no memory.
+    pub fn at_line_start(&self) -> bool
+        ensures { result ≡ (self.now.offset == 0) }
+    {
+        self.offset == 0
     }
 
     /// Removes the first `n` pending bytes.

@@ -1,12 +1,23 @@
--- Line ends counted at their first byte or at their last.
-use Rattle.std.proofs.Common.{◌≡◌, ℕ, ◌+◌, Bool, cond, eqb, ◌&&◌, List, ◌∷◌, arith}
+-- Line ends, counted by the places where they begin.
+use Rattle.std.proofs.Common.{◌≡◌, ℕ, ◌+◌, ◌≤◌, ◌<◌, ◌==◌, ◌||◌, Bool, true, false, List, [], ◌∷◌, length, drop, get_or, zero, suc, refl, sym, ap, ◌∙◌, arith, if◌then◌else◌}
+use Rattle.std.proofs.lemmas.Bool.{false_from_ne_true}
 use Rattle.std.proofs.lemmas.Bool.Decides.{nat_tests}
-use Rattle.mio_wire.specs.Pacing.{begins_end, begins_with_lf, line_ends}
+use Rattle.mio_wire.specs.Pacing.{ends_at, line_ends}
 
--- an end that was counted at its CR, before its LF
-abbrev pub open_end : Bool → List ℕ → ℕ
-open_end after_cr bytes = cond (after_cr && begins_with_lf bytes) 1 0
+abbrev pub is_end : ℕ → Bool
+is_end b = b == 13 || b == 10
 
--- at each byte, what was counted and what is left to count stay the same
-pub one_more : (b : ℕ) (bytes : List ℕ) (after_cr : Bool) → cond (begins_end b after_cr) 1 0 + line_ends bytes + open_end after_cr (b ∷ bytes) ≡ line_ends (b ∷ bytes) + open_end (eqb b 13) bytes
-one_more b bytes after_cr = grind (arith, nat_tests)
+-- a byte that is neither CR nor LF ends no line
+not_end : (b : ℕ) (after : List ℕ) → is_end b ≡ false → ends_at b after ≡ false
+not_end b after other = grind (arith, nat_tests)
+
+-- what stands before the first CR or LF has no line ends
+pub ends_below : (bytes : List ℕ) (place : ℕ) → place ≤ length bytes → ((k : ℕ) → k < place → is_end (get_or bytes k 0) ≡ true → ⊥) → line_ends (drop place bytes) ≡ line_ends bytes
+ends_below bytes zero within none = refl
+ends_below [] (suc n) within none = refl
+ends_below (b ∷ bs) (suc n) within none =
+    let other : is_end b ≡ false = false_from_ne_true (is_end b) (none 0 (omega arith)) in
+    let later = ends_below bs n (omega arith) (λ k lt passes. none (suc k) (omega arith) passes) in
+    let here : line_ends (b ∷ bs) ≡ 0 + line_ends bs = ap (λ e. (if e then 1 else 0) + line_ends bs) (not_end b bs other) in
+    let same : 0 + line_ends bs ≡ line_ends bs = omega arith in
+    later ∙ sym same ∙ sym here

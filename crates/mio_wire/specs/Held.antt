@@ -22,14 +22,16 @@ reads_on (Some sockets) = list_any reads_link sockets.turns.later.items
 unfoldable pub is_to_ask : Sockets → Bool
 is_to_ask sockets = (length sockets.inbox.left == 0) && (nat_le sockets.turns.ask_at sockets.turns.at && nat_lt sockets.turns.at (length sockets.turns.ready.items))
 
--- the numbers of the listeners for links and for datagrams, in the order in which they listen, and where datagrams are cast from
+-- the numbers of the listeners for links and for datagrams, in the order in which they listen, and where datagrams are cast from:
+-- those for peers from a peer group's listener, those of downlinks from any listener for datagrams
 pub record Listening : Type 0 where
   pub links : List ℕ
   pub mail : List ℕ
   pub caster : Option Caster
+  pub downlinks : Option Caster
 
 abbrev pub listening_of : Sockets → Listening
-listening_of sockets = record { links = map (λ ear. ear.number) sockets.ears.items; mail = map (λ mailbox. mailbox.number) sockets.mailboxes.items; caster = sockets.caster }
+listening_of sockets = record { links = map (λ ear. ear.number) sockets.ears.items; mail = map (λ mailbox. mailbox.number) sockets.mailboxes.items; caster = sockets.caster; downlinks = sockets.downlinks }
 
 -- what sockets hold: the bytes that were read and are not handed up, and who listens
 pub record Holding : Type 0 where
@@ -40,7 +42,7 @@ abbrev pub holding_of : Sockets → Holding
 holding_of sockets = record { unread = sockets.inbox; heard = listening_of sockets }
 
 unfoldable pub holding : Option Sockets → Holding
-holding None = record { unread = nothing; heard = record { links = []; mail = []; caster = None } }
+holding None = record { unread = nothing; heard = record { links = []; mail = []; caster = None; downlinks = None } }
 holding (Some sockets) = holding_of sockets
 
 abbrev pub unread : Option Sockets → Brought
@@ -49,18 +51,26 @@ unread sockets = (holding sockets).unread
 abbrev pub listening : Option Sockets → Listening
 listening sockets = (holding sockets).heard
 
--- after one more listener: it is the last of its kind's, and a peer group's may be the one that casts
+-- after one more listener: it is the last of its kind's, and casts where its number is the greatest
 abbrev pub listening_after : PortKind → (number : ℕ) → Listening → Listening
 listening_after kind.Full number before = record before { links = before.links ++ number ∷ [] }
 listening_after kind.Igate number before = record before { links = before.links ++ number ∷ [] }
 listening_after kind.Only number before = record before { links = before.links ++ number ∷ [] }
 listening_after kind.Dupe number before = record before { links = before.links ++ number ∷ [] }
-listening_after kind.Submit number before = record before { mail = before.mail ++ number ∷ [] }
+listening_after kind.Submit number before = record before {
+  mail = before.mail ++ number ∷ [];
+  downlinks = greater before.downlinks (record { number = number; place = length before.mail });
+}
 listening_after kind.Core number before = record {
   links = before.links;
   mail = before.mail ++ number ∷ [];
   caster = greater before.caster (record { number = number; place = length before.mail });
+  downlinks = greater before.downlinks (record { number = number; place = length before.mail });
 }
+
+-- where the datagram of a cast goes from: numbers of peers are below 256, and from there on they are those of downlinks
+abbrev pub casts_from : ℕ → Listening → Option Caster
+casts_from peer heard = if nat_lt peer 256 then heard.caster else heard.downlinks
 
 -- nothing but a new link, which names the listener at that place
 unfoldable pub OpensAt : (listeners : List ℕ) (place : ℕ) → Option Event → Type 0

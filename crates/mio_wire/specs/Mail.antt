@@ -4,7 +4,7 @@ use Rattle.aprs_base.specs.declared.packets.PortKind.{PortKind}
 use Rattle.aprs_base.specs.declared.packets.PortKind.TheVariants as kind
 use Rattle.mio_wire.specs.declared.mail.Caster.{Caster}
 
--- by the numbers of two listeners of peer groups, the greater one
+-- by the numbers of two listeners, the greater one
 abbrev pub greater : Option Caster → Caster → Option Caster
 greater None c = Some c
 greater (Some other) c = if nat_le other.number c.number then Some c else Some other

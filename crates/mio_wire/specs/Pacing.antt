@@ -16,9 +16,10 @@ abbrev pub line_ends : List ℕ → ℕ
 line_ends [] = 0
 line_ends (b ∷ bs) = (if ends_at b bs then 1 else 0) + line_ends bs
 
--- the first byte of a line end: CR, or an LF that doesn't stand after one
-abbrev pub begins_end : ℕ → (after_cr : Bool) → Bool
-begins_end b after_cr = b == byte "\r" || (b == byte "\n" && not after_cr)
+-- a line end begins with the first byte
+abbrev pub begins_with_end : List ℕ → Bool
+begins_with_end [] = false
+begins_with_end (b ∷ bs) = b == byte "\r" || b == byte "\n"
 
 -- nothing was handed up or sent
 abbrev pub rested : Pace

@@ -1,6 +1,6 @@
 //! Datagrams that come, and the socket that they are cast from.
 ghost use Rattle.std.specs.Prelude.{◌≡◌, ◌<◌, ◌≤◌, ◌⊎◌, ◌↔◌, IsSome, IfOk, IfSome, length, take};
-ghost use Rattle.mio_wire.specs.Mail.{caster_after};
+ghost use Rattle.mio_wire.specs.Mail.{caster_after, greater};
 ghost use Rattle.mio_wire.specs.Names.{addr_of};
 ghost use Rattle.mio_wire.specs.declared.mail.Received.TheVariants.{Datagram, Dropped};
 
@@ -26,7 +26,17 @@ pub(crate) struct Caster {
     pub(crate) place: usize,
 }
 
-/// Where datagrams are cast from after one more listener: it is that of a peer group with the greatest number.
+/// By the numbers of two listeners, the greater one.
+pub(crate) fn greater(other: Option<Caster>, caster: Caster) -> Option<Caster>
+    ensures { result ≡ greater other caster }
+{
+    match other {
+        Some(other) if other.number > caster.number => Some(other),
+        _ => Some(caster),
+    }
+}
+
+/// Where datagrams to peers are cast from after one more listener: it is that of a peer group with the greatest number.
 pub(crate) fn caster_after(
     caster: Option<Caster>,
     kind: PortKind,
@@ -35,9 +45,8 @@ pub(crate) fn caster_after(
 ) -> Option<Caster>
     ensures { result ≡ caster_after kind number place caster }
 {
-    match (kind, caster) {
-        (PortKind::Core, None) => Some(Caster { number, place }),
-        (PortKind::Core, Some(other)) if other.number <= number => Some(Caster { number, place }),
+    match kind {
+        PortKind::Core => greater(caster, Caster { number, place }),
         _ => caster,
     }
 }

@@ -1,6 +1,8 @@
 //! What was handed up since the last tick, and whether another is due before the next second.
-ghost use Rattle.std.specs.Prelude.{◌≡◌};
-ghost use Rattle.mio_wire.specs.Pacing.{begins_end, is_due, is_full, line_ends, rested, with_bytes, with_event, with_taken};
+ghost use Rattle.std.specs.Prelude.{◌≡◌, ◌+◌, ◌≤◌, length, true};
+ghost use Rattle.mio_wire.specs.Pacing.{begins_with_end, is_due, is_full, line_ends, rested, with_bytes, with_event, with_taken};
+
+use memchr::memchr2;
 
 /// So many line ends make a tick due, so that no round brings more lines than a queue holds.
 const MOST_LINES: usize = 400;
@@ -70,22 +72,27 @@ impl Pace {
     }
 }
 
-/// Whether a line end begins with `byte`, which stands after a CR or doesn't.
-fn begins_end(byte: u8, after_cr: bool) -> bool
-    ensures { result ≡ begins_end byte after_cr }
+/// What follows the line end that `bytes` begin with: CR, LF, or CR and LF together.
+fn past_end(bytes: &[u8]) -> &[u8]
+    requires { begins_with_end bytes.now ≡ true }
+    ensures one { 1 + line_ends result.now ≡ line_ends bytes.now }
+    ensures shorter { 1 + length result.now ≤ length bytes.now }
 {
-    byte == b'\r' || (byte == b'\n' && !after_cr)
+    match bytes {
+        [b'\r', b'\n', rest @ ..] | [_, rest @ ..] => rest,
+        [] => bytes,
+    }
 }
 
-/// How many line ends `bytes` have: CR, LF, or CR and LF together.
+/// How many line ends `bytes` have.
 fn line_ends(bytes: &[u8]) -> usize
     ensures { result ≡ line_ends bytes.now }
 {
     let mut ends = 0;
-    let mut after_cr = false;
-    for byte in bytes {
-        ends += usize::from(begins_end(*byte, after_cr));
-        after_cr = *byte == b'\r';
+    let mut rest = bytes;
+    while let Some(place) = memchr2(b'\r', b'\n', rest) {
+        rest = past_end(&rest[place..]);
+        ends += 1;
     }
     ends
 }

@@ -4,7 +4,7 @@ ghost use Rattle.aprs_base.specs.Outside.{IsOutcome};
 ghost use Rattle.aprs_base.specs.declared.packets.PortKind.TheVariants.{Core, Submit};
 ghost use Rattle.mio_wire.specs.Arrivals.{after_sent};
 ghost use Rattle.mio_wire.specs.Linked.{TakesBytes, TakesOf, at_place, dropped, numbers, without};
-ghost use Rattle.mio_wire.specs.Held.{holding_of, is_to_ask, listening_after, listening_of, with_deaf, woken};
+ghost use Rattle.mio_wire.specs.Held.{casts_from, holding_of, is_to_ask, listening_after, listening_of, with_deaf, woken};
 ghost use Rattle.mio_wire.specs.Sources.{reads_link};
 ghost use Rattle.mio_wire.specs.Unread.{IsHeld, forgotten, nothing, unread_after};
 ghost use Rattle.std.specs.List.{list_any};
@@ -15,7 +15,7 @@ use self::serving::MOST_OPENED;
 use crate::addresses::socket_of;
 use crate::inbox::Inbox;
 use crate::links::Links;
-use crate::mail::{Caster, Mailbox, caster_after};
+use crate::mail::{Caster, Mailbox, caster_after, greater};
 use crate::turns::{FIRST_EAR, FIRST_MAILBOX, Ready, Turns};
 use aprs_base::{Addr, Chunk, ListenSpec, PortKind, Sent, WireError};
 use mio::net::{TcpListener, TcpStream, UdpSocket};
@@ -27,6 +27,9 @@ use std::time::Duration;
 
 /// How many events one poll brings at most.
 const MOST_EVENTS: usize = 16_384;
+
+/// The numbers of peers, by which datagrams are cast, are below this one; those of downlinks begin with it.
+const FIRST_DOWNLINK: u16 = 256;
 
 /// How many links that end have their turn between two askings, beside one for each link that may be opened meanwhile.
 const MOST_ENDED: usize = 256;
@@ -59,7 +62,10 @@ pub(crate) struct Sockets {
     events: Events,
     ears: Vec<Ear>,
     mailboxes: Vec<Mailbox>,
+    /// The peer group's mailbox with the greatest number.
     caster: Option<Caster>,
+    /// The mailbox with the greatest number.
+    downlinks: Option<Caster>,
     turns: Turns,
     inbox: Inbox,
     /// Deaf ears are to be tried again.
@@ -68,7 +74,7 @@ pub(crate) struct Sockets {
 
 impl Sockets {
     pub(crate) fn open<R: Net>(rt: &R, alloc: Global) -> Result<Sockets, WireError>
-        ensures { IfOk result (λ s. (s.inbox ≡ nothing) × (listening_of s ≡ record { links = []; mail = []; caster = None })) }
+        ensures { IfOk result (λ s. (s.inbox ≡ nothing) × (listening_of s ≡ record { links = []; mail = []; caster = None; downlinks = None })) }
     {
         let events = Events::with_capacity(alloc, MOST_EVENTS)?;
         let inbox = Inbox::new(alloc)?;
@@ -81,6 +87,7 @@ impl Sockets {
             ears: Vec::new(alloc),
             mailboxes: Vec::new(alloc),
             caster: None,
+            downlinks: None,
             turns: Turns::new(alloc),
             inbox,
             retry: false,
@@ -153,6 +160,7 @@ impl Sockets {
             received: 0,
         })?;
         self.caster = caster_after(self.caster, spec.kind, number, place);
+        self.downlinks = greater(self.downlinks, Caster { number, place });
         Ok(())
     }
 
@@ -176,9 +184,20 @@ impl Sockets {
         Some(stream)
     }
 
+    /// Where the datagram of a cast goes from: that of a downlink, from 256 on, from any listener for datagrams.
+    fn casts_from(&self, peer: u16) -> Option<Caster>
+        ensures { result ≡ casts_from peer (listening_of self.now) }
+    {
+        if peer < FIRST_DOWNLINK {
+            self.caster
+        } else {
+            self.downlinks
+        }
+    }
+
     /// Casts a datagram. A lost one is no fault.
-    pub(crate) fn cast(&self, to: Addr, bytes: &[u8]) {
-        let Some(caster) = self.caster else {
+    pub(crate) fn cast(&self, peer: u16, to: Addr, bytes: &[u8]) {
+        let Some(caster) = self.casts_from(peer) else {
             return;
         };
         if let Some(mailbox) = self.mailboxes.get(caster.place) {

@@ -539,13 +539,14 @@ impl<'a, R: Net + Clock + Wait> Wire for MioWire<'a, R> {
         Ok(())
     }
 
-    /// Casts from the socket of the peer group's listener, or of the one with the greatest number. A lost datagram is no fault.
+    /// Casts from the socket of the peer group's listener, or of the one with the greatest number; from 256 on, from that of the
+    /// listener for datagrams with the greatest number. A lost datagram is no fault.
     fn cast(&mut self, peer: u16, to: Addr, bytes: &[u8]) -> Result<(), Memory>
         ensures cast { AfterAct (counts self.old.failed_listens self.old.failed_nexts self.old.gones self.old.links.made) (counts self.new.failed_listens self.new.failed_nexts self.new.gones self.new.links.made) (with_cast peer to bytes.now) result }
         ensures kept { self.new ≡ self.old }
     {
         if let Some(sockets) = &self.sockets {
-            sockets.cast(to, bytes);
+            sockets.cast(peer, to, bytes);
         }
         Ok(())
     }
