@@ -7,10 +7,10 @@ use Rattle.aprs_conf.specs.declared.errors.ConfFault.TheVariants as fault
 use Rattle.aprs_conf.specs.declared.errors.ConfWord.TheVariants as needed
 use Rattle.aprs_conf.specs.declared.types.Listen.{Listen}
 use Rattle.aprs_conf.specs.Seen.{ConfSeen}
-use Rattle.aprs_conf.specs.Served.{served_conf, upload_number}
+use Rattle.aprs_conf.specs.Served.{page_number, served_conf, upload_number}
 use Rattle.aprs_conf.specs.Words.{words_of}
 use Rattle.aprs_conf.specs.Arguments.{time_of, window_of, ip_of, code_of, port_of}
-use Rattle.aprs_conf.specs.Grammar.{after, conf_of, group_says, listen_says, uplink_says, upload_says}
+use Rattle.aprs_conf.specs.Grammar.{after, conf_of, group_says, listen_says, page_says, uplink_says, upload_says}
 
 listen : List ℕ → PortKind → List ℕ → ℕ → Bool → Listen
 listen name kind ip port idle = record { name = name; spec = record { kind = kind; at = record { ip = ip; port = port } }; idle = idle }
@@ -24,6 +24,7 @@ plain listens = record {
   email = [];
   listens = listens;
   upload = None;
+  page = None;
   uplinks = [];
   group = None;
   peers = [];
@@ -226,6 +227,60 @@ served : served_conf (record (plain (listen (codes "a") kind.Igate (0 ∷ 0 ∷ 
 unfolding listen plain
 served = refl
 
+-- the status page: one listener more, too
+page : conf_of (codes "ServerId T2TEST" ++ (10 ∷ codes "PassCode 8385" ++ (10 ∷ codes "httpstatus :: 14501" ++ (10 ∷ codes "Listen a fullfeed tcp 1.2.3.4 1")))) ≡ Ok (record (plain (listen (codes "a") kind.Full (1 ∷ 2 ∷ 3 ∷ 4 ∷ []) 1 false ∷ [])) { page = Some (record { ip = 0 ∷ 0 ∷ 0 ∷ 0 ∷ []; port = 14501 }) })
+unfolding listen plain conf_of after group_says listen_says page_says uplink_says upload_says
+page = refl
+
+page_twice : conf_of (codes "HTTPStatus :: 14501" ++ (10 ∷ codes "HTTPStatus")) ≡ Err (cause.Line 2 fault.Repeated)
+unfolding listen plain conf_of after group_says listen_says page_says uplink_says upload_says
+page_twice = refl
+
+page_at_port_alone : conf_of (codes "HTTPStatus 14501") ≡ Err (cause.Line 1 fault.BadCount)
+unfolding listen plain conf_of after group_says listen_says page_says uplink_says upload_says
+page_at_port_alone = refl
+
+page_by_name : conf_of (codes "HTTPStatus localhost 0") ≡ Err (cause.Line 1 fault.BadAddr)
+unfolding listen plain conf_of after group_says listen_says page_says uplink_says upload_says
+page_by_name = refl
+
+page_at_zero : conf_of (codes "HTTPStatus :: 0") ≡ Err (cause.Line 1 fault.BadNumber)
+unfolding listen plain conf_of after group_says listen_says page_says uplink_says upload_says
+page_at_zero = refl
+
+-- of 17 listeners the last is too many, whichever it is
+page_last : conf_of (codes "HTTPUpload :: 8081" ++ (10 ∷ codes "Listen a fullfeed tcp :: 1" ++ (10 ∷ codes "Listen a fullfeed tcp :: 1" ++ (10 ∷ codes "Listen a fullfeed tcp :: 1" ++ (10 ∷ codes "Listen a fullfeed tcp :: 1" ++ (10 ∷ codes "Listen a fullfeed tcp :: 1" ++ (10 ∷ codes "Listen a fullfeed tcp :: 1" ++ (10 ∷ codes "Listen a fullfeed tcp :: 1" ++ (10 ∷ codes "Listen a fullfeed tcp :: 1" ++ (10 ∷ codes "Listen a fullfeed tcp :: 1" ++ (10 ∷ codes "Listen a fullfeed tcp :: 1" ++ (10 ∷ codes "Listen a fullfeed tcp :: 1" ++ (10 ∷ codes "Listen a fullfeed tcp :: 1" ++ (10 ∷ codes "Listen a fullfeed tcp :: 1" ++ (10 ∷ codes "Listen a fullfeed tcp :: 1" ++ (10 ∷ codes "Listen a fullfeed tcp :: 1" ++ (10 ∷ codes "HTTPStatus :: 14501"))))))))))))))))) ≡ Err (cause.Line 17 fault.TooMany)
+unfolding listen plain conf_of after group_says listen_says page_says uplink_says upload_says
+page_last = refl
+
+page_first : conf_of (codes "HTTPStatus :: 14501" ++ (10 ∷ codes "Listen a fullfeed tcp :: 1" ++ (10 ∷ codes "Listen a fullfeed tcp :: 1" ++ (10 ∷ codes "Listen a fullfeed tcp :: 1" ++ (10 ∷ codes "Listen a fullfeed tcp :: 1" ++ (10 ∷ codes "Listen a fullfeed tcp :: 1" ++ (10 ∷ codes "Listen a fullfeed tcp :: 1" ++ (10 ∷ codes "Listen a fullfeed tcp :: 1" ++ (10 ∷ codes "Listen a fullfeed tcp :: 1" ++ (10 ∷ codes "Listen a fullfeed tcp :: 1" ++ (10 ∷ codes "Listen a fullfeed tcp :: 1" ++ (10 ∷ codes "Listen a fullfeed tcp :: 1" ++ (10 ∷ codes "Listen a fullfeed tcp :: 1" ++ (10 ∷ codes "Listen a fullfeed tcp :: 1" ++ (10 ∷ codes "Listen a fullfeed tcp :: 1" ++ (10 ∷ codes "Listen a fullfeed tcp :: 1" ++ (10 ∷ codes "HTTPUpload :: 8081"))))))))))))))))) ≡ Err (cause.Line 17 fault.TooMany)
+unfolding listen plain conf_of after group_says listen_says page_says uplink_says upload_says
+page_first = refl
+
+-- and 16 are not
+sixteen : conf_of (codes "HTTPStatus :: 14501" ++ (10 ∷ codes "Listen a fullfeed tcp :: 1" ++ (10 ∷ codes "Listen a fullfeed tcp :: 1" ++ (10 ∷ codes "Listen a fullfeed tcp :: 1" ++ (10 ∷ codes "Listen a fullfeed tcp :: 1" ++ (10 ∷ codes "Listen a fullfeed tcp :: 1" ++ (10 ∷ codes "Listen a fullfeed tcp :: 1" ++ (10 ∷ codes "Listen a fullfeed tcp :: 1" ++ (10 ∷ codes "Listen a fullfeed tcp :: 1" ++ (10 ∷ codes "Listen a fullfeed tcp :: 1" ++ (10 ∷ codes "Listen a fullfeed tcp :: 1" ++ (10 ∷ codes "Listen a fullfeed tcp :: 1" ++ (10 ∷ codes "Listen a fullfeed tcp :: 1" ++ (10 ∷ codes "Listen a fullfeed tcp :: 1" ++ (10 ∷ codes "Listen a fullfeed tcp :: 1" ++ (10 ∷ codes "HTTPUpload :: 8081")))))))))))))))) ≡ Err (cause.Missing needed.ServerId)
+unfolding listen plain conf_of after group_says listen_says page_says uplink_says upload_says
+sixteen = refl
+
+-- it alone isn't enough
+page_alone : conf_of (codes "ServerId T2TEST" ++ (10 ∷ codes "PassCode 8385" ++ (10 ∷ codes "HTTPStatus :: 14501"))) ≡ Err (cause.Missing needed.Listen)
+unfolding listen plain conf_of after group_says listen_says page_says uplink_says upload_says
+page_alone = refl
+
+-- it has the number behind that for submissions, where there is such
+page_behind : page_number (record (plain (listen (codes "a") kind.Igate (0 ∷ 0 ∷ 0 ∷ 0 ∷ []) 1 true ∷ listen (codes "b") kind.Full (0 ∷ 0 ∷ 0 ∷ 0 ∷ []) 2 false ∷ [])) { page = Some (record { ip = 1 ∷ 2 ∷ 3 ∷ 4 ∷ []; port = 14501 }) }) ≡ Some 1
+unfolding listen plain
+page_behind = refl
+
+page_behind_upload : page_number (record (plain (listen (codes "a") kind.Igate (0 ∷ 0 ∷ 0 ∷ 0 ∷ []) 1 true ∷ listen (codes "b") kind.Full (0 ∷ 0 ∷ 0 ∷ 0 ∷ []) 2 false ∷ [])) { upload = Some (record { ip = 1 ∷ 2 ∷ 3 ∷ 4 ∷ []; port = 8081 }); page = Some (record { ip = 1 ∷ 2 ∷ 3 ∷ 4 ∷ []; port = 14501 }) }) ≡ Some 2
+unfolding listen plain
+page_behind_upload = refl
+
+both_served : served_conf (record (plain (listen (codes "a") kind.Igate (0 ∷ 0 ∷ 0 ∷ 0 ∷ []) 1 true ∷ [])) { upload = Some (record { ip = 1 ∷ 2 ∷ 3 ∷ 4 ∷ []; port = 8081 }); page = Some (record { ip = 1 ∷ 2 ∷ 3 ∷ 5 ∷ []; port = 14501 }) })
+    ≡ plain (listen (codes "a") kind.Igate (0 ∷ 0 ∷ 0 ∷ 0 ∷ []) 1 true ∷ listen (codes "http") kind.Submit (1 ∷ 2 ∷ 3 ∷ 4 ∷ []) 8081 false ∷ listen (codes "status") kind.Submit (1 ∷ 2 ∷ 3 ∷ 5 ∷ []) 14501 false ∷ [])
+unfolding listen plain
+both_served = refl
+
 no_peers : conf_of (codes "PeerGroup g udp :: 1" ++ (10 ∷ [])) ≡ Err (cause.Line 1 fault.BadCount)
 unfolding listen plain conf_of after group_says listen_says uplink_says
 no_peers = refl
@@ -246,6 +301,7 @@ whole : conf_of (codes "ServerId T2TEST" ++ (10 ∷ codes "PASSCODE 08385" ++ (1
   email = codes "a@b";
   listens = listen (codes "a") kind.Only (0 ∷ 0 ∷ 0 ∷ 0 ∷ []) 1 true ∷ [];
   upload = None;
+  page = None;
   uplinks = record { host = codes "h.example"; port = 10152 } ∷ [];
   group = Some (record { ip = 10 ∷ 0 ∷ 0 ∷ 1 ∷ []; port = 16404 });
   peers = record { call = codes "T2A"; at = record { ip = 10 ∷ 0 ∷ 0 ∷ 2 ∷ []; port = 16404 } } ∷ record { call = codes "T2B"; at = record { ip = 10 ∷ 0 ∷ 0 ∷ 3 ∷ []; port = 16405 } } ∷ [];

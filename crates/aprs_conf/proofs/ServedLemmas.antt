@@ -1,31 +1,33 @@
 -- The configuration that is served.
-use Rattle.std.proofs.Common.{◌≡◌, ◌≤◌, Bool, true, false, List, [], ◌∷◌, ◌++◌, Option, None, Some, map, length, refl, sym, ap, ◌∙◌, arith, append-nil}
+use Rattle.std.proofs.Common.{◌≡◌, ◌≤◌, ℕ, Bool, true, false, List, [], ◌∷◌, ◌++◌, Option, None, Some, map, length, refl, sym, ap, ◌∙◌, arith, append-nil}
 use Rattle.std.proofs.lemmas.List.{length-append}
 use Rattle.aprs_base.specs.declared.texts.Addr.{Addr}
 use Rattle.aprs_conf.specs.declared.types.Listen.{Listen}
 use Rattle.aprs_conf.specs.Seen.{ConfSeen}
-use Rattle.aprs_conf.specs.Served.{all_listens, http_listens, numbered, served_conf}
+use Rattle.aprs_conf.specs.Served.{all_listens, front_listens, http_listens, numbered, served_conf, status_listens}
 use Rattle.aprs_conf.specs.Sound.{IsSound}
 
--- where nothing is taken by HTTP, it is the one that was read
-pub served_same : (conf : ConfSeen) → conf.upload ≡ None → served_conf conf ≡ conf
-served_same conf none =
-    ap (λ upload. record conf { listens = all_listens conf.listens upload; upload = None }) none
-    ∙ ap (λ listens. record conf { listens = listens; upload = None }) (append-nil conf.listens)
-    ∙ ap (λ upload. record conf { upload = upload }) (sym none)
+-- where nothing is asked by HTTP, it is the one that was read
+pub served_same : (conf : ConfSeen) → conf.upload ≡ None → conf.page ≡ None → served_conf conf ≡ conf
+served_same conf no_upload no_page =
+    ap (λ upload. record conf { listens = all_listens conf.listens upload conf.page; upload = None; page = None }) no_upload
+    ∙ ap (λ page. record conf { listens = all_listens conf.listens None page; upload = None; page = None }) no_page
+    ∙ ap (λ listens. record conf { listens = listens; upload = None; page = None }) (append-nil conf.listens)
+    ∙ ap (λ upload. record conf { upload = upload; page = None }) (sym no_upload)
+    ∙ ap (λ page. record conf { page = page }) (sym no_page)
 
 -- it stays in its ranges
 pub served_sound : (conf : ConfSeen) → IsSound conf → IsSound (served_conf conf)
 served_sound conf sound =
-    let all = all_listens conf.listens conf.upload in
-    let most = sound.upload in
+    let all = all_listens conf.listens conf.upload conf.page in
+    let most = sound.served in
     let least = sound.listens.0 in
-    let more = length-append conf.listens (http_listens conf.upload) in
+    let more = length-append conf.listens (http_listens conf.upload ++ status_listens conf.page) in
     let few : length (all ++ []) ≤ 16 = omega (arith, length-append all []) in
     record {
       server = sound.server;
       listens = (omega arith, most);
-      upload = few;
+      served = few;
       uplinks = sound.uplinks;
       peers = sound.peers;
       up_timeout = sound.up_timeout;
@@ -44,10 +46,10 @@ numbered-append (listen ∷ listens) more = by listen.idle refl (numbered-append
     by true is same = rw is same
     by false is same = rw is (ap (λ specs. listen.spec ∷ specs) same)
 
--- that for submissions by HTTP has one
-pub numbered_http : (upload : Option Addr) → numbered (http_listens upload) ≡ map (λ (listen : Listen). listen.spec) (http_listens upload)
-numbered_http None = refl
-numbered_http (Some at) = refl
+-- those for requests by HTTP have one
+pub numbered_front : (name : List ℕ) (at : Option Addr) → numbered (front_listens name at) ≡ map (λ (listen : Listen). listen.spec) (front_listens name at)
+numbered_front name None = refl
+numbered_front name (Some at) = refl
 
 -- no more have one than there are
 pub numbered_short : (listens : List Listen) → length (numbered listens) ≤ length listens

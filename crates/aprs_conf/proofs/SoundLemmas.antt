@@ -28,8 +28,8 @@ group_sound (Some at) peers is = record { few = is.few; stations = peers_named p
 sound : (conf : ConfSeen) → WritableConf conf → IsSound conf
 sound conf is = record {
   server = is_named conf.server is.server;
-  listens = (is.some_listens, (let few = is.few_listens in omega (arith, count_all conf.listens conf.upload)));
-  upload = is.few_listens;
+  listens = (is.some_listens, (let few = is.few_listens in omega (arith, count_all conf.listens conf.upload conf.page)));
+  served = is.few_listens;
   uplinks = is.few_uplinks;
   peers = group_sound conf.group conf.peers is.group;
   up_timeout = is.up_timeout;

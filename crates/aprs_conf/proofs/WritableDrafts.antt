@@ -18,10 +18,10 @@ use Rattle.aprs_conf.specs.declared.reading.LineWord.TheVariants as word
 use Rattle.aprs_conf.specs.declared.types.Listen.{Listen}
 use Rattle.aprs_conf.specs.declared.types.PeerSpec.{PeerSpec}
 use Rattle.aprs_conf.specs.Arguments.{PortRow, clients_of, code_of, host_of, ip_of, kind_of, port_of, ports, same, station_of, time_of, udp, window_of}
-use Rattle.aprs_conf.specs.Grammar.{after, at_line, at_of, conf_of, conf_with, drafted, empty, filled, five_of, group_in, group_says, is_full, is_full_feed, is_group, is_hidden_at_most, line_says, listen_in, listen_of, listen_says, need, next, one_of, peer_of, peers_from, says, time_in_line, two_of, unless, uplink_in, uplink_says, upload_in, upload_says, was_said, with_listen, with_uplink, with_upload, word_of}
+use Rattle.aprs_conf.specs.Grammar.{after, at_line, at_of, conf_of, conf_with, drafted, empty, filled, five_of, front_in, group_in, group_says, is_full, is_full_feed, is_group, is_hidden_at_most, line_says, listen_in, listen_of, listen_says, need, next, one_of, page_says, peer_of, peers_from, says, time_in_line, two_of, unless, uplink_in, uplink_says, upload_says, was_said, with_listen, with_page, with_uplink, with_upload, word_of}
 use Rattle.aprs_base.specs.ResultSteps.{◌>>=◌}
 use Rattle.aprs_conf.specs.Seen.{ConfSeen, DraftSeen}
-use Rattle.aprs_conf.specs.Served.{all_listens, http_listens}
+use Rattle.aprs_conf.specs.Served.{all_listens, http_listens, status_listens}
 use Rattle.aprs_conf.specs.Sound.{IsWithin}
 use Rattle.aprs_conf.specs.Words.{closed, has_open, is_remark, lines_of, words_of}
 use Rattle.aprs_conf.specs.Writing.{kind_name, proto_name}
@@ -110,7 +110,8 @@ pub record WritableDraft (draft : DraftSeen) : Type 0 where
   pub email : IfSome draft.email IsWord
   pub listens : Each WritableListen draft.listens
   pub upload : IfSome draft.upload WritableAt
-  pub few_listens : length (all_listens draft.listens draft.upload) ≤ 16
+  pub page : IfSome draft.page WritableAt
+  pub few_listens : length (all_listens draft.listens draft.upload draft.page) ≤ 16
   pub uplinks : Each WritableUplink draft.uplinks
   pub few_uplinks : length draft.uplinks ≤ 8
   pub group : WritableGroup draft.group draft.peers
@@ -127,7 +128,8 @@ pub record WritableConf (conf : ConfSeen) : Type 0 where
   pub some_listens : 1 ≤ length conf.listens
   pub listens : Each WritableListen conf.listens
   pub upload : IfSome conf.upload WritableAt
-  pub few_listens : length (all_listens conf.listens conf.upload) ≤ 16
+  pub page : IfSome conf.page WritableAt
+  pub few_listens : length (all_listens conf.listens conf.upload conf.page) ≤ 16
   pub uplinks : Each WritableUplink conf.uplinks
   pub few_uplinks : length conf.uplinks ≤ 8
   pub group : WritableGroup conf.group conf.peers
@@ -159,8 +161,8 @@ at_writable address port =
 
 -- ---- listeners
 
-pub count_all : (listens : List Listen) (upload : Option Addr) → length (all_listens listens upload) ≡ length listens + length (http_listens upload)
-count_all listens upload = length-append listens (http_listens upload)
+pub count_all : (listens : List Listen) (upload page : Option Addr) → length (all_listens listens upload page) ≡ length listens + (length (http_listens upload) + length (status_listens page))
+count_all listens upload page = rw (length-append listens (http_listens upload ++ status_listens page), length-append (http_listens upload) (status_listens page)) refl
 
 -- each row of the table of kinds is a writable service
 found : {A : Type 0} (P : A → Type 0) (test : A → Bool) (xs : List A) → Each P xs → IfSome (find test xs) P
@@ -193,21 +195,28 @@ listen_in_writable args words =
 listen_writable : (draft : DraftSeen) (listen : Listen) → WritableDraft draft → WritableListen listen → IfOk (with_listen draft listen) WritableDraft
 listen_writable draft listen s is =
     unless_ok WritableDraft (is_full draft) fault.TooMany _ (λ room.
-    let less = leb-false 16 (length (all_listens draft.listens draft.upload)) room in
-    let few : length (all_listens (draft.listens ++ listen ∷ []) draft.upload) ≤ 16 = omega (arith, count_all draft.listens draft.upload, count_all (draft.listens ++ listen ∷ []) draft.upload, length-append draft.listens (listen ∷ [])) in
+    let less = leb-false 16 (length (all_listens draft.listens draft.upload draft.page)) room in
+    let few : length (all_listens (draft.listens ++ listen ∷ []) draft.upload draft.page) ≤ 16 = omega (arith, count_all draft.listens draft.upload draft.page, count_all (draft.listens ++ listen ∷ []) draft.upload draft.page, length-append draft.listens (listen ∷ [])) in
     let more = each_more WritableListen draft.listens listen s.listens is in
     assumption)
 
--- ---- submissions by HTTP
+-- ---- requests by HTTP
 
-upload_in_writable : (args : List (List ℕ)) → IfOk (upload_in args) WritableAt
-upload_in_writable args = wanted (λ _. Unit {0}) _ fault.BadCount (two_of args) _ (anything (two_of args)) (λ two _. at_writable two.0 two.1)
+front_in_writable : (args : List (List ℕ)) → IfOk (front_in args) WritableAt
+front_in_writable args = wanted (λ _. Unit {0}) _ fault.BadCount (two_of args) _ (anything (two_of args)) (λ two _. at_writable two.0 two.1)
 
 upload_writable : (draft : DraftSeen) (at : Addr) → WritableDraft draft → WritableAt at → IfOk (with_upload draft at) WritableDraft
 upload_writable draft at s is =
     unless_ok WritableDraft (is_full draft) fault.TooMany _ (λ room.
-    let less = leb-false 16 (length (all_listens draft.listens draft.upload)) room in
-    let few : length (all_listens draft.listens (Some at)) ≤ 16 = omega (arith, count_all draft.listens draft.upload, count_all draft.listens (Some at)) in
+    let less = leb-false 16 (length (all_listens draft.listens draft.upload draft.page)) room in
+    let few : length (all_listens draft.listens (Some at) draft.page) ≤ 16 = omega (arith, count_all draft.listens draft.upload draft.page, count_all draft.listens (Some at) draft.page) in
+    assumption)
+
+page_writable : (draft : DraftSeen) (at : Addr) → WritableDraft draft → WritableAt at → IfOk (with_page draft at) WritableDraft
+page_writable draft at s is =
+    unless_ok WritableDraft (is_full draft) fault.TooMany _ (λ room.
+    let less = leb-false 16 (length (all_listens draft.listens draft.upload draft.page)) room in
+    let few : length (all_listens draft.listens draft.upload (Some at)) ≤ 16 = omega (arith, count_all draft.listens draft.upload draft.page, count_all draft.listens draft.upload (Some at)) in
     assumption)
 
 -- ---- uplinks
@@ -282,7 +291,7 @@ group_writable draft args s words =
 -- ---- lines
 
 says_writable : (w : LineWord) (draft : DraftSeen) (args : List (List ℕ)) → WritableDraft draft → Each IsWord args → IfOk (says w draft args) WritableDraft
-unfolding group_says listen_says uplink_says upload_says
+unfolding group_says listen_says page_says uplink_says upload_says
 says_writable word.ServerId draft args s words =
     wanted IsWord _ fault.BadCount (one_of args) _ (one_word args words) (λ text own. wanted WritableCall _ fault.BadCall (station_of text) _ (station_writable text own) (λ call is. assumption))
 says_writable word.PassCode draft args s words =
@@ -290,7 +299,8 @@ says_writable word.PassCode draft args s words =
 says_writable word.MyAdmin draft args s words = wanted IsWord _ fault.BadCount (one_of args) _ (one_word args words) (λ text is. assumption)
 says_writable word.MyEmail draft args s words = wanted IsWord _ fault.BadCount (one_of args) _ (one_word args words) (λ text is. assumption)
 says_writable word.Listen draft args s words = then_ok WritableListen _ (listen_in args) _ (listen_in_writable args words) (λ listen. listen_writable draft listen s)
-says_writable word.HttpUpload draft args s words = then_ok WritableAt _ (upload_in args) _ (upload_in_writable args) (λ at. upload_writable draft at s)
+says_writable word.HttpUpload draft args s words = then_ok WritableAt _ (front_in args) _ (front_in_writable args) (λ at. upload_writable draft at s)
+says_writable word.HttpStatus draft args s words = then_ok WritableAt _ (front_in args) _ (front_in_writable args) (λ at. page_writable draft at s)
 says_writable word.Uplink draft args s words = then_ok WritableUplink _ (uplink_in args) _ (uplink_in_writable args words) (λ uplink. uplink_writable draft uplink s)
 says_writable word.PeerGroup draft args s words = group_writable draft args s words
 says_writable word.UpstreamTimeout draft args s words = then_ok (IsWithin 1 10000000) _ (time_in_line args) _ (time_writable args words) (λ time is. assumption)
@@ -333,6 +343,7 @@ empty_writable = record {
   email = tt;
   listens = tt;
   upload = tt;
+  page = tt;
   few_listens = omega arith;
   uplinks = tt;
   few_uplinks = omega arith;
@@ -357,6 +368,7 @@ conf_with_writable draft s =
       some_listens = omega arith;
       listens = s.listens;
       upload = s.upload;
+      page = s.page;
       few_listens = s.few_listens;
       uplinks = s.uplinks;
       few_uplinks = s.few_uplinks;

@@ -14,12 +14,12 @@ use Rattle.aprs_conf.specs.declared.errors.ConfFault.TheVariants as fault
 use Rattle.aprs_conf.specs.declared.types.Listen.{Listen}
 use Rattle.aprs_conf.specs.declared.types.PeerSpec.{PeerSpec}
 use Rattle.aprs_conf.specs.Arguments.{port_of, tcp, udp}
-use Rattle.aprs_conf.specs.Grammar.{after, at_line, at_of, conf_of, conf_with, drafted, empty, group_says, is_group, line_says, listen_in, listen_says, next, peer_of, peers_from, unless, uplink_in, uplink_says, upload_says, with_listen, with_uplink, words_say}
+use Rattle.aprs_conf.specs.Grammar.{after, at_line, at_of, conf_of, conf_with, drafted, empty, group_says, is_group, line_says, listen_in, listen_says, next, page_says, peer_of, peers_from, unless, uplink_in, uplink_says, upload_says, with_listen, with_uplink, words_say}
 use Rattle.aprs_base.specs.ResultSteps.{◌>>=◌}
 use Rattle.aprs_conf.specs.Seen.{ConfSeen, DraftSeen}
 use Rattle.aprs_conf.specs.Served.{all_listens}
 use Rattle.aprs_conf.specs.Words.{closed, has_open, lines_of}
-use Rattle.aprs_conf.specs.Writing.{at_words, conf_lines, group_line, group_lines, identity_lines, ip_text, kind_name, limit_lines, line_text, list_lines, listen_line, peer_words, proto_name, text_of_conf, uplink_line, upload_lines, word_text}
+use Rattle.aprs_conf.specs.Writing.{at_words, conf_lines, group_line, group_lines, identity_lines, ip_text, kind_name, limit_lines, line_text, list_lines, listen_line, page_lines, peer_words, proto_name, text_of_conf, uplink_line, upload_lines, word_text}
 use Rattle.aprs_conf.specs.Sound.{IsWithin}
 use Rattle.aprs_conf.proofs.WritableDrafts.{WritableAt, WritableConf, WritableGroup, WritableListen, WritablePeer, WritablePeers, WritableUplink, conf_writable, count_all}
 use Rattle.aprs_conf.proofs.WrittenLines.{line_read}
@@ -97,33 +97,44 @@ listen_again listen is = rw (is.service.again, at_again listen.spec.at is.at) re
 listen_is_line : (listen : Listen) → WritableListen listen → IsLine (listen_line listen)
 listen_is_line listen is = (refl, rw (is.name, is.service.kind, is.service.proto, ip_word listen.spec.at.ip is.at.ip, port_word listen.spec.at.port is.at.port) refl)
 
-one_listen_says : (draft : DraftSeen) (listen : Listen) → WritableListen listen → length (all_listens draft.listens draft.upload) < 16 → line_says draft (listen_line listen) ≡ Ok (record draft { listens = draft.listens ++ listen ∷ [] })
-unfolding listen_says group_says uplink_says upload_says
+one_listen_says : (draft : DraftSeen) (listen : Listen) → WritableListen listen → length (all_listens draft.listens draft.upload draft.page) < 16 → line_says draft (listen_line listen) ≡ Ok (record draft { listens = draft.listens ++ listen ∷ [] })
+unfolding listen_says group_says page_says uplink_says upload_says
 one_listen_says draft listen is room =
     ap (λ (r : Result Listen ConfFault). r >>= with_listen draft) (listen_again listen is)
-    ∙ ap (λ full. unless full fault.TooMany (Ok (record draft { listens = draft.listens ++ listen ∷ [] }))) (lt-leb 16 (length (all_listens draft.listens draft.upload)) room)
+    ∙ ap (λ full. unless full fault.TooMany (Ok (record draft { listens = draft.listens ++ listen ∷ [] }))) (lt-leb 16 (length (all_listens draft.listens draft.upload draft.page)) room)
 
-listens_say : (draft : DraftSeen) (listens : List Listen) → Each WritableListen listens → length (all_listens draft.listens draft.upload) + length listens ≤ 16 → all_say draft (map listen_line listens) ≡ Ok (record draft { listens = draft.listens ++ listens })
+listens_say : (draft : DraftSeen) (listens : List Listen) → Each WritableListen listens → length (all_listens draft.listens draft.upload draft.page) + length listens ≤ 16 → all_say draft (map listen_line listens) ≡ Ok (record draft { listens = draft.listens ++ listens })
 listens_say draft [] each few = ap (λ ls. Ok (record draft { listens = ls })) (sym (append-nil draft.listens))
 listens_say draft (listen ∷ listens) each few =
     let more : DraftSeen = record draft { listens = draft.listens ++ listen ∷ [] } in
-    let room : length (all_listens more.listens draft.upload) + length listens ≤ 16 = omega (arith, count_all draft.listens draft.upload, count_all more.listens draft.upload, length-append draft.listens (listen ∷ [])) in
+    let room : length (all_listens more.listens draft.upload draft.page) + length listens ≤ 16 = omega (arith, count_all draft.listens draft.upload draft.page, count_all more.listens draft.upload draft.page, length-append draft.listens (listen ∷ [])) in
     ap (λ (r : Result DraftSeen ConfFault). r >>= λ d. all_say d (map listen_line listens)) (one_listen_says draft listen each.0 (omega arith))
     ∙ listens_say more listens each.1 room
     ∙ ap (λ ls. Ok (record draft { listens = ls })) (append_assoc draft.listens (listen ∷ []) listens)
 
--- ---- submissions by HTTP
+-- ---- requests by HTTP
 
-uploads_say : (draft : DraftSeen) (upload : Option Addr) → IfSome upload WritableAt → draft.upload ≡ None → length (all_listens draft.listens upload) ≤ 16 → all_say draft (upload_lines upload) ≡ Ok (record draft { upload = upload })
-unfolding listen_says group_says uplink_says upload_says
+uploads_say : (draft : DraftSeen) (upload : Option Addr) → IfSome upload WritableAt → draft.upload ≡ None → length (all_listens draft.listens upload draft.page) ≤ 16 → all_say draft (upload_lines upload) ≡ Ok (record draft { upload = upload })
+unfolding listen_says group_says page_says uplink_says upload_says
 uploads_say draft None is none few = ap (λ u. Ok (record draft { upload = u })) none
 uploads_say draft (Some at) is none few =
-    let room : length (all_listens draft.listens None) < 16 = omega (arith, count_all draft.listens None, count_all draft.listens (Some at)) in
-    rw (none, at_again at is, lt-leb 16 (length (all_listens draft.listens None)) room) refl
+    let room : length (all_listens draft.listens None draft.page) < 16 = omega (arith, count_all draft.listens None draft.page, count_all draft.listens (Some at) draft.page) in
+    rw (none, at_again at is, lt-leb 16 (length (all_listens draft.listens None draft.page)) room) refl
+
+pages_say : (draft : DraftSeen) (page : Option Addr) → IfSome page WritableAt → draft.page ≡ None → length (all_listens draft.listens draft.upload page) ≤ 16 → all_say draft (page_lines page) ≡ Ok (record draft { page = page })
+unfolding listen_says group_says page_says uplink_says upload_says
+pages_say draft None is none few = ap (λ p. Ok (record draft { page = p })) none
+pages_say draft (Some at) is none few =
+    let room : length (all_listens draft.listens draft.upload None) < 16 = omega (arith, count_all draft.listens draft.upload None, count_all draft.listens draft.upload (Some at)) in
+    rw (none, at_again at is, lt-leb 16 (length (all_listens draft.listens draft.upload None)) room) refl
 
 uploads_are_lines : (upload : Option Addr) → IfSome upload WritableAt → Each IsLine (upload_lines upload)
 uploads_are_lines None is = tt
 uploads_are_lines (Some at) is = ((refl, rw (ip_word at.ip is.ip, port_word at.port is.port) refl), tt)
+
+pages_are_lines : (page : Option Addr) → IfSome page WritableAt → Each IsLine (page_lines page)
+pages_are_lines None is = tt
+pages_are_lines (Some at) is = ((refl, rw (ip_word at.ip is.ip, port_word at.port is.port) refl), tt)
 
 -- ---- uplinks
 
@@ -134,7 +145,7 @@ uplink_is_line : (uplink : UplinkSeen) → WritableUplink uplink → IsLine (upl
 uplink_is_line uplink is = (refl, rw (is.word, port_word uplink.port is.port) refl)
 
 one_uplink_says : (draft : DraftSeen) (uplink : UplinkSeen) → WritableUplink uplink → length draft.uplinks < 8 → line_says draft (uplink_line uplink) ≡ Ok (record draft { uplinks = draft.uplinks ++ uplink ∷ [] })
-unfolding uplink_says group_says listen_says upload_says
+unfolding uplink_says group_says listen_says page_says upload_says
 one_uplink_says draft uplink is room =
     ap (λ (r : Result UplinkSeen ConfFault). r >>= with_uplink draft) (uplink_again uplink is)
     ∙ ap (λ full. unless full fault.TooMany (Ok (record draft { uplinks = draft.uplinks ++ uplink ∷ [] }))) (lt-leb 8 (length draft.uplinks) room)
@@ -218,8 +229,9 @@ lists_are_lines : (conf : ConfSeen) → WritableConf conf → Each IsLine (list_
 lists_are_lines conf is =
     each_append IsLine (map listen_line conf.listens) _ (each_map WritableListen IsLine listen_line listen_is_line conf.listens is.listens)
     (each_append IsLine (upload_lines conf.upload) _ (uploads_are_lines conf.upload is.upload)
+    (each_append IsLine (page_lines conf.page) _ (pages_are_lines conf.page is.page)
     (each_append IsLine (map uplink_line conf.uplinks) _ (each_map WritableUplink IsLine uplink_line uplink_is_line conf.uplinks is.uplinks)
-    (groups_are_lines conf.group conf.peers is.group)))
+    (groups_are_lines conf.group conf.peers is.group))))
 
 conf_are_lines : (conf : ConfSeen) → WritableConf conf → Each IsLine (conf_lines conf)
 conf_are_lines conf is =
@@ -255,7 +267,7 @@ first_draft conf = record empty {
 }
 
 abbrev whole_draft : ConfSeen → DraftSeen
-whole_draft conf = record (first_draft conf) { listens = conf.listens; upload = conf.upload; uplinks = conf.uplinks; group = conf.group; peers = conf.peers }
+whole_draft conf = record (first_draft conf) { listens = conf.listens; upload = conf.upload; page = conf.page; uplinks = conf.uplinks; group = conf.group; peers = conf.peers }
 
 first_say : (conf : ConfSeen) (lines : List (List (List ℕ))) → WritableConf conf → all_say empty (identity_lines conf ++ (limit_lines conf ++ lines)) ≡ all_say (first_draft conf) lines
 first_say conf lines is =
@@ -274,15 +286,20 @@ conf_says conf is =
     let first : DraftSeen = first_draft conf in
     let second : DraftSeen = record first { listens = conf.listens } in
     let third : DraftSeen = record second { upload = conf.upload } in
-    let fourth : DraftSeen = record third { uplinks = conf.uplinks } in
-    let uploads : List (List (List ℕ)) = upload_lines conf.upload in
-    let room : 0 + length conf.listens ≤ 16 = (let few = is.few_listens in omega (arith, count_all conf.listens conf.upload)) in
+    let fourth : DraftSeen = record third { page = conf.page } in
+    let fifth : DraftSeen = record fourth { uplinks = conf.uplinks } in
+    let uplinks : List (List (List ℕ)) = map uplink_line conf.uplinks in
+    let pages : List (List (List ℕ)) = page_lines conf.page in
+    let counted = count_all conf.listens conf.upload conf.page in
+    let room : 0 + length conf.listens ≤ 16 = (let few = is.few_listens in omega arith) in
+    let one_less : length (all_listens conf.listens conf.upload None) ≤ 16 = (let few = is.few_listens in omega (arith, count_all conf.listens conf.upload None)) in
     let space : 0 + length conf.uplinks ≤ 8 = (let few = is.few_uplinks in omega arith) in
     first_say conf (list_lines conf) is
-    ∙ all_say-append first second (map listen_line conf.listens) (uploads ++ (map uplink_line conf.uplinks ++ group)) (listens_say first conf.listens is.listens room)
-    ∙ all_say-append second third uploads (map uplink_line conf.uplinks ++ group) (uploads_say second conf.upload is.upload refl is.few_listens)
-    ∙ all_say-append third fourth (map uplink_line conf.uplinks) group (uplinks_say third conf.uplinks is.uplinks space)
-    ∙ groups_say fourth conf.group conf.peers is.group refl refl
+    ∙ all_say-append first second (map listen_line conf.listens) (upload_lines conf.upload ++ (pages ++ (uplinks ++ group))) (listens_say first conf.listens is.listens room)
+    ∙ all_say-append second third (upload_lines conf.upload) (pages ++ (uplinks ++ group)) (uploads_say second conf.upload is.upload refl one_less)
+    ∙ all_say-append third fourth pages (uplinks ++ group) (pages_say third conf.page is.page refl is.few_listens)
+    ∙ all_say-append fourth fifth uplinks group (uplinks_say fourth conf.uplinks is.uplinks space)
+    ∙ groups_say fifth conf.group conf.peers is.group refl refl
 
 made_of : (conf : ConfSeen) → 1 ≤ length conf.listens → conf_with (whole_draft conf) ≡ Ok conf
 made_of conf some = rw (ne_eqb (length conf.listens) 0 (λ e. omega arith)) refl

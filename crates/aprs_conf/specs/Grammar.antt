@@ -74,7 +74,7 @@ listen_in args = do
 
 -- no listener more may come
 abbrev pub is_full : DraftSeen → Bool
-is_full draft = nat_le 16 (length (all_listens draft.listens draft.upload))
+is_full draft = nat_le 16 (length (all_listens draft.listens draft.upload draft.page))
 
 abbrev pub with_listen : DraftSeen → Listen → Result DraftSeen ConfFault
 with_listen draft listen = unless (is_full draft) fault.TooMany (Ok (record draft { listens = draft.listens ++ listen ∷ [] }))
@@ -82,17 +82,25 @@ with_listen draft listen = unless (is_full draft) fault.TooMany (Ok (record draf
 unfoldable pub listen_says : DraftSeen → List (List ℕ) → Result DraftSeen ConfFault
 listen_says draft args = listen_in args >>= with_listen draft
 
--- `HTTPUpload ADDR PORT`
-abbrev pub upload_in : List (List ℕ) → Result Addr ConfFault
-upload_in args = do
+-- `ADDR PORT`
+abbrev pub front_in : List (List ℕ) → Result Addr ConfFault
+front_in args = do
   two ← need fault.BadCount (two_of args)
   at_of two.0 two.1
 
+-- `HTTPUpload ADDR PORT`
 abbrev pub with_upload : DraftSeen → Addr → Result DraftSeen ConfFault
 with_upload draft at = unless (is_full draft) fault.TooMany (Ok (record draft { upload = Some at }))
 
 unfoldable pub upload_says : DraftSeen → List (List ℕ) → Result DraftSeen ConfFault
-upload_says draft args = upload_in args >>= with_upload draft
+upload_says draft args = front_in args >>= with_upload draft
+
+-- `HTTPStatus ADDR PORT`
+abbrev pub with_page : DraftSeen → Addr → Result DraftSeen ConfFault
+with_page draft at = unless (is_full draft) fault.TooMany (Ok (record draft { page = Some at }))
+
+unfoldable pub page_says : DraftSeen → List (List ℕ) → Result DraftSeen ConfFault
+page_says draft args = front_in args >>= with_page draft
 
 -- `Uplink NAME full tcp HOST PORT`
 abbrev pub is_full_feed : List ℕ → List ℕ → Bool
@@ -191,6 +199,7 @@ says word.MyAdmin draft args = admin_says draft args
 says word.MyEmail draft args = email_says draft args
 says word.Listen draft args = listen_says draft args
 says word.HttpUpload draft args = upload_says draft args
+says word.HttpStatus draft args = page_says draft args
 says word.Uplink draft args = uplink_says draft args
 says word.PeerGroup draft args = group_says draft args
 says word.UpstreamTimeout draft args = timeout_says (λ time. record draft { up_timeout = Some time }) args
@@ -217,6 +226,7 @@ line_words =
     ∷ word_row (codes "MyEmail") word.MyEmail
     ∷ word_row (codes "Listen") word.Listen
     ∷ word_row (codes "HTTPUpload") word.HttpUpload
+    ∷ word_row (codes "HTTPStatus") word.HttpStatus
     ∷ word_row (codes "Uplink") word.Uplink
     ∷ word_row (codes "PeerGroup") word.PeerGroup
     ∷ word_row (codes "UpstreamTimeout") word.UpstreamTimeout
@@ -227,7 +237,7 @@ line_words =
 
 -- those without effect here
 abbrev pub unused : List (List ℕ)
-unused = codes "RunDir" ∷ codes "LogRotate" ∷ codes "FileLimit" ∷ codes "HTTPStatus" ∷ []
+unused = codes "RunDir" ∷ codes "LogRotate" ∷ codes "FileLimit" ∷ []
 
 abbrev pub is_unused : List ℕ → Bool
 is_unused text = list_any (λ name. is_keyword name text) unused
@@ -246,6 +256,7 @@ was_said word.PassCode draft = is_some draft.code
 was_said word.MyAdmin draft = is_some draft.admin
 was_said word.MyEmail draft = is_some draft.email
 was_said word.HttpUpload draft = is_some draft.upload
+was_said word.HttpStatus draft = is_some draft.page
 was_said word.PeerGroup draft = is_some draft.group
 was_said word.UpstreamTimeout draft = is_some draft.up_timeout
 was_said word.ClientTimeout draft = is_some draft.client_timeout
@@ -285,7 +296,7 @@ drafted n draft [] = Ok draft
 drafted n draft (line ∷ lines) = at_line n (after draft line) >>= λ more. drafted (next n) more lines
 
 abbrev pub empty : DraftSeen
-empty = record { server = None; code = None; admin = None; email = None; listens = []; upload = None; uplinks = []; group = None; peers = []; up_timeout = None; client_timeout = None; max_clients = None; dupe_window = None }
+empty = record { server = None; code = None; admin = None; email = None; listens = []; upload = None; page = None; uplinks = []; group = None; peers = []; up_timeout = None; client_timeout = None; max_clients = None; dupe_window = None }
 
 -- the configuration of a draft: 15 seconds, 48 hours, 500 clients and a window of 30 seconds, where the lines say nothing else
 abbrev pub filled : DraftSeen → List ℕ → ℕ → ConfSeen
@@ -296,6 +307,7 @@ filled draft server code = record {
   email = unwrap_or draft.email [];
   listens = draft.listens;
   upload = draft.upload;
+  page = draft.page;
   uplinks = draft.uplinks;
   group = draft.group;
   peers = draft.peers;

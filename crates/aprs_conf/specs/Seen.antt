@@ -12,6 +12,7 @@ pub record ConfSeen : Type 0 where
   pub email : List ℕ
   pub listens : List Listen
   pub upload : Option Addr
+  pub page : Option Addr
   pub uplinks : List UplinkSeen
   pub group : Option Addr
   pub peers : List PeerSpec
@@ -28,6 +29,7 @@ pub record DraftSeen : Type 0 where
   pub email : Option (List ℕ)
   pub listens : List Listen
   pub upload : Option Addr
+  pub page : Option Addr
   pub uplinks : List UplinkSeen
   pub group : Option Addr
   pub peers : List PeerSpec

@@ -16,11 +16,11 @@ pub record IsGroup (group : Option Addr) (peers : List PeerSpec) : Type 0 where
   pub stations : IsTrue (list_all (λ peer. is_station peer.call) peers)
   pub grouped : group ≡ None → peers ≡ []
 
--- of the 16 listeners one may be that for submissions by HTTP, but it alone isn't enough
+-- of the 16 listeners two may be those for requests by HTTP, but they alone aren't enough
 pub record IsSound (conf : ConfSeen) : Type 0 where
   pub server : IsTrue (is_station conf.server)
   pub listens : IsWithin 1 16 (length conf.listens)
-  pub upload : length (all_listens conf.listens conf.upload) ≤ 16
+  pub served : length (all_listens conf.listens conf.upload conf.page) ≤ 16
   pub uplinks : length conf.uplinks ≤ 8
   pub peers : IsGroup conf.group conf.peers
   pub up_timeout : IsWithin 1 10000000 conf.up_timeout

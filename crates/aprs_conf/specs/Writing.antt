@@ -67,9 +67,16 @@ at_words at = ip_text at.ip ∷ decimal at.port ∷ []
 abbrev pub listen_line : Listen → List (List ℕ)
 listen_line listen = codes "Listen" ∷ listen.name ∷ kind_name listen.spec.kind ∷ proto_name listen.spec.kind listen.idle ∷ at_words listen.spec.at
 
+-- a line of this word, where there is an address
+abbrev pub front_lines : List ℕ → Option Addr → List (List (List ℕ))
+front_lines word None = []
+front_lines word (Some at) = (word ∷ at_words at) ∷ []
+
 abbrev pub upload_lines : Option Addr → List (List (List ℕ))
-upload_lines None = []
-upload_lines (Some at) = (codes "HTTPUpload" ∷ at_words at) ∷ []
+upload_lines upload = front_lines (codes "HTTPUpload") upload
+
+abbrev pub page_lines : Option Addr → List (List (List ℕ))
+page_lines page = front_lines (codes "HTTPStatus") page
 
 -- the name of an uplink is not kept
 abbrev pub uplink_line : UplinkSeen → List (List ℕ)
@@ -103,9 +110,10 @@ limit_lines conf =
     ∷ []
 
 abbrev pub list_lines : ConfSeen → List (List (List ℕ))
-list_lines conf = map listen_line conf.listens ++ (upload_lines conf.upload ++ (map uplink_line conf.uplinks ++ group_lines conf.group conf.peers))
+list_lines conf =
+    map listen_line conf.listens ++ (upload_lines conf.upload ++ (page_lines conf.page ++ (map uplink_line conf.uplinks ++ group_lines conf.group conf.peers)))
 
--- each line's words; a line that may be left out is written too, but for those of submissions by HTTP and of a group where there are none
+-- each line's words; a line that may be left out is written too, but for those of requests by HTTP and of a group where there are none
 abbrev pub conf_lines : ConfSeen → List (List (List ℕ))
 conf_lines conf = identity_lines conf ++ (limit_lines conf ++ list_lines conf)
 

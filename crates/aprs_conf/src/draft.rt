@@ -1,6 +1,6 @@
 //! What the lines so far have said, and what each kind of line adds.
 ghost use Rattle.std.specs.Prelude.{◌≡◌, Some, ◌<◌, ◌∷◌, ◌++◌, List, Ok, Err, IfOk, MatchResult, [], length};
-ghost use Rattle.aprs_conf.specs.Grammar.{admin_says, at_of, clients_say, code_says, email_says, empty, group_in, group_says, is_full, is_group, listen_in, listen_says, nothing_says, peer_of, peers_from, server_says, time_in_line, timeout_says, uplink_in, uplink_says, upload_in, upload_says, window_says};
+ghost use Rattle.aprs_conf.specs.Grammar.{admin_says, at_of, clients_say, code_says, email_says, empty, front_in, group_in, group_says, is_full, is_group, listen_in, listen_says, nothing_says, page_says, peer_of, peers_from, server_says, time_in_line, timeout_says, uplink_in, uplink_says, upload_says, window_says};
 ghost use Rattle.aprs_conf.specs.declared.types.PeerSpec.{PeerSpec};
 ghost use Rattle.aprs_conf.specs.Seen.{DraftSeen};
 ghost use Rattle.aprs_conf.specs.Reading.{Becomes, BecomesUnless, Fails};
@@ -15,7 +15,7 @@ use login_pass::code_number;
 use std::alloc::Global;
 use std::marker::Model;
 
-/// That for submissions by HTTP is one of them.
+/// Those for requests by HTTP are among them.
 const MOST_LISTENS: usize = 16;
 
 const MOST_UPLINKS: usize = 8;
@@ -29,6 +29,7 @@ pub struct Draft {
     pub email: Option<Text>,
     pub listens: Vec<Listen>,
     pub upload: Option<Addr>,
+    pub page: Option<Addr>,
     pub uplinks: Vec<UplinkSpec>,
     pub group: Option<Addr>,
     pub peers: Vec<PeerSpec>,
@@ -43,7 +44,7 @@ impl Model for Draft {
 
     ghost Value = { DraftSeen };
 
-    ghost view = { λ d. record { server = d.server; code = d.code; admin = d.admin; email = d.email; listens = d.listens.items; upload = d.upload; uplinks = d.uplinks.items; group = d.group; peers = d.peers.items; up_timeout = d.up_timeout; client_timeout = d.client_timeout; max_clients = d.max_clients; dupe_window = d.dupe_window } };
+    ghost view = { λ d. record { server = d.server; code = d.code; admin = d.admin; email = d.email; listens = d.listens.items; upload = d.upload; page = d.page; uplinks = d.uplinks.items; group = d.group; peers = d.peers.items; up_timeout = d.up_timeout; client_timeout = d.client_timeout; max_clients = d.max_clients; dupe_window = d.dupe_window } };
 }
 
 impl Draft {
@@ -58,6 +59,7 @@ impl Draft {
             email: None,
             listens: Vec::new(alloc),
             upload: None,
+            page: None,
             uplinks: Vec::new(alloc),
             group: None,
             peers: Vec::new(alloc),
@@ -177,11 +179,9 @@ fn read_listen(args: &[u8]) -> Result<ListenRead<'_>, ConfFault>
 fn is_full(draft: &Draft) -> bool
     ensures { result ≡ is_full draft.now }
 {
-    let listens = draft.listens.len();
-    match draft.upload {
-        Some(_) => listens >= MOST_LISTENS - 1,
-        None => listens >= MOST_LISTENS,
-    }
+    let uploads = usize::from(draft.upload.is_some());
+    let pages = usize::from(draft.page.is_some());
+    draft.listens.len() >= MOST_LISTENS - uploads - pages
 }
 
 /// Adds a listener, whose name becomes a text of its own.
@@ -212,8 +212,9 @@ pub fn add_listen(alloc: Global, draft: &mut Draft, args: &[u8]) -> Result<(), L
     push_listen(alloc, &mut draft.listens, read)
 }
 
-fn read_upload(args: &[u8]) -> Result<Addr, ConfFault>
-    ensures { result ≡ upload_in (arguments_of args.now) }
+/// `ADDR PORT`
+fn read_front(args: &[u8]) -> Result<Addr, ConfFault>
+    ensures { result ≡ front_in (arguments_of args.now) }
 {
     let (address, number) = two_alone(args).ok_or(ConfFault::BadCount)?;
     at(address, number)
@@ -224,11 +225,24 @@ fn read_upload(args: &[u8]) -> Result<Addr, ConfFault>
 pub fn add_upload(draft: &mut Draft, args: &[u8]) -> Result<(), LineError>
     ensures { BecomesUnless result draft.new (upload_says draft.old (arguments_of args.now)) }
 {
-    let at = read_upload(args)?;
+    let at = read_front(args)?;
     if is_full(draft) {
         return Err(LineError::Fault(ConfFault::TooMany));
     }
     draft.upload = Some(at);
+    Ok(())
+}
+
+/// `HTTPStatus ADDR PORT`
+#[tactic(auto, unfolding(crate::specs::Grammar::page_says))]
+pub fn add_page(draft: &mut Draft, args: &[u8]) -> Result<(), LineError>
+    ensures { BecomesUnless result draft.new (page_says draft.old (arguments_of args.now)) }
+{
+    let at = read_front(args)?;
+    if is_full(draft) {
+        return Err(LineError::Fault(ConfFault::TooMany));
+    }
+    draft.page = Some(at);
     Ok(())
 }
 

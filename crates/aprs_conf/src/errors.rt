@@ -38,7 +38,7 @@ pub enum ConfFault {
     /// A host of no byte or of more than 64.
     #[error("bad-host")]
     BadHost,
-    /// A 17th listen, that for submissions by HTTP among them, or a ninth uplink.
+    /// A 17th listen, those for requests by HTTP among them, or a ninth uplink.
     #[error("too-many")]
     TooMany,
 }

@@ -10,7 +10,7 @@ ghost use Rattle.login_pass.specs.Login.{is_keyword};
 
 use crate::draft::{
     Draft, add_admin, add_client_timeout, add_code, add_dupe_window, add_email, add_group,
-    add_listen, add_max_clients, add_server, add_up_timeout, add_uplink, add_upload,
+    add_listen, add_max_clients, add_page, add_server, add_up_timeout, add_uplink, add_upload,
     expect_argument,
 };
 use crate::errors::{ConfError, ConfFault, ConfWord, LineError};
@@ -28,6 +28,7 @@ pub enum LineWord {
     MyEmail,
     Listen,
     HttpUpload,
+    HttpStatus,
     Uplink,
     PeerGroup,
     UpstreamTimeout,
@@ -48,10 +49,7 @@ fn is_name(name: &[u8], text: &[u8]) -> bool
 fn is_unused(text: &[u8]) -> bool
     ensures { result ≡ is_unused text.now }
 {
-    is_name(b"RunDir", text)
-        || is_name(b"LogRotate", text)
-        || is_name(b"FileLimit", text)
-        || is_name(b"HTTPStatus", text)
+    is_name(b"RunDir", text) || is_name(b"LogRotate", text) || is_name(b"FileLimit", text)
 }
 
 /// The word that begins a line, letters taken without their case.
@@ -70,6 +68,8 @@ fn line_word(text: &[u8]) -> Option<LineWord>
         Some(LineWord::Listen)
     } else if is_name(b"HTTPUpload", text) {
         Some(LineWord::HttpUpload)
+    } else if is_name(b"HTTPStatus", text) {
+        Some(LineWord::HttpStatus)
     } else if is_name(b"Uplink", text) {
         Some(LineWord::Uplink)
     } else if is_name(b"PeerGroup", text) {
@@ -99,6 +99,7 @@ fn was_said(word: LineWord, draft: &Draft) -> bool
         LineWord::MyAdmin => draft.admin.is_some(),
         LineWord::MyEmail => draft.email.is_some(),
         LineWord::HttpUpload => draft.upload.is_some(),
+        LineWord::HttpStatus => draft.page.is_some(),
         LineWord::PeerGroup => draft.group.is_some(),
         LineWord::UpstreamTimeout => draft.up_timeout.is_some(),
         LineWord::ClientTimeout => draft.client_timeout.is_some(),
@@ -119,6 +120,7 @@ fn add(alloc: Global, word: LineWord, draft: &mut Draft, args: &[u8]) -> Result<
         LineWord::MyEmail => add_email(alloc, draft, args),
         LineWord::Listen => add_listen(alloc, draft, args),
         LineWord::HttpUpload => add_upload(draft, args),
+        LineWord::HttpStatus => add_page(draft, args),
         LineWord::Uplink => add_uplink(draft, args),
         LineWord::PeerGroup => add_group(alloc, draft, args),
         LineWord::UpstreamTimeout => add_up_timeout(draft, args),
@@ -211,6 +213,7 @@ fn finish(alloc: Global, draft: Draft) -> Result<Conf, ConfError>
         email: text_or_empty(alloc, draft.email),
         listens: draft.listens,
         upload: draft.upload,
+        page: draft.page,
         uplinks: draft.uplinks,
         group: draft.group,
         peers: draft.peers,

@@ -1,6 +1,6 @@
-//! The configuration that is served: in it submissions by HTTP have a listener like the others.
-ghost use Rattle.std.specs.Prelude.{◌≡◌, ◌≤◌, IfOk, length};
-ghost use Rattle.aprs_conf.specs.Served.{http_listen, numbered, served_conf, upload_number};
+//! The configuration that is served: in it requests by HTTP have listeners like the others.
+ghost use Rattle.std.specs.Prelude.{◌≡◌, ◌≤◌, ◌++◌, IfOk, OnOk, length};
+ghost use Rattle.aprs_conf.specs.Served.{front_listens, numbered, page_number, served_conf, upload_number};
 ghost use Rattle.aprs_conf.specs.Sound.{IsSound};
 
 use crate::types::{Conf, Listen};
@@ -21,32 +21,41 @@ pub fn count_numbered(listens: &[Listen]) -> usize
     count
 }
 
-/// The listener for submissions by HTTP.
-fn http_listen(alloc: Global, at: Addr) -> Result<Listen, Memory>
-    ensures { IfOk result (λ listen. listen ≡ http_listen at) }
+/// Adds the listener of this name, where it has an address.
+fn push_front(
+    alloc: Global,
+    listens: &mut Vec<Listen>,
+    name: &[u8],
+    at: Option<Addr>,
+) -> Result<(), Memory>
+    ensures { OnOk result (listens.new.items ≡ listens.old.items ++ front_listens name.now at) }
 {
-    Ok(Listen {
-        name: Text::copied(alloc, b"http")?,
+    let Some(at) = at else {
+        return Ok(());
+    };
+    listens.push(Listen {
+        name: Text::copied(alloc, name)?,
         spec: ListenSpec {
             kind: PortKind::Submit,
             at,
         },
         idle: false,
-    })
+    })?;
+    Ok(())
 }
 
 impl Conf {
-    /// The configuration that is served: the listener for submissions by HTTP, where there is one, is the last of the listens,
-    /// by the name `http`. Fails only where memory is wanting.
+    /// The configuration that is served: the listeners for submissions by HTTP and of the status page, where there are such, are
+    /// the last of the listens, by the names `http` and `status`. Fails only where memory is wanting.
     pub fn served(self, alloc: Global) -> Result<Conf, Memory>
         ensures value { IfOk result (λ conf. conf ≡ served_conf self) }
         ensures sound { IsSound self → IfOk result IsSound }
     {
         let mut conf = self;
-        if let Some(at) = conf.upload {
-            conf.listens.push(http_listen(alloc, at)?)?;
-            conf.upload = None;
-        }
+        push_front(alloc, &mut conf.listens, b"http", conf.upload)?;
+        push_front(alloc, &mut conf.listens, b"status", conf.page)?;
+        conf.upload = None;
+        conf.page = None;
         Ok(conf)
     }
 
@@ -59,6 +68,20 @@ impl Conf {
         match self.upload {
             Some(_) => Some(count_numbered(self.listens.as_slice()) as u16),
             None => None,
+        }
+    }
+
+    /// The number of the status page's listener in the configuration that is served, 0 to 17: how many listeners of lines and for
+    /// submissions have a number. None where there is no such listener.
+    pub fn page_number(&self) -> Option<u16>
+        requires few { length self.now.listens ≤ 16 }
+        ensures { result ≡ page_number self.now }
+    {
+        self.page?;
+        let lines = count_numbered(self.listens.as_slice()) as u16;
+        match self.upload {
+            Some(_) => Some(lines + 1),
+            None => Some(lines),
         }
     }
 }

@@ -30,6 +30,8 @@ pub struct Conf {
     pub listens: Vec<Listen>,
     /// Where submissions by HTTP are taken. This is one listener more, which counts for the 16.
     pub upload: Option<Addr>,
+    /// Where the status page is asked for. This too is one listener more, which counts for the 16.
+    pub page: Option<Addr>,
     /// At most 8 servers to dial.
     pub uplinks: Vec<UplinkSpec>,
     /// Where datagrams of the group are taken, and at most 8 peers: none where there is no group.
@@ -50,5 +52,5 @@ impl Model for Conf {
 
     ghost Value = { ConfSeen };
 
-    ghost view = { λ c. record { server = c.server; code = c.code; admin = c.admin; email = c.email; listens = c.listens.items; upload = c.upload; uplinks = c.uplinks.items; group = c.group; peers = c.peers.items; up_timeout = c.up_timeout; client_timeout = c.client_timeout; max_clients = c.max_clients; dupe_window = c.dupe_window } };
+    ghost view = { λ c. record { server = c.server; code = c.code; admin = c.admin; email = c.email; listens = c.listens.items; upload = c.upload; page = c.page; uplinks = c.uplinks.items; group = c.group; peers = c.peers.items; up_timeout = c.up_timeout; client_timeout = c.client_timeout; max_clients = c.max_clients; dupe_window = c.dupe_window } };
 }

@@ -4,7 +4,7 @@ ghost use Rattle.std.specs.Fmt.{decimal};
 ghost use Rattle.std.specs.List.{flat_map, list_all};
 ghost use Rattle.aprs_conf.specs.Grammar.{conf_of};
 ghost use Rattle.aprs_conf.specs.Words.{is_gap};
-ghost use Rattle.aprs_conf.specs.Writing.{at_words, group_lines, identity_lines, ip_text, is_bare, kind_name, limit_lines, line_text, list_lines, listen_line, peer_words, proto_name, spelled, text_of_conf, uplink_line, upload_lines, word_text};
+ghost use Rattle.aprs_conf.specs.Writing.{at_words, front_lines, group_lines, identity_lines, ip_text, is_bare, kind_name, limit_lines, line_text, list_lines, listen_line, peer_words, proto_name, spelled, text_of_conf, uplink_line, word_text};
 
 use crate::types::{Conf, Listen, PeerSpec};
 use crate::words::is_gap_byte;
@@ -159,15 +159,15 @@ impl ConfText {
         Ok(())
     }
 
-    /// The line for submissions by HTTP, where there is one.
+    /// The line of this word, where there is an address.
     #[tactic(auto, unfolding(crate::specs::Writing::line_text))]
-    fn upload(&mut self, upload: Option<Addr>) -> Result<(), AllocError>
-        ensures { OnOk result (self.new ≡ self.old ++ flat_map line_text (upload_lines upload)) }
+    fn front(&mut self, word: &[u8], at: Option<Addr>) -> Result<(), AllocError>
+        ensures { OnOk result (self.new ≡ self.old ++ flat_map line_text (front_lines word.now at)) }
     {
-        let Some(at) = upload else {
+        let Some(at) = at else {
             return Ok(());
         };
-        self.word(b"HTTPUpload")?;
+        self.word(word)?;
         self.at(at)?;
         Ok(self.text.push(b'\n')?)
     }
@@ -252,7 +252,8 @@ impl ConfText {
         ensures { OnOk result (self.new ≡ self.old ++ flat_map line_text (list_lines conf.now)) }
     {
         self.listens(conf.listens.as_slice())?;
-        self.upload(conf.upload)?;
+        self.front(b"HTTPUpload", conf.upload)?;
+        self.front(b"HTTPStatus", conf.page)?;
         self.uplinks(conf.uplinks.as_slice())?;
         self.group(conf.group, conf.peers.as_slice())
     }

@@ -105,12 +105,12 @@ grouped script number group peers limits is same = record {
 }
 
 pub conf_sound : (script : ScriptSeen) (number : ℕ) (server : ScriptServer) (conf : ConfSeen) → KeepsLimits script → IsTrue (is_station server.call) → IsWithin 10 300 server.window
-    → conf.server ≡ server.call → conf.listens ≡ plain_conf.listens → conf.upload ≡ None → conf.uplinks ≡ uplinks_at number script.pairs → conf.group ≡ group_of number script.peers → map peer_of conf.peers ≡ peers_at script number
+    → conf.server ≡ server.call → conf.listens ≡ plain_conf.listens → conf.upload ≡ None → conf.page ≡ None → conf.uplinks ≡ uplinks_at number script.pairs → conf.group ≡ group_of number script.peers → map peer_of conf.peers ≡ peers_at script number
     → conf.up_timeout ≡ 15 → conf.client_timeout ≡ 172800 → conf.max_clients ≡ 500 → conf.dupe_window ≡ server.window → IsSound conf
-conf_sound script number server conf limits station window named listens upload uplinks group peers up client most kept = record {
+conf_sound script number server conf limits station window named listens upload page uplinks group peers up client most kept = record {
   server = subst (λ call. IsTrue (is_station call)) (sym named) station;
   listens = subst (λ all. IsWithin 1 16 (length all)) (sym listens) (omega arith, omega arith);
-  upload = rw (listens, upload) (omega arith);
+  served = rw (listens, upload, page) (omega arith);
   uplinks = (let count = length-replicate (uplinks_of number script.pairs) some_uplink in let few = limits.uplinks number in omega (arith, ap length uplinks, count, few));
   peers = grouped script number conf.group conf.peers limits group peers;
   up_timeout = (omega (arith, up), omega (arith, up));

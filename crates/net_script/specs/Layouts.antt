@@ -89,6 +89,7 @@ plain_conf = record {
   email = [];
   listens = listen (codes "full") kind.Full 10152 ∷ listen (codes "igate") kind.Igate 14580 ∷ [];
   upload = None;
+  page = None;
   uplinks = [];
   group = None;
   peers = [];

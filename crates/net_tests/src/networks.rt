@@ -63,6 +63,7 @@ fn conf_of<R: Abort>(rt: &R, alloc: Global, call: &[u8], code: u32, dials: bool)
         email: no_text(alloc),
         listens: Vec::from_array(alloc, [full_feed(alloc)]).expect(rt, "memory"),
         upload: None,
+        page: None,
         uplinks,
         group: None,
         peers: Vec::new(alloc),

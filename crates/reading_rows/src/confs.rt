@@ -39,6 +39,9 @@ fn put_lists(alloc: Global, text: &mut String, conf: &Conf) -> Result<(), AllocE
     if let Some(upload) = &conf.upload {
         write!(text, "\n    upload {}", addr_text(alloc, upload)?)?;
     }
+    if let Some(page) = &conf.page {
+        write!(text, "\n    page {}", addr_text(alloc, page)?)?;
+    }
     for uplink in &conf.uplinks {
         put_uplink(alloc, text, uplink)?;
     }
@@ -99,22 +102,35 @@ pub fn again(alloc: Global, field: &str) -> Result<String, RowError> {
     }
 }
 
-/// The number of the listener for submissions by HTTP, and what the configuration says that is served.
-fn served_text(alloc: Global, number: Option<u16>, served: &Conf) -> Result<String, AllocError> {
-    let text = conf_text(alloc, served)?;
+fn put_number(text: &mut String, name: &str, number: Option<u16>) -> Result<(), AllocError> {
     match number {
-        Some(number) => format!(in alloc; "\n    http number {number}{text}"),
-        None => format!(in alloc; "\n    no http{text}"),
+        Some(number) => write!(text, "\n    {name} number {number}"),
+        None => write!(text, "\n    no {name}"),
     }
+}
+
+/// The numbers of the listeners for requests by HTTP, and what the configuration says that is served.
+fn served_text(
+    alloc: Global,
+    http: Option<u16>,
+    status: Option<u16>,
+    served: &Conf,
+) -> Result<String, AllocError> {
+    let mut text = String::new(alloc);
+    put_number(&mut text, "http", http)?;
+    put_number(&mut text, "status", status)?;
+    write!(text, "{}", conf_text(alloc, served)?)?;
+    Ok(text)
 }
 
 /// What is served of a configuration.
 pub fn served(alloc: Global, field: &str) -> Result<String, RowError> {
     match read(alloc, read_bytes(alloc, field)?.as_slice()) {
         Ok(conf) => {
-            let number = conf.upload_number();
+            let http = conf.upload_number();
+            let status = conf.page_number();
             let served = conf.served(alloc).map_err(no_memory)?;
-            Ok(served_text(alloc, number, &served)?)
+            Ok(served_text(alloc, http, status, &served)?)
         }
         Err(ConfError::Memory) => Err(RowError::Memory(AllocError)),
         Err(_) => Err(RowError::Word),

@@ -1,7 +1,7 @@
 //! Logins and passcodes.
 
 use crate::fields::{read_call, read_line};
-use login_pass::{Login, code_number, passcode, read_login};
+use login_pass::{Login, code_number, downlink, passcode, read_login};
 use row_texts::{RowError, read_bytes, write_bytes};
 use std::alloc::{AllocError, Global};
 
@@ -37,4 +37,9 @@ pub fn pass(alloc: Global, field: &str) -> Result<String, RowError> {
 pub fn code(alloc: Global, field: &str) -> Result<String, RowError> {
     let text = read_bytes(alloc, field)?;
     Ok(format!(in alloc; "{:?}", code_number(text.as_slice()))?)
+}
+
+/// The port to which a login asks its lines to be sent.
+pub fn downlink_port(alloc: Global, field: &str) -> Result<String, RowError> {
+    Ok(format!(in alloc; "{:?}", downlink(&read_line(alloc, field)?))?)
 }

@@ -59,6 +59,7 @@ fn first_answer(alloc: Global, word: &str, row: &str) -> Result<String, RowError
         "login" => logins::login(alloc, row),
         "passcode" => logins::pass(alloc, row),
         "code" => logins::code(alloc, row),
+        "downlink" => logins::downlink_port(alloc, row),
         "post" => requests::post(alloc, row),
         "packet" => packets::parts(alloc, row),
         "filled" => packets::filled(alloc, row),

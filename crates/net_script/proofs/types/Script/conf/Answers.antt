@@ -14,6 +14,7 @@ returns-clause-sound c = λ limits station window.
     c.copy_call-conf-inside.ensures
     (ap (λ conf. conf.listens) plain)
     (ap (λ conf. conf.upload) plain)
+    (ap (λ conf. conf.page) plain)
     (c.in_ok-conf-inside.ensures ∙ ap (λ n. replicate n some_uplink) (c.count_uplinks.ensures ∙ ap (uplinks_of c.args.number) pairs))
     (c.group_of-conf-inside.ensures ∙ ap (group_of c.args.number) peers)
     c.in_ok-conf-inside-2.ensures
