@@ -1,5 +1,5 @@
 -- Keys and their texts.
-use Rattle.std.proofs.Common.{◌≡◌, ℕ, suc, Bool, true, false, filter, List, [], ◌∷◌, ◌++◌, length, take, drop, refl, sym, ap, subst, ◌∙◌, arith}
+use Rattle.std.proofs.Common.{◌≡◌, ℕ, suc, None, Bool, true, false, filter, List, [], ◌∷◌, ◌++◌, length, take, drop, refl, sym, ap, subst, ◌∙◌, arith}
 use Rattle.std.specs.Bool.{Decides, one_answer}
 use Rattle.std.specs.Cmp.{unsigned_Decides}
 use Rattle.std.specs.Map.{lookup}
@@ -63,6 +63,10 @@ lookup-unpacked key (pair ∷ pairs) are =
         → lookup (is_text (packed key)) (pair ∷ pairs) ≡ lookup (is_same_key key) (unpacked_pairs (pair ∷ pairs))
     by true is same rest = rw (same, is) refl
     by false is same rest = rw (same, is) rest
+
+pub no_pairs : (key : Key) (pairs : List (List ℕ × ℕ)) → length pairs ≡ 0 → None ≡ lookup (is_same_key key) (unpacked_pairs pairs)
+no_pairs key [] none = refl
+no_pairs key (pair ∷ pairs) none = absurd (cc)
 
 -- what is kept by the moments alone
 pub unpacked_pairs-filter : (seconds now : ℕ) (pairs : List (List ℕ × ℕ))

@@ -51,6 +51,10 @@ impl Pairs {
     pub fn moment_of(&self, key: &Key) -> Option<u64>
         ensures { result ≡ lookup (is_same_key key.now) self.now }
     {
+        // While none is kept no key needs to be hashed.
+        if self.texts.is_empty() {
+            return None;
+        }
         self.texts.get(key).copied()
     }
 

@@ -1,15 +1,29 @@
 //! Names, and what they match.
-ghost use Rattle.std.specs.Prelude.{◌≡◌};
-ghost use Rattle.std.specs.List.{list_any};
+ghost use Rattle.std.specs.Prelude.{◌≡◌, ◌==◌, true};
+ghost use Rattle.std.specs.List.{list_any, starts_with};
 ghost use Rattle.filter_eval.specs.Passes.{begins_with, is_some_and, matches, matches_one};
 
 use aprs_base::Word9;
 use filter_lang::{Name, Names};
 
+/// Whether the text may begin with the name, by the first byte of each. It mostly tells that it doesn't, and costs little.
+fn may_begin(text: &[u8], name: &[u8]) -> bool
+    ensures { starts_with ◌==◌ text.now name.now ≡ true → result ≡ true }
+{
+    if name.is_empty() {
+        return true;
+    }
+    if text.is_empty() {
+        return false;
+    }
+    text[0] == name[0]
+}
+
 fn begins_with(text: &[u8], name: &Name) -> bool
     ensures { result ≡ begins_with text.now name.now }
 {
-    text.starts_with(name.text.as_slice())
+    let name = name.text.as_slice();
+    may_begin(text, name) && text.starts_with(name)
 }
 
 /// Whether the name is the text, or, where it is wild, a beginning of it.
@@ -19,7 +33,7 @@ fn matches(text: &[u8], name: &Name) -> bool
     if name.wild {
         begins_with(text, name)
     } else {
-        text == name.text.as_slice()
+        *text == *name.text.as_slice()
     }
 }
 

@@ -1,8 +1,8 @@
 //! Which packets a term fits, and which a filter passes.
 ghost use Rattle.std.specs.Prelude.{◌≡◌, IsTrue};
 ghost use Rattle.std.specs.List.{list_any, zip};
-ghost use Rattle.filter_lang.specs.Terms.{is_in_range};
-ghost use Rattle.filter_eval.specs.Passes.{comes_by, fits, fresh_place, has_class, is_excluding, is_passing, passes_of, sight_at, term_fits};
+ghost use Rattle.filter_lang.specs.Terms.{is_distance, is_in_range};
+ghost use Rattle.filter_eval.specs.Passes.{comes_by, fits, fresh_place, has_class, is_excluding, is_near, is_passing, passes_of, place_or, term_fits};
 
 use crate::names::{begins_with_one, matches_one, matches_word};
 use crate::paths::{has_letter, matches_entry, matches_used};
@@ -13,23 +13,42 @@ use aprs_body::class::{MESSAGE, POSITION};
 use filter_lang::{FilterSet, Marks, Term, What};
 use std::marker::Model;
 
-/// What is known of stations where a packet is tested.
+/// What is known of stations where a packet is tested. Most terms ask for no place, so what is too old is left out only
+/// where one asks.
 #[derive(Drop)]
-struct Sight {
+struct Sight<'a> {
+    /// The packet's moment.
+    moment: u64,
     /// Where the link's login was last seen.
-    mine: Option<Place>,
+    login: &'a Option<Seen>,
     /// Where the packet's source was last seen.
-    source: Option<Place>,
+    known: &'a Option<Seen>,
     /// Whether the packet's source is a gate.
     gate: bool,
 }
 
-impl Model for Sight {
-    ghost use Rattle.filter_eval.specs.Passes.{Sight};
+impl<'a> Model for Sight<'a> {
+    ghost use Rattle.filter_eval.specs.Passes.{Sight, sight_at};
 
     ghost Value = { Sight };
 
-    ghost view = { λ s. record { mine = s.mine; source = s.source; gate = s.gate } };
+    ghost view = { λ s. sight_at s.moment s.login.now s.known.now s.gate };
+}
+
+impl<'a> Sight<'a> {
+    /// Where the link's login was last seen.
+    fn mine(&self) -> Option<Place>
+        ensures { result ≡ self.now.mine }
+    {
+        fresh_place(self.moment, *self.login)
+    }
+
+    /// Where the packet's source was last seen.
+    fn source(&self) -> Option<Place>
+        ensures { result ≡ self.now.source }
+    {
+        fresh_place(self.moment, *self.known)
+    }
 }
 
 fn has_class(body: &Body, mask: u16) -> bool
@@ -43,6 +62,36 @@ fn comes_by(packet: &Packet, gate: bool, letters: &Marks, gates: bool) -> bool
     ensures { result ≡ comes_by packet.now gate letters.now gates }
 {
     has_letter(letters, &packet.parts) || (gates && has_class(&packet.body, POSITION) && gate)
+}
+
+/// Whether the packet's place, or else where its source was last seen, is within `km` kilometres of where the call that a
+/// term names was last seen. The room of each place is cleared at every call, so what holds one has a function of its own.
+#[inline(never)]
+fn is_source_near(packet: &Packet, sight: &Sight, friend: &Option<Seen>, km: u32) -> bool
+    requires { IsTrue (is_distance km) }
+    ensures { result ≡ is_near (fresh_place packet.now.moment friend.now) km (place_or packet.now.body.place sight.now.source) }
+{
+    let friend = fresh_place(packet.moment, *friend);
+    is_near(&friend, km, &packet.body.place.or(sight.source()))
+}
+
+/// Whether the packet's place is within `km` kilometres of where the call that a term names was last seen.
+#[inline(never)]
+fn is_near_friend(packet: &Packet, friend: &Option<Seen>, km: u32) -> bool
+    requires { IsTrue (is_distance km) }
+    ensures { result ≡ is_near (fresh_place packet.now.moment friend.now) km packet.now.body.place }
+{
+    let friend = fresh_place(packet.moment, *friend);
+    is_near(&friend, km, &packet.body.place)
+}
+
+/// Whether the packet's place is within `km` kilometres of where the link's login was last seen.
+#[inline(never)]
+fn is_near_mine(packet: &Packet, sight: &Sight, km: u32) -> bool
+    requires { IsTrue (is_distance km) }
+    ensures { result ≡ is_near sight.now.mine km packet.now.body.place }
+{
+    is_near(&sight.mine(), km, &packet.body.place)
 }
 
 /// Whether the packet is what a term asks for, with where the call that the term names was last seen.
@@ -60,19 +109,15 @@ fn fits(packet: &Packet, sight: &Sight, friend: &Option<Seen>, what: &What) -> b
         What::Object(names) => matches_word(names, &body.name),
         What::Class { mask } => has_class(body, *mask),
         What::ClassNear { mask, km, .. } => {
-            let friend = fresh_place(packet.moment, *friend);
-            let place = body.place.or(sight.source);
-            has_class(body, *mask) && is_near(&friend, *km, &place)
+            has_class(body, *mask) && is_source_near(packet, sight, friend, *km)
         }
         What::Symbol { pri, alt, over } => is_shown(pri, alt, over, body.place),
         What::Digi(names) => matches_used(names, parts),
         What::Entry(names) => matches_entry(names, parts),
         What::Group(names) => has_class(body, MESSAGE) && matches_word(names, &body.to),
         What::Dest(names) => matches_one(names, parts.dest.bytes()),
-        What::Friend { km, .. } => {
-            is_near(&fresh_place(packet.moment, *friend), *km, &body.place)
-        }
-        What::Mine { km } => is_near(&sight.mine, *km, &body.place),
+        What::Friend { km, .. } => is_near_friend(packet, friend, *km),
+        What::Mine { km } => is_near_mine(packet, sight, *km),
         What::Area {
             north,
             west,
@@ -106,17 +151,6 @@ fn is_excluded(packet: &Packet, sight: &Sight, terms: &[Term], friends: &[Option
     pairs.any(|(term, friend)| term.exclude && term_fits(packet, sight, term, friend))
 }
 
-/// What is known of stations at the moment `now`.
-fn sight_at(now: u64, mine: Option<Seen>, known: Option<Seen>, gate: bool) -> Sight
-    ensures { result ≡ sight_at now mine known gate }
-{
-    Sight {
-        mine: fresh_place(now, mine),
-        source: fresh_place(now, known),
-        gate,
-    }
-}
-
 /// Whether a filter passes a packet: an ordinary term fits, and no excluding term does. What was seen two days or longer
 /// before the packet's moment counts as not seen. A packet without a construct has no element before or right after it.
 ///
@@ -135,7 +169,12 @@ pub fn passes(
 ) -> bool
     ensures { result ≡ passes_of filter.now packet.now friends.now mine known gate }
 {
-    let sight = sight_at(packet.moment, mine, known, gate);
+    let sight = Sight {
+        moment: packet.moment,
+        login: &mine,
+        known: &known,
+        gate,
+    };
     let terms = filter.terms.as_slice();
     let friends = friends.at.as_slice();
     is_passed(packet, &sight, terms, friends) && !is_excluded(packet, &sight, terms, friends)

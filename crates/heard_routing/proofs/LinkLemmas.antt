@@ -193,6 +193,10 @@ pub set_rises : {A E : Type 0} (result : Result A E) (link moment : ℕ) (old ne
 set_rises (Ok x) link moment old new ok err up = subst Rises (sym ok) (rises_with link moment old up)
 set_rises (Err e) link moment old new ok err up = subst Rises (sym err) up
 
+pub touch_rises : (there : Bool) (link moment : ℕ) (old new : List Entry) → (there ≡ true → new ≡ with_link link moment old) → (there ≡ false → new ≡ old) → Rises old → Rises new
+touch_rises true link moment old new set same up = subst Rises (sym (set refl)) (rises_with link moment old up)
+touch_rises false link moment old new set same up = subst Rises (sym (same refl)) up
+
 -- ---- what rising links are
 
 pub distinct_links : (links : List Entry) → Rises links → IsDistinct nat_eq (keys_of links)

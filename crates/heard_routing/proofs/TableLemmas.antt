@@ -1,9 +1,14 @@
 -- Keys and values in the order in which the keys came: what is written where a key stands, and what `retain` leaves.
-use Rattle.std.proofs.Common.{◌≡◌, Bool, true, false, cond, filter, map, List, [], ◌∷◌, Some, None, refl, ap, ◌∙◌, subst, unwrap_or}
+use Rattle.std.proofs.Common.{◌≡◌, ℕ, Bool, true, false, true≢false, cond, filter, map, List, [], ◌∷◌, Option, Some, None, refl, sym, ap, ◌∙◌, subst, unwrap_or, nat_lt, length, arith}
 use Rattle.std.specs.List.{AllByRecursion}
 use Rattle.std.specs.Map.{lookup, set_value}
 use Rattle.std.specs.Map.Calls.{RetainsPairs}
+use Rattle.std.proofs.lemmas.Bool.{lt-ltb}
+use Rattle.std.proofs.lemmas.Map.Steps.{set_value_same}
 use Rattle.indexmap.specs.IndexMap.{insert_entry}
+use Rattle.filter_eval.specs.Passes.{is_text}
+use Rattle.heard_routing.specs.Entries.{Entry, Group, links_of}
+use Rattle.heard_routing.specs.Heard.{without_links}
 
 module _ {K X : Type 0} (eq : K → K → Bool) (k : K) where
   -- where the key stands, a new value is what `insert` writes
@@ -62,3 +67,12 @@ module _ {K X F : Type 0} (T : F → K → X → Bool → X → F → Type 0) (w
       let rest = retained es h.3 (subst (λ g. RetainsPairs T g es h.3) s.2 h.5) in
       let test = s.0 ∙ ap keeps s.1 in
       h.6 ∙ (λ j. cond (test j) ((e.0, s.1 j) ∷ rest j) (rest j))
+
+-- where no link has the call, there is nothing to remove
+pub nothing_spent : (call : List ℕ) (groups : List Group) → nat_lt 0 (length (links_of call groups)) ≡ false → without_links call groups ≡ groups
+nothing_spent call groups none = by (lookup (is_text call) groups) refl none
+  where
+    by : (o : Option (List Entry)) → lookup (is_text call) groups ≡ o → nat_lt 0 (length (unwrap_or o [])) ≡ false → without_links call groups ≡ groups
+    by None is none = written_nowhere (is_text call) groups [] is
+    by (Some []) is none = set_value_same (is_text call) groups [] is
+    by (Some (link ∷ links)) is none = absurd (true≢false (sym (lt-ltb 0 (length (link ∷ links)) (omega arith)) ∙ none))

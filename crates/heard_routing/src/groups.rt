@@ -1,13 +1,13 @@
 //! Calls with the links that have them, found by the call and by the link.
-ghost use Rattle.std.specs.Prelude.{◌≡◌, ◌++◌, OnOk, OnErr};
+ghost use Rattle.std.specs.Prelude.{◌≡◌, ◌++◌, length, nat_lt, OnOk, OnErr};
 ghost use Rattle.indexmap.specs.IndexMap.{hasher_of};
-ghost use Rattle.heard_routing.specs.Entries.{HasEachOnce, is_another, no_groups, with_moment};
+ghost use Rattle.heard_routing.specs.Entries.{HasEachOnce, is_another, links_of, no_groups, with_moment};
 ghost use Rattle.heard_routing.specs.Heard.{IsRisingListOf, has_recent, kept_links, links_with, recent_groups, without_links};
 ghost use Rattle.heard_routing.specs.Listed.{ListsAll, ListsExactly};
 
 use crate::listed::{Listed, keep_listed, list, unlist, unlist_each};
 use crate::table;
-use crate::table::{Table, append_recent, has, is_recent, keep_recent, links_of, remove_each};
+use crate::table::{Table, append_recent, is_recent, keep_recent, links_of, remove_each, touch};
 use aprs_base::{Call, Memory};
 use indexmap::IndexMap;
 use std::alloc::Global;
@@ -28,8 +28,8 @@ fn set(
     ensures lists { ListsExactly listed.old.entries table.old.entries → ListsExactly listed.new.entries table.new.entries }
     ensures hashers { (hasher_of table.new ≡ hasher_of table.old) × (hasher_of listed.new ≡ hasher_of listed.old) }
 {
-    if has(table, link, call) {
-        return table::set(table, alloc, link, call, moment);
+    if touch(table, link, call, moment) {
+        return Ok(());
     }
     list(listed, alloc, link, call)?;
     match table::set(table, alloc, link, call, moment) {
@@ -119,6 +119,13 @@ impl Groups {
             call,
             moment,
         )
+    }
+
+    /// Whether any link has the call.
+    pub fn has_links(&self, call: &Call) -> bool
+        ensures { result ≡ nat_lt 0 (length (links_of call.now self.now.groups)) }
+    {
+        !links_of(&self.by_call, call).is_empty()
     }
 
     /// Appends to `out` the links that have the call at most `age` before `now`, rising; both in seconds.

@@ -104,9 +104,11 @@ impl Heard {
         ensures spent { OnOk result (self.new ≡ without_promises sender.now self.old) }
         ensures err { OnErr result ((out.new.items ≡ out.old.items) × (self.new ≡ self.old)) }
     {
-        self.promises
-            .append_recent(alloc, sender, now, PROMISE_AGE, out)?;
-        self.promises.clear(sender);
+        if self.promises.has_links(sender) {
+            self.promises
+                .append_recent(alloc, sender, now, PROMISE_AGE, out)?;
+            self.promises.clear(sender);
+        }
         Ok(())
     }
 

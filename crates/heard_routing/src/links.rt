@@ -1,5 +1,5 @@
 //! The links that have a call, in rising order, with a moment of each.
-ghost use Rattle.std.specs.Prelude.{◌≡◌, ◌&&◌, ◌≤◌, ◌<◌, ◌++◌, ◌∷◌, [], is_some, length, filter, nat_eq, nat_lt, slice_get, IfOk, OnOk, OnErr};
+ghost use Rattle.std.specs.Prelude.{◌≡◌, false, IsTrue, ◌&&◌, ◌≤◌, ◌<◌, ◌++◌, ◌∷◌, [], is_some, length, filter, nat_eq, nat_lt, slice_get, IfOk, OnOk, OnErr};
 ghost use Rattle.std.specs.List.{list_all};
 ghost use Rattle.std.specs.Map.{keys_of, lookup};
 ghost use Rattle.filter_eval.specs.Passes.{is_some_and};
@@ -37,15 +37,27 @@ fn has(entries: &[Entry], link: u32) -> bool
     is_at(entries, place_of(entries, link), link)
 }
 
+/// Sets the moment of the link where it is among them. Says whether it is.
+fn touch(entries: &mut Vec<Entry>, link: u32, moment: u64) -> bool
+    ensures there { Rises entries.old.items → result ≡ is_some (lookup (nat_eq link) entries.old.items) }
+    ensures set { Rises entries.old.items → IsTrue result → entries.new.items ≡ with_link link moment entries.old.items }
+    ensures same { result ≡ false → entries.new.items ≡ entries.old.items }
+{
+    let place = place_of(entries.as_slice(), link);
+    if is_at(entries.as_slice(), place, link) {
+        entries[place] = (link, moment);
+        return true;
+    }
+    false
+}
+
 /// Sets the moment of the link. A link that is new goes between those that are lower and those that are higher.
 fn set(entries: &mut Vec<Entry>, link: u32, moment: u64) -> Result<(), Memory>
     ensures ok { Rises entries.old.items → OnOk result (entries.new.items ≡ with_link link moment entries.old.items) }
     ensures err { OnErr result (entries.new.items ≡ entries.old.items) }
 {
-    let place = place_of(entries.as_slice(), link);
-    if is_at(entries.as_slice(), place, link) {
-        entries[place] = (link, moment);
-    } else {
+    if !touch(entries, link, moment) {
+        let place = place_of(entries.as_slice(), link);
         entries.insert(place, (link, moment))?;
     }
     Ok(())
@@ -126,6 +138,15 @@ impl Links {
         ensures { result.now ≡ self.now }
     {
         self.entries.as_slice()
+    }
+
+    /// Sets the moment of the link where it is among them. Says whether it is.
+    pub fn touch(&mut self, link: u32, moment: u64) -> bool
+        ensures there { result ≡ is_some (lookup (nat_eq link) self.old) }
+        ensures set { IsTrue result → self.new ≡ with_link link moment self.old }
+        ensures same { result ≡ false → self.new ≡ self.old }
+    {
+        touch(&mut self.entries, link, moment)
     }
 
     /// Sets the moment of the link, which may be new.

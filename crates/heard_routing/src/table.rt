@@ -1,5 +1,5 @@
 //! For each call the links that have it.
-ghost use Rattle.std.specs.Prelude.{◌≡◌, ◌++◌, ◌∷◌, [], filter, length, nat_lt, OnOk, OnErr};
+ghost use Rattle.std.specs.Prelude.{◌≡◌, false, IsTrue, ◌++◌, ◌∷◌, [], filter, length, nat_lt, OnOk, OnErr};
 ghost use Rattle.std.specs.List.{list_all};
 ghost use Rattle.indexmap.specs.IndexMap.{hasher_of, insert_entry};
 ghost use Rattle.filter_eval.specs.Passes.{is_text};
@@ -51,6 +51,19 @@ fn start(
     let links = Links::one(alloc, link, moment)?;
     table.insert(copy_call(call), links)?;
     Ok(())
+}
+
+/// Sets the moment of the link and the call, where the link has the call. Says whether it has.
+pub fn touch(table: &mut Table, link: u32, call: &Call, moment: u64) -> bool
+    ensures had { result ≡ has_call table.old.entries link call.now }
+    ensures set { IsTrue result → table.new.entries ≡ with_moment link call.now moment table.old.entries }
+    ensures same { result ≡ false → table.new.entries ≡ table.old.entries }
+    ensures hasher { hasher_of table.new ≡ hasher_of table.old }
+{
+    match table.get_mut(call) {
+        Some(links) => links.touch(link, moment),
+        None => false,
+    }
 }
 
 /// Sets the moment of the link and the call. A call that is new goes last.
