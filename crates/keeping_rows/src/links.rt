@@ -15,7 +15,7 @@ use std::marker::{Model, Sync};
 use std::sync::Arc;
 use std::sync::atomic::Ordering;
 use std::thread::Threads;
-use worker_match::{Item, LinkState, spread};
+use worker_match::{Item, LinkFeed, spread};
 
 /// What came to links since they were last walked, each in order.
 #[derive(Drop)]
@@ -48,7 +48,7 @@ impl Block {
     fn spread<R: Threads + Sync, G: Gate + Sync>(
         &mut self,
         rt: &R,
-        links: &mut [LinkState],
+        links: &mut [LinkFeed],
         workers: u32,
         gate: &G,
     ) -> Result<(), Memory>
@@ -72,7 +72,7 @@ fn read_filter(fields: &Fields) -> Result<Option<Arc<FilterSet>>, Fault> {
 }
 
 /// An inbound link by its feed, its room, its login and its filter.
-fn read_link(number: u32, fields: &mut Fields) -> Result<LinkState, Fault> {
+fn read_link(number: u32, fields: &mut Fields) -> Result<LinkFeed, Fault> {
     let feed = fields.named(FEEDS.as_slice())?;
     let room: usize = fields.number();
     let me = fields.perhaps_call();
@@ -83,7 +83,7 @@ fn read_link(number: u32, fields: &mut Fields) -> Result<LinkState, Fault> {
     };
     let friends = Box::new(fields.alloc, nowhere(terms))?;
     let queue = Queue::with_limit(fields.alloc, room.clamp(1, 1000))?;
-    Ok(LinkState {
+    Ok(LinkFeed {
         link: number,
         feed,
         inbound: true,
@@ -100,7 +100,7 @@ fn read_link(number: u32, fields: &mut Fields) -> Result<LinkState, Fault> {
 
 /// How a link is: whether it lives, is over, and was seen; how many packet lines it was put, how many bytes it has to take, and
 /// the first of them.
-fn link_text(alloc: Global, link: &LinkState) -> Answer {
+fn link_text(alloc: Global, link: &LinkFeed) -> Answer {
     let number = link.link;
     let alive = if link.alive { "alive" } else { "ended" };
     let over = if link.over { ", over" } else { "" };
@@ -120,7 +120,7 @@ fn link_text(alloc: Global, link: &LinkState) -> Answer {
 pub struct Links<'a, R> {
     rt: &'a R,
     alloc: Global,
-    links: Vec<LinkState>,
+    links: Vec<LinkFeed>,
     block: Block,
 }
 

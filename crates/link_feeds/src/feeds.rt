@@ -4,7 +4,7 @@ ghost use Rattle.std.specs.Arc.{arc_value};
 ghost use Rattle.link_queue.specs.Queues.{pending_bytes};
 ghost use Rattle.link_feeds.specs.Feeds.{counted, forgotten, is_other, is_over, is_served, left, link_of, met_by, new_feed, put_in, told, with_login, with_taken, with_terms};
 ghost use Rattle.worker_match.specs.Items.{item_seen};
-ghost use Rattle.worker_match.specs.Seen.{LinkSeen};
+ghost use Rattle.worker_match.specs.Seen.{FeedSeen};
 ghost use Rattle.worker_match.specs.Walk.{IsOrdered};
 
 use crate::states::{
@@ -18,7 +18,7 @@ use std::alloc::Global;
 use std::marker::{Model, Sync};
 use std::sync::Arc;
 use std::thread::Threads;
-use worker_match::{Feed, Item, LinkState, spread};
+use worker_match::{Feed, Item, LinkFeed, spread};
 
 /// A part with fewer meetings of a link and an item costs more than it saves.
 const MEETINGS: usize = 4096;
@@ -35,7 +35,7 @@ pub struct Crew<'a, R, G> {
 /// leaves them, matched or not.
 #[derive(Drop)]
 pub struct Feeds {
-    states: Vec<LinkState>,
+    states: Vec<LinkFeed>,
     items: Vec<Item>,
     /// How many links have come since.
     news: usize,
@@ -151,7 +151,8 @@ impl Feeds {
         Ok(())
     }
 
-    /// The same by this thread alone, through no gate.
+    /// What came is matched with the links by this thread alone, through no gate. After `Memory` there are as many links and as
+    /// much waits, but what the links are isn't known.
     pub fn settle_alone(&mut self) -> Result<(), Memory>
         ensures ok { OnOk result (self.new ≡ record self.old { waiting = 0 }) }
         ensures err { OnErr result ((length self.new.links ≡ length self.old.links) × (self.new.waiting ≡ self.old.waiting)) }
@@ -205,7 +206,7 @@ impl Feeds {
     pub fn leave(&mut self, place: usize)
         requires settled { self.old.waiting ≡ 0 }
         requires within { place < length self.old.links }
-        ensures { (link : LinkSeen) → slice_get self.old.links place ≡ Some link → self.new ≡ record self.old { links = slice_set self.old.links place (left link) } }
+        ensures { (link : FeedSeen) → slice_get self.old.links place ≡ Some link → self.new ≡ record self.old { links = slice_set self.old.links place (left link) } }
     {
         leave(&mut self.states[place]);
     }
@@ -247,7 +248,7 @@ impl Feeds {
     )
         requires settled { self.old.waiting ≡ 0 }
         requires within { place < length self.old.links }
-        ensures { (link : LinkSeen) → slice_get self.old.links place ≡ Some link
+        ensures { (link : FeedSeen) → slice_get self.old.links place ≡ Some link
             → self.new ≡ record self.old { links = slice_set self.old.links place (told (arc_value reply) (with_login feed call mine link)) } }
     {
         log_in(&mut self.states[place], feed, call, mine, reply);
@@ -264,7 +265,7 @@ impl Feeds {
     )
         requires settled { self.old.waiting ≡ 0 }
         requires within { place < length self.old.links }
-        ensures { (link : LinkSeen) → slice_get self.old.links place ≡ Some link
+        ensures { (link : FeedSeen) → slice_get self.old.links place ≡ Some link
             → self.new ≡ record self.old { links = slice_set self.old.links place (told (arc_value reply) (with_terms (arc_value filter) friends link)) } }
     {
         set_filter(&mut self.states[place], filter, friends, reply);
@@ -274,7 +275,7 @@ impl Feeds {
     pub fn tell(&mut self, place: usize, line: Arc<Line>)
         requires settled { self.old.waiting ≡ 0 }
         requires within { place < length self.old.links }
-        ensures { (link : LinkSeen) → slice_get self.old.links place ≡ Some link → self.new ≡ record self.old { links = slice_set self.old.links place (told (arc_value line) link) } }
+        ensures { (link : FeedSeen) → slice_get self.old.links place ≡ Some link → self.new ≡ record self.old { links = slice_set self.old.links place (told (arc_value line) link) } }
     {
         self.states[place].tell(line);
     }
@@ -284,8 +285,8 @@ impl Feeds {
     pub fn front_bytes(&self, place: usize, out: &mut [u8]) -> usize
         requires settled { self.now.waiting ≡ 0 }
         requires within { place < length self.now.links }
-        ensures count { (link : LinkSeen) → slice_get self.now.links place ≡ Some link → result ≡ min (length out.old) (length (pending_bytes link.queue)) }
-        ensures bytes { (link : LinkSeen) → slice_get self.now.links place ≡ Some link → take result out.new ≡ take (length out.old) (pending_bytes link.queue) }
+        ensures count { (link : FeedSeen) → slice_get self.now.links place ≡ Some link → result ≡ min (length out.old) (length (pending_bytes link.queue)) }
+        ensures bytes { (link : FeedSeen) → slice_get self.now.links place ≡ Some link → take result out.new ≡ take (length out.old) (pending_bytes link.queue) }
         ensures rest { drop result out.new ≡ drop result out.old }
     {
         self.states[place].queue.front_bytes(out)
@@ -296,7 +297,7 @@ impl Feeds {
     pub fn shared_front(&self, place: usize) -> Option<&[u8]>
         requires settled { self.now.waiting ≡ 0 }
         requires within { place < length self.now.links }
-        ensures { (link : LinkSeen) → slice_get self.now.links place ≡ Some link → IfSome result (λ bytes. bytes.now ≡ pending_bytes link.queue) }
+        ensures { (link : FeedSeen) → slice_get self.now.links place ≡ Some link → IfSome result (λ bytes. bytes.now ≡ pending_bytes link.queue) }
     {
         self.states[place].queue.shared_front()
     }
@@ -305,7 +306,7 @@ impl Feeds {
     pub fn pending(&self, place: usize) -> usize
         requires settled { self.now.waiting ≡ 0 }
         requires within { place < length self.now.links }
-        ensures { (link : LinkSeen) → slice_get self.now.links place ≡ Some link → result ≡ length (pending_bytes link.queue) }
+        ensures { (link : FeedSeen) → slice_get self.now.links place ≡ Some link → result ≡ length (pending_bytes link.queue) }
     {
         self.states[place].queue.pending()
     }
@@ -314,8 +315,8 @@ impl Feeds {
     pub fn taken(&mut self, place: usize, n: usize)
         requires settled { self.old.waiting ≡ 0 }
         requires within { place < length self.old.links }
-        requires there { (link : LinkSeen) → slice_get self.old.links place ≡ Some link → n ≤ length (pending_bytes link.queue) }
-        ensures { (link : LinkSeen) → slice_get self.old.links place ≡ Some link → self.new ≡ record self.old { links = slice_set self.old.links place (with_taken n link) } }
+        requires there { (link : FeedSeen) → slice_get self.old.links place ≡ Some link → n ≤ length (pending_bytes link.queue) }
+        ensures { (link : FeedSeen) → slice_get self.old.links place ≡ Some link → self.new ≡ record self.old { links = slice_set self.old.links place (with_taken n link) } }
     {
         self.states[place].queue.taken(n);
     }

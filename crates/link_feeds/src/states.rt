@@ -14,7 +14,7 @@ use filter_lang::FilterSet;
 use link_queue::Queue;
 use std::alloc::Global;
 use std::sync::Arc;
-use worker_match::{Feed, Item, LinkState};
+use worker_match::{Feed, Item, LinkFeed};
 
 /// The most lines that a link hasn't wholly taken.
 const MOST_LINES: usize = 1000;
@@ -26,14 +26,14 @@ pub(crate) fn opened(
     feed: Feed,
     inbound: bool,
     first: Arc<Line>,
-) -> Result<LinkState, Memory>
+) -> Result<LinkFeed, Memory>
     ensures { IfOk result (λ state. state ≡ new_feed link feed inbound (arc_value first)) }
 {
     let mut queue = Queue::with_limit(alloc, MOST_LINES)?;
     queue.push(first).unwrap();
     let at = ArrayVec::new();
     let friends = Box::new(alloc, Friends { at })?;
-    Ok(LinkState {
+    Ok(LinkFeed {
         link,
         feed,
         inbound,
@@ -49,7 +49,7 @@ pub(crate) fn opened(
 }
 
 /// One meets all that came, in order.
-fn walk_one(state: &mut LinkState, items: &[Item]) -> Result<(), Memory>
+fn walk_one(state: &mut LinkFeed, items: &[Item]) -> Result<(), Memory>
     requires { All IsOrdered (items_seen items.now) }
     ensures { OnOk result (state.new ≡ walked (items_seen items.now) state.old) }
 {
@@ -60,7 +60,7 @@ fn walk_one(state: &mut LinkState, items: &[Item]) -> Result<(), Memory>
 }
 
 /// Each meets all that came, in order.
-pub(crate) fn walk_each(states: &mut [LinkState], items: &[Item]) -> Result<(), Memory>
+pub(crate) fn walk_each(states: &mut [LinkFeed], items: &[Item]) -> Result<(), Memory>
     requires { All IsOrdered (items_seen items.now) }
     ensures ok { OnOk result (states.new ≡ map (walked (items_seen items.now)) states.old) }
     ensures many { length states.new ≡ length states.old }
@@ -72,7 +72,7 @@ pub(crate) fn walk_each(states: &mut [LinkState], items: &[Item]) -> Result<(), 
 }
 
 /// How many packet lines were put into their queues since that was last counted, at most the greatest u64.
-pub(crate) fn put_by(states: &[LinkState]) -> u64
+pub(crate) fn put_by(states: &[LinkFeed]) -> u64
     ensures { result ≡ put_in states.now }
 {
     let mut sum = 0u64;
@@ -83,13 +83,13 @@ pub(crate) fn put_by(states: &[LinkState]) -> u64
 }
 
 /// What was put into its queue is counted.
-fn count(state: &mut LinkState)
+fn count(state: &mut LinkFeed)
     ensures { state.new ≡ counted state.old }
 {
     state.put = 0;
 }
 
-pub(crate) fn count_each(states: &mut [LinkState])
+pub(crate) fn count_each(states: &mut [LinkFeed])
     ensures counted { states.new ≡ map counted states.old }
     ensures many { length states.new ≡ length states.old }
 {
@@ -98,14 +98,14 @@ pub(crate) fn count_each(states: &mut [LinkState])
     }
 }
 
-fn forget(state: &mut LinkState, now: u64)
+fn forget(state: &mut LinkFeed, now: u64)
     ensures { state.new ≡ forgotten now state.old }
 {
     forget_friends(now, &mut state.friends);
     state.mine = still_seen(now, state.mine);
 }
 
-pub(crate) fn forget_each(states: &mut [LinkState], now: u64)
+pub(crate) fn forget_each(states: &mut [LinkFeed], now: u64)
     ensures forgotten { states.new ≡ map (forgotten now) states.old }
     ensures many { length states.new ≡ length states.old }
 {
@@ -120,20 +120,20 @@ fn has_member(numbers: &[u32], number: u32) -> bool
     numbers.iter().any(|other| *other == number)
 }
 
-fn is_other(state: &LinkState, numbers: &[u32]) -> bool
+fn is_other(state: &LinkFeed, numbers: &[u32]) -> bool
     ensures { result ≡ is_other numbers.now state.now }
 {
     !has_member(numbers, state.link)
 }
 
-pub(crate) fn drop_each(states: &mut Vec<LinkState>, numbers: &[u32])
+pub(crate) fn drop_each(states: &mut Vec<LinkFeed>, numbers: &[u32])
     ensures { states.new.items ≡ filter (is_other numbers.now) states.old.items }
 {
     states.retain(|state| is_other(state, numbers));
 }
 
 /// It has left.
-pub(crate) fn leave(state: &mut LinkState)
+pub(crate) fn leave(state: &mut LinkFeed)
     ensures { state.new ≡ left state.old }
 {
     state.feed = Feed::Nothing;
@@ -146,20 +146,20 @@ fn is_fed(feed: Feed) -> bool
     !matches!(feed, Feed::Nothing)
 }
 
-fn is_served(state: &LinkState) -> bool
+fn is_served(state: &LinkFeed) -> bool
     ensures { result ≡ is_served state.now }
 {
     state.inbound || is_fed(state.feed)
 }
 
 /// Those that left are let go.
-pub(crate) fn sweep(states: &mut Vec<LinkState>)
+pub(crate) fn sweep(states: &mut Vec<LinkFeed>)
     ensures { states.new.items ≡ filter is_served states.old.items }
 {
     states.retain(|state| is_served(state));
 }
 
-pub(crate) fn overfull(alloc: Global, states: &[LinkState]) -> Result<Vec<u32>, Memory>
+pub(crate) fn overfull(alloc: Global, states: &[LinkFeed]) -> Result<Vec<u32>, Memory>
     ensures { IfOk result (λ numbers. numbers.items ≡ map link_of (filter is_over states.now)) }
 {
     let mut numbers = Vec::new(alloc);
@@ -172,7 +172,7 @@ pub(crate) fn overfull(alloc: Global, states: &[LinkState]) -> Result<Vec<u32>, 
 }
 
 pub(crate) fn log_in(
-    state: &mut LinkState,
+    state: &mut LinkFeed,
     feed: Feed,
     call: Call,
     mine: Option<Seen>,
@@ -187,7 +187,7 @@ pub(crate) fn log_in(
 }
 
 pub(crate) fn set_filter(
-    state: &mut LinkState,
+    state: &mut LinkFeed,
     filter: Arc<FilterSet>,
     friends: Friends,
     reply: Arc<Line>,

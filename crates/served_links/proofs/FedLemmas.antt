@@ -1,32 +1,27 @@
 -- What comes to a link, by what it is fed.
-use Rattle.std.proofs.Common.{◌≡◌, ℕ, Bool, true, false, not, ◌&&◌, ◌||◌, ◌==◌, List, [], ◌∷◌, length, map, refl, sym, ap, ◌∙◌, Option, Some, None, ⊎_elim, is_some, arith, if◌then◌else◌, eq-eqb, Result, Ok, Err, IfOk, OnErr}
-use Rattle.std.specs.List.{list_any, zip}
+use Rattle.std.proofs.Common.{◌≡◌, ℕ, Bool, true, false, not, ◌&&◌, ◌||◌, ◌==◌, List, length, refl, sym, ap, ◌∙◌, Option, Some, None, ⊎_elim, is_some, if◌then◌else◌, eq-eqb, Result, Ok, Err, IfOk, OnErr}
+use Rattle.std.specs.List.{list_any}
 use Rattle.std.proofs.Math.Bool.{and-false}
 use Rattle.std.proofs.lemmas.Bool.{cases_Bool}
 use Rattle.aprs_base.specs.PacketSeen.{PacketSeen}
 use Rattle.aprs_base.specs.declared.packets.Source.{Source}
 use Rattle.aprs_base.specs.declared.packets.Source.TheVariants as source
 use Rattle.aprs_base.specs.declared.packets.PortKind.TheVariants as port
-use Rattle.filter_lang.specs.Terms.{TermSeen}
-use Rattle.filter_lang.specs.declared.terms.What.{What}
-use Rattle.filter_lang.specs.declared.terms.What.TheVariants as what
-use Rattle.filter_eval.specs.Passes.{is_some_and, is_text, passes_of}
+use Rattle.filter_eval.specs.Passes.{passes_of}
 use Rattle.filter_eval.specs.declared.seen.Seen.{Seen}
 use Rattle.aprs_history.specs.declared.verdicts.LinkKind.{LinkKind}
 use Rattle.aprs_history.specs.declared.verdicts.LinkKind.TheVariants.{Client, Uplink}
 use Rattle.aprs_history.specs.declared.verdicts.Session.{Session}
 use Rattle.aprs_history.specs.Links.{Opening, is_client_link}
-use Rattle.aprs_history.specs.Sights.{named_call}
 use Rattle.aprs_history.specs.Stands.{LinkSeen, friends_kept, place_kept}
 use Rattle.aprs_history.specs.Texts.{is_dupe_of, link_wants, most_waiting, opening_wants, shows_duplicates}
 use Rattle.aprs_history.specs.Trace.{is_from}
-use Rattle.worker_match.specs.Seen.{OfferSeen, Came, Told, ToldAll}
-use Rattle.worker_match.specs.Seen as worker
-use Rattle.worker_match.specs.Walk.{after, feed_wants, friends_seen, is_chosen, is_full, is_open, met, mine_seen, names, one_more, terms_of, told_by}
+use Rattle.worker_match.specs.Seen.{FeedSeen, ItemSeen, OfferSeen, Came, Told, ToldAll}
+use Rattle.worker_match.specs.Walk.{after, feed_wants, is_chosen, is_full, is_open, met, one_more, terms_of, told_by}
 use Rattle.worker_match.specs.Walk as walk
 use Rattle.worker_match.proofs.FriendLemmas.{seen_many}
-use Rattle.served_links.specs.Fed.{Matches, feed_of, joined, login_of, offer_of, opening_feed, refused_of}
-use Rattle.served_links.specs.Changes.{friend_seen, has_room, is_asked_at, is_shown_at, login_seen, passes_packet, takes_packet, takes_shown, wants_packet, with_date, with_packet, with_seen, with_shown, with_text}
+use Rattle.served_links.specs.Fed.{Matches, feed_of, joined, offer_of, opening_feed, refused_of}
+use Rattle.served_links.specs.Changes.{has_room, is_asked_at, is_shown_at, passes_packet, takes_packet, takes_shown, wants_packet, with_date, with_packet, with_seen, with_shown, with_text}
 use Rattle.served_links.specs.declared.link.SourcePlace.{SourcePlace}
 use Rattle.served_links.proofs.OverLemmas.{copy_over, fits_not_after, over_unseen, text_after}
 
@@ -42,29 +37,10 @@ from_same : (link : ℕ) (from : Source) → walk.is_from link from ≡ is_from 
 from_same link (source.Link number) = refl
 from_same link from = refl
 
--- ---- places
-
-named_same : (call : List ℕ) (w : What) → names call w ≡ is_some_and (λ named. is_text named call) (named_call w)
-named_same call (what.Friend named km) = refl
-named_same call other = refl
-
-friends_same : (call : List ℕ) (seen : Seen) (terms : List TermSeen) (friends : List (Option Seen)) → length friends ≡ length terms
-    → friends_seen call seen terms friends ≡ map (friend_seen call seen) (zip terms friends)
-friends_same call seen [] [] many = refl
-friends_same call seen [] (friend ∷ friends) many = absurd (cc)
-friends_same call seen (term ∷ terms) [] many = absurd (cc)
-friends_same call seen (term ∷ terms) (friend ∷ friends) many =
-    ap (λ b. (if b then Some seen else friend) ∷ friends_seen call seen terms friends) (named_same call term.what)
-    ∙ ap (λ rest. friend_seen call seen (term, friend) ∷ rest) (friends_same call seen terms friends (omega (arith, many)))
-
-mine_same : (call : List ℕ) (seen : Seen) (session : Option Session) (mine : Option Seen) → mine_seen call seen (login_of session) mine ≡ login_seen call seen session mine
-mine_same call seen None mine = refl
-mine_same call seen (Some session) mine = refl
-
 -- ---- the halves stay those of one link
 
 -- where a line is put into the queue, or doesn't fit
-texts_match : (h : LinkSeen) (line : List ℕ) (s : worker.LinkSeen) → Matches h s → Matches h (walk.with_text line s)
+texts_match : (h : LinkSeen) (line : List ℕ) (s : FeedSeen) → Matches h s → Matches h (walk.with_text line s)
 unfolding walk.with_text
 texts_match h line s m =
     ⊎_elim
@@ -72,67 +48,52 @@ texts_match h line s m =
     (λ (room : is_full s.queue ≡ false). rw room (record { link = m.link; inbound = m.inbound; alive = m.alive; limit = m.limit; feed = m.feed; me = m.me; many = m.many }))
     (cases_Bool (is_full s.queue))
 
-copies_match : (h : LinkSeen) (line : List ℕ) (wanted : Bool) (s : worker.LinkSeen) → Matches h s → Matches h (if wanted then walk.with_copy line s else s)
+copies_match : (h : LinkSeen) (line : List ℕ) (s : FeedSeen) → Matches h s → Matches h (walk.with_copy line s)
 unfolding walk.with_copy
-copies_match h line false s m = m
-copies_match h line true s m =
+copies_match h line s m =
     ⊎_elim
     (λ (full : is_full s.queue ≡ true). rw full (record { link = m.link; inbound = m.inbound; alive = m.alive; limit = m.limit; feed = m.feed; me = m.me; many = m.many }))
     (λ (room : is_full s.queue ≡ false). rw room (record { link = m.link; inbound = m.inbound; alive = m.alive; limit = m.limit; feed = m.feed; me = m.me; many = m.many }))
     (cases_Bool (is_full s.queue))
 
+-- or nothing is done
+if_matches : (h : LinkSeen) (b : Bool) (s t : FeedSeen) → Matches h s → Matches h t → Matches h (if b then t else s)
+if_matches h true s t m n = n
+if_matches h false s t m n = m
+
+wanted_matches : (h : LinkSeen) (offer : OfferSeen) (s : FeedSeen) → Matches h s → Matches h (walk.with_packet offer s)
+wanted_matches h offer s m = if_matches h (walk.wants offer s) s (walk.with_copy offer.packet.line s) m (copies_match h offer.packet.line s m)
+
 -- where a source is
-places_match : (h : LinkSeen) (call : List ℕ) (told : Option Seen) (s : worker.LinkSeen) → Matches h s → Matches h (walk.with_seen call told s)
+places_match : (h : LinkSeen) (call : List ℕ) (told : Option Seen) (s : FeedSeen) → Matches h s → Matches h (walk.with_seen call told s)
 places_match h call None s m = m
 places_match h call (Some seen) s m =
     record { link = m.link; inbound = m.inbound; alive = m.alive; limit = m.limit; feed = m.feed; me = m.me; many = seen_many call seen (terms_of s.filter) s.friends ∙ m.many }
 
 -- an item
-pub offer_matches : (h : LinkSeen) (offer : OfferSeen) (s : worker.LinkSeen) → Matches h s → Matches h (after s (Came offer))
-offer_matches h offer s m = by (is_open s)
-  where
-    by : (b : Bool) → Matches h (if b then met (Came offer) s else s)
-    by true = places_match h offer.packet.parts.source (told_by offer) (walk.with_packet offer s) (copies_match h offer.packet.line (walk.wants offer s) s m)
-    by false = m
+pub offer_matches : (h : LinkSeen) (offer : OfferSeen) (s : FeedSeen) → Matches h s → Matches h (after s (Came offer))
+offer_matches h offer s m =
+    if_matches h (is_open s) s (met (Came offer) s) m (places_match h offer.packet.parts.source (told_by offer) (walk.with_packet offer s) (wanted_matches h offer s m))
 
-pub told_matches : (h : LinkSeen) (number : ℕ) (line : List ℕ) (s : worker.LinkSeen) → Matches h s → Matches h (after s (Told number line))
-told_matches h number line s m = by (is_open s) (s.link == number)
-  where
-    by : (b c : Bool) → Matches h (if b then (if c then walk.with_text line s else s) else s)
-    by true true = texts_match h line s m
-    by true false = m
-    by false c = m
+pub told_matches : (h : LinkSeen) (number : ℕ) (line : List ℕ) (s : FeedSeen) → Matches h s → Matches h (after s (Told number line))
+told_matches h number line s m =
+    if_matches h (is_open s) s (met (Told number line) s) m (if_matches h (s.link == number) s (walk.with_text line s) m (texts_match h line s m))
 
-pub date_matches : (h : LinkSeen) (line : List ℕ) (s : worker.LinkSeen) → Matches h s → Matches h (after s (ToldAll line))
-date_matches h line s m = by (is_open s) s.inbound
-  where
-    by : (b c : Bool) → Matches h (if b then (if c then walk.with_text line s else s) else s)
-    by true true = texts_match h line s m
-    by true false = m
-    by false c = m
+pub date_matches : (h : LinkSeen) (line : List ℕ) (s : FeedSeen) → Matches h s → Matches h (after s (ToldAll line))
+date_matches h line s m = if_matches h (is_open s) s (met (ToldAll line) s) m (if_matches h s.inbound s (walk.with_text line s) m (texts_match h line s m))
 
 -- ---- and leave what the link takes
 
 module _ (h : LinkSeen) where
-  places_same : (call : List ℕ) (told : Option Seen) (s : worker.LinkSeen) → Matches h s → joined h (walk.with_seen call told s) ≡ with_seen call told (joined h s)
+  places_same : (call : List ℕ) (told : Option Seen) (s : FeedSeen) → Matches h s → joined h (walk.with_seen call told s) ≡ with_seen call told (joined h s)
   places_same call None s m = refl
   places_same call (Some seen) s m =
       ⊎_elim
       (λ (over : s.over ≡ true). rw over refl)
-      (λ (open' : s.over ≡ false).
-      let put : List (Option Seen) → Option Seen → LinkSeen = λ friends mine. record (joined h s) { friends = friends; mine = mine } in
-      let friends = friends_seen call seen (terms_of s.filter) s.friends in
-      let mine = mine_seen call seen s.me s.mine in
-      let friends_by : Bool → List (Option Seen) = λ b. map (friend_seen call seen) (zip (terms_of s.filter) (friends_kept b s.friends)) in
-      let mine_by : Bool → Option Seen = λ b. login_seen call seen h.session (place_kept b s.mine) in
-      ap (λ b. put (friends_kept b friends) (place_kept b mine)) open'
-      ∙ ap (λ fs. put fs mine) (friends_same call seen (terms_of s.filter) s.friends m.many)
-      ∙ ap (put (friends_by false)) (ap (λ me. mine_seen call seen me s.mine) m.me ∙ mine_same call seen h.session s.mine)
-      ∙ ap (λ b. put (friends_by b) (mine_by b)) (sym open')
-      ∙ sym (ap (λ b. if b then joined h s else put (friends_by s.over) (mine_by s.over)) open'))
+      (λ (open' : s.over ≡ false). rw (open', m.me) refl)
       (cases_Bool s.over)
 
-  module _ (s : worker.LinkSeen) (m : Matches h s) where
+  module _ (s : FeedSeen) (m : Matches h s) where
     abbrev link : LinkSeen
     link = joined h s
 
@@ -160,11 +121,11 @@ module _ (h : LinkSeen) where
         (cases_Bool (is_full s.queue))
 
     -- what an open link meets, and what one that is over keeps
-    opened_by : (item : worker.ItemSeen) → s.over ≡ false → after s item ≡ met item s
+    opened_by : (item : ItemSeen) → s.over ≡ false → after s item ≡ met item s
     opened_by item open' =
         ap (λ b. if s.alive && not b then met item s else s) open' ∙ ap (λ b. if b && true then met item s else s) m.alive
 
-    closed_by : (item : worker.ItemSeen) → s.over ≡ true → after s item ≡ s
+    closed_by : (item : ItemSeen) → s.over ≡ true → after s item ≡ s
     closed_by item over =
         ap (λ b. if s.alive && not b then met item s else s) over ∙ ap (λ b. if b && false then met item s else s) m.alive
 
@@ -199,22 +160,16 @@ module _ (h : LinkSeen) where
     put_text line =
         ⊎_elim (λ (full : is_full s.queue ≡ true). rw full refl) (λ (room : is_full s.queue ≡ false). rw room refl) (cases_Bool (is_full s.queue))
 
+    if_put : (b : Bool) (t : FeedSeen) → t.put ≡ s.put → (if b then t else s).put ≡ s.put
+    if_put true t same = same
+    if_put false t same = refl
+
     -- which is no packet line
     pub told_uncounted : (number : ℕ) (line : List ℕ) → (after s (Told number line)).put ≡ s.put
-    told_uncounted number line = by (is_open s) (s.link == number)
-      where
-        by : (b c : Bool) → (if b then (if c then walk.with_text line s else s) else s).put ≡ s.put
-        by true true = put_text line
-        by true false = refl
-        by false c = refl
+    told_uncounted number line = if_put (is_open s) (met (Told number line) s) (if_put (s.link == number) (walk.with_text line s) (put_text line))
 
     pub date_uncounted : (line : List ℕ) → (after s (ToldAll line)).put ≡ s.put
-    date_uncounted line = by (is_open s) s.inbound
-      where
-        by : (b c : Bool) → (if b then (if c then walk.with_text line s else s) else s).put ≡ s.put
-        by true true = put_text line
-        by true false = refl
-        by false c = refl
+    date_uncounted line = if_put (is_open s) (met (ToldAll line) s) (if_put s.inbound (walk.with_text line s) (put_text line))
 
     -- a packet that it wants, or doesn't
     module _ (offer : OfferSeen) (wanted : Bool) (is : s.over ≡ false → walk.wants offer s ≡ wanted) where
@@ -227,12 +182,12 @@ module _ (h : LinkSeen) where
           ∙ ap (with_seen offer.packet.parts.source (told_by offer)) (copy_over offer.packet.line link wanted over))
           (λ (open' : s.over ≡ false).
           ap (joined h) (opened_by (Came offer) open')
-          ∙ places_same offer.packet.parts.source (told_by offer) (walk.with_packet offer s) (copies_match h offer.packet.line (walk.wants offer s) s m)
+          ∙ places_same offer.packet.parts.source (told_by offer) (walk.with_packet offer s) (wanted_matches h offer s m)
           ∙ ap (λ b. with_seen offer.packet.parts.source (told_by offer) (joined h (if b then walk.with_copy offer.packet.line s else s))) (is open')
           ∙ ap (with_seen offer.packet.parts.source (told_by offer)) (copy_same offer.packet.line wanted open'))
           (cases_Bool s.over)
 
-      put_seen : (call : List ℕ) (told : Option Seen) (x : worker.LinkSeen) → (walk.with_seen call told x).put ≡ x.put
+      put_seen : (call : List ℕ) (told : Option Seen) (x : FeedSeen) → (walk.with_seen call told x).put ≡ x.put
       put_seen call None x = refl
       put_seen call (Some seen) x = refl
 
@@ -250,10 +205,10 @@ module _ (h : LinkSeen) where
       offer_counted =
           ⊎_elim
           (λ (over : s.over ≡ true).
-          ap (λ (x : worker.LinkSeen). x.put) (closed_by (Came offer) over)
+          ap (λ (x : FeedSeen). x.put) (closed_by (Came offer) over)
           ∙ ap (λ b. if b then one_more s.put else s.put) (sym (and-false wanted) ∙ ap (λ b. wanted && b) (fits_not_after link over)))
           (λ (open' : s.over ≡ false).
-          ap (λ (x : worker.LinkSeen). x.put) (opened_by (Came offer) open')
+          ap (λ (x : FeedSeen). x.put) (opened_by (Came offer) open')
           ∙ put_seen offer.packet.parts.source (told_by offer) (walk.with_packet offer s)
           ∙ ap (λ b. (if b then walk.with_copy offer.packet.line s else s).put) (is open')
           ∙ put_copy wanted open')

@@ -20,7 +20,7 @@ use Rattle.aprs_history.specs.Trace.{is_from}
 use Rattle.filter_eval.specs.declared.seen.Seen.{Seen}
 use Rattle.station_table.specs.Stations.{seen_in}
 use Rattle.aprs_history.specs.Stands.{LinkSeen}
-use Rattle.worker_match.specs.Seen as worker
+use Rattle.worker_match.specs.Seen.{FeedSeen}
 use Rattle.link_feeds.specs.Feeds as feeds
 use Rattle.served_links.specs.Changes.{at_link, has_room, is_asked_at, is_shown_at, passes_packet, takes_packet, takes_shown, wants_packet, with_copy, with_date, with_packet, with_seen, with_shown, with_text}
 use Rattle.served_links.specs.declared.link.SourcePlace.{SourcePlace}
@@ -325,12 +325,12 @@ others_here number (x ∷ links) =
 
 -- ---- the halves of those that are here
 
-abbrev pub present : List LinkSeen → List worker.LinkSeen → List worker.LinkSeen
+abbrev pub present : List LinkSeen → List FeedSeen → List FeedSeen
 present [] ss = []
 present (h ∷ hs) [] = []
 present (h ∷ hs) (s ∷ ss) = cond (is_here h) (s ∷ present hs ss) (present hs ss)
 
-pub match_here : (hs : List LinkSeen) (ss : List worker.LinkSeen) → AllMatch hs ss → AllMatch (here hs) (present hs ss)
+pub match_here : (hs : List LinkSeen) (ss : List FeedSeen) → AllMatch hs ss → AllMatch (here hs) (present hs ss)
 match_here [] [] all = all
 match_here [] (s ∷ ss) all = absurd all
 match_here (h ∷ hs) [] all = absurd all
@@ -341,7 +341,7 @@ match_here (h ∷ hs) (s ∷ ss) all =
     (λ (left : is_here h ≡ false). rw left rest)
     (cases_Bool (is_here h))
 
-pub joined_here : (hs : List LinkSeen) (ss : List worker.LinkSeen) → AllMatch hs ss → joined_all (here hs) (present hs ss) ≡ here (joined_all hs ss)
+pub joined_here : (hs : List LinkSeen) (ss : List FeedSeen) → AllMatch hs ss → joined_all (here hs) (present hs ss) ≡ here (joined_all hs ss)
 joined_here [] [] all = refl
 joined_here [] (s ∷ ss) all = absurd all
 joined_here (h ∷ hs) [] all = absurd all
@@ -352,7 +352,7 @@ joined_here (h ∷ hs) (s ∷ ss) all =
     (λ (left : is_here h ≡ false). rw left rest)
     (cases_Bool (is_here h))
 
-pub joined_whole : (hs : List LinkSeen) (ss : List worker.LinkSeen) → AllMatch hs ss → is_whole hs ≡ true → here (joined_all hs ss) ≡ joined_all hs ss
+pub joined_whole : (hs : List LinkSeen) (ss : List FeedSeen) → AllMatch hs ss → is_whole hs ≡ true → here (joined_all hs ss) ≡ joined_all hs ss
 joined_whole [] [] all whole = refl
 joined_whole [] (s ∷ ss) all whole = absurd all
 joined_whole (h ∷ hs) [] all whole = absurd all
@@ -369,14 +369,14 @@ fed_here (Some opening) session = by opening.kind session
     by (Client port) session = refl
     by (Uplink uplink) session = refl
 
-pub served_here : (h : LinkSeen) (s : worker.LinkSeen) → Matches h s → feeds.is_served s ≡ is_here h
+pub served_here : (h : LinkSeen) (s : FeedSeen) → Matches h s → feeds.is_served s ≡ is_here h
 served_here h s m = ap (λ b. b || feeds.is_fed s.feed) m.inbound ∙ ap (λ f. is_client_link h.opening || feeds.is_fed f) m.feed ∙ fed_here h.opening h.session
 
-pub left_matches : (h : LinkSeen) (s : worker.LinkSeen) → Matches h s → Matches (when_left h) (feeds.left s)
+pub left_matches : (h : LinkSeen) (s : FeedSeen) → Matches h s → Matches (when_left h) (feeds.left s)
 left_matches h s m = record { link = m.link; inbound = refl; alive = m.alive; limit = m.limit; feed = refl; me = m.me; many = m.many }
 
 -- those that left are let go
-pub swept_match : (hs : List LinkSeen) (ss : List worker.LinkSeen) → AllMatch hs ss → AllMatch (here hs) (filter feeds.is_served ss)
+pub swept_match : (hs : List LinkSeen) (ss : List FeedSeen) → AllMatch hs ss → AllMatch (here hs) (filter feeds.is_served ss)
 swept_match [] [] all = all
 swept_match [] (s ∷ ss) all = absurd all
 swept_match (h ∷ hs) [] all = absurd all
@@ -388,7 +388,7 @@ swept_match (h ∷ hs) (s ∷ ss) all =
     (λ (left : is_here h ≡ false). rw left rest)
     (cases_Bool (is_here h)))
 
-pub swept_joined : (hs : List LinkSeen) (ss : List worker.LinkSeen) → AllMatch hs ss → joined_all (here hs) (filter feeds.is_served ss) ≡ here (joined_all hs ss)
+pub swept_joined : (hs : List LinkSeen) (ss : List FeedSeen) → AllMatch hs ss → joined_all (here hs) (filter feeds.is_served ss) ≡ here (joined_all hs ss)
 swept_joined [] [] all = refl
 swept_joined [] (s ∷ ss) all = absurd all
 swept_joined (h ∷ hs) [] all = absurd all

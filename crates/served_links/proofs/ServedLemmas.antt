@@ -5,13 +5,14 @@ use Rattle.std.proofs.lemmas.Bool.{cases_Bool}
 use Rattle.std.proofs.lemmas.List.{length-map, map-append}
 use Rattle.std.proofs.lemmas.List.Elements.{filter_more}
 use Rattle.std.proofs.lemmas.List.Sums.{sum_by-append, sum_by-cons}
+use Rattle.std.proofs.lemmas.Slice.Zip.{AllZip-long}
 use Rattle.std.proofs.lemmas.Option.{get_or_from_slice_get, slice_get-get_or}
 use Rattle.aprs_base.specs.declared.packets.Source.{Source}
 use Rattle.aprs_base.specs.declared.packets.Source.TheVariants as source
 use Rattle.aprs_history.specs.Stands.{LinkSeen}
 use Rattle.link_feeds.specs.Feeds.{counted, is_other, is_over, link_of, put_in, put_of}
 use Rattle.link_feeds.proofs.FeedLemmas.{capped}
-use Rattle.worker_match.specs.Seen as worker
+use Rattle.worker_match.specs.Seen.{FeedSeen}
 use Rattle.worker_match.specs.Walk.{one_more}
 use Rattle.served_links.specs.Fed.{AllMatch, Matches, joined, joined_all}
 use Rattle.served_links.specs.Links.{Rises, client_kept, has_that, is_none_of, is_overfull, is_ready, login_kept, number_of, numbers, other_login, others_from, picked_at, submitted_from}
@@ -20,20 +21,17 @@ use Rattle.served_links.specs.Halves.{more}
 
 -- ---- both lists are of one length, and hold the halves of one link at one place
 
-pub as_many : (hs : List LinkSeen) (ss : List worker.LinkSeen) → AllMatch hs ss → length ss ≡ length hs
-as_many [] [] all = refl
-as_many [] (s ∷ ss) all = absurd all
-as_many (h ∷ hs) [] all = absurd all
-as_many (h ∷ hs) (s ∷ ss) all = let rest = as_many hs ss all.1 in omega (arith, rest)
+pub as_many : (hs : List LinkSeen) (ss : List FeedSeen) → AllMatch hs ss → length ss ≡ length hs
+as_many = AllZip-long Matches
 
-pub match_at : (hs : List LinkSeen) (ss : List worker.LinkSeen) (i : ℕ) (h : LinkSeen) (s : worker.LinkSeen) → AllMatch hs ss → i < length hs → h ≡ get_or hs i h → s ≡ get_or ss i s → Matches h s
+pub match_at : (hs : List LinkSeen) (ss : List FeedSeen) (i : ℕ) (h : LinkSeen) (s : FeedSeen) → AllMatch hs ss → i < length hs → h ≡ get_or hs i h → s ≡ get_or ss i s → Matches h s
 match_at [] [] i h s all lt at there = absurd (omega arith)
 match_at [] (x ∷ ss) i h s all lt at there = absurd all
 match_at (x ∷ hs) [] i h s all lt at there = absurd all
 match_at (x ∷ hs) (y ∷ ss) zero h s all lt at there = subst (λ a. Matches a s) (sym at) (subst (Matches x) (sym there) all.0)
 match_at (x ∷ hs) (y ∷ ss) (suc i) h s all lt at there = match_at hs ss i h s all.1 (omega arith) at there
 
-pub joined_at : (hs : List LinkSeen) (ss : List worker.LinkSeen) (i : ℕ) (h : LinkSeen) (s : worker.LinkSeen) → AllMatch hs ss → i < length hs → h ≡ get_or hs i h → s ≡ get_or ss i s
+pub joined_at : (hs : List LinkSeen) (ss : List FeedSeen) (i : ℕ) (h : LinkSeen) (s : FeedSeen) → AllMatch hs ss → i < length hs → h ≡ get_or hs i h → s ≡ get_or ss i s
     → joined h s ≡ get_or (joined_all hs ss) i (joined h s)
 joined_at [] [] i h s all lt at there = absurd (omega arith)
 joined_at [] (x ∷ ss) i h s all lt at there = absurd all
@@ -42,7 +40,7 @@ joined_at (x ∷ hs) (y ∷ ss) zero h s all lt at there = ap (λ a. joined a s)
 joined_at (x ∷ hs) (y ∷ ss) (suc i) h s all lt at there = joined_at hs ss i h s all.1 (omega arith) at there
 
 -- what a link is fed is there
-pub state_at : (ss : List worker.LinkSeen) (i : ℕ) → i < length ss → (s : worker.LinkSeen) × (slice_get ss i ≡ Some s) × (s ≡ get_or ss i s)
+pub state_at : (ss : List FeedSeen) (i : ℕ) → i < length ss → (s : FeedSeen) × (slice_get ss i ≡ Some s) × (s ≡ get_or ss i s)
 state_at [] i lt = absurd (omega arith)
 state_at (s ∷ ss) i lt =
     let there = slice_get-get_or (s ∷ ss) i s lt in
@@ -52,71 +50,71 @@ state_at (s ∷ ss) i lt =
 
 -- what is made of the links one after another
 folded : {X : Type 0} (F : List LinkSeen → X) (more : LinkSeen → X → X) → ((l : LinkSeen) (ls : List LinkSeen) → F (l ∷ ls) ≡ more l (F ls))
-    → ((h : LinkSeen) (s : worker.LinkSeen) (x : X) → more (joined h s) x ≡ more h x) → (hs : List LinkSeen) (ss : List worker.LinkSeen) → AllMatch hs ss → F (joined_all hs ss) ≡ F hs
+    → ((h : LinkSeen) (s : FeedSeen) (x : X) → more (joined h s) x ≡ more h x) → (hs : List LinkSeen) (ss : List FeedSeen) → AllMatch hs ss → F (joined_all hs ss) ≡ F hs
 folded F more each same [] ss all = refl
 folded F more each same (h ∷ hs) [] all = absurd all
 folded F more each same (h ∷ hs) (s ∷ ss) all =
     each (joined h s) (joined_all hs ss) ∙ same h s (F (joined_all hs ss)) ∙ ap (more h) (folded F more each same hs ss all.1) ∙ sym (each h hs)
 
-joined_many : (hs : List LinkSeen) (ss : List worker.LinkSeen) → AllMatch hs ss → length (joined_all hs ss) ≡ length hs
+joined_many : (hs : List LinkSeen) (ss : List FeedSeen) → AllMatch hs ss → length (joined_all hs ss) ≡ length hs
 joined_many = folded length (λ l n. suc n) (λ l ls. refl) (λ h s n. refl)
 
-module _ {X : Type 0} (f : LinkSeen → X) (same : (h : LinkSeen) (s : worker.LinkSeen) → f (joined h s) ≡ f h) where
-  pub map_same : (hs : List LinkSeen) (ss : List worker.LinkSeen) → AllMatch hs ss → map f (joined_all hs ss) ≡ map f hs
+module _ {X : Type 0} (f : LinkSeen → X) (same : (h : LinkSeen) (s : FeedSeen) → f (joined h s) ≡ f h) where
+  pub map_same : (hs : List LinkSeen) (ss : List FeedSeen) → AllMatch hs ss → map f (joined_all hs ss) ≡ map f hs
   map_same = folded (map f) (λ l xs. f l ∷ xs) (λ l ls. refl) (λ h s xs. ap (λ x. x ∷ xs) (same h s))
 
-  pub picked_same : (none : X) (number : ℕ) (hs : List LinkSeen) (ss : List worker.LinkSeen) → AllMatch hs ss → picked_at f none number (joined_all hs ss) ≡ picked_at f none number hs
+  pub picked_same : (none : X) (number : ℕ) (hs : List LinkSeen) (ss : List FeedSeen) → AllMatch hs ss → picked_at f none number (joined_all hs ss) ≡ picked_at f none number hs
   picked_same none number =
       folded (picked_at f none number) (λ l x. if has_that number l then f l else x) (λ l ls. refl) (λ h s x. ap (λ y. if has_that number h then y else x) (same h s))
 
-  pub passing_same : (p : LinkSeen → Bool) → ((h : LinkSeen) (s : worker.LinkSeen) → p (joined h s) ≡ p h) → (hs : List LinkSeen) (ss : List worker.LinkSeen) → AllMatch hs ss
+  pub passing_same : (p : LinkSeen → Bool) → ((h : LinkSeen) (s : FeedSeen) → p (joined h s) ≡ p h) → (hs : List LinkSeen) (ss : List FeedSeen) → AllMatch hs ss
       → map f (filter p (joined_all hs ss)) ≡ map f (filter p hs)
   passing_same p alike = folded (λ ls. map f (filter p ls)) (λ l xs. cond (p l) (f l ∷ xs) xs)
       (λ l ls. elim (p l) as (λ b. map f (cond b (l ∷ filter p ls) (filter p ls)) ≡ cond b (f l ∷ map f (filter p ls)) (map f (filter p ls))) [ true ↦ refl | false ↦ refl ])
       (λ h s xs. ap (λ b. cond b (f (joined h s) ∷ xs) xs) (alike h s) ∙ ap (λ x. cond (p h) (x ∷ xs) xs) (same h s))
 
-pub flat_same : {X : Type 0} (f : LinkSeen → List X) → ((h : LinkSeen) (s : worker.LinkSeen) → f (joined h s) ≡ f h) → (hs : List LinkSeen) (ss : List worker.LinkSeen) → AllMatch hs ss
+pub flat_same : {X : Type 0} (f : LinkSeen → List X) → ((h : LinkSeen) (s : FeedSeen) → f (joined h s) ≡ f h) → (hs : List LinkSeen) (ss : List FeedSeen) → AllMatch hs ss
     → flat_map f (joined_all hs ss) ≡ flat_map f hs
 flat_same f same = folded (flat_map f) (λ l xs. f l ++ xs) (λ l ls. refl) (λ h s xs. ap (λ ys. ys ++ xs) (same h s))
 
-module _ (p : LinkSeen → Bool) (same : (h : LinkSeen) (s : worker.LinkSeen) → p (joined h s) ≡ p h) where
-  pub any_same : (hs : List LinkSeen) (ss : List worker.LinkSeen) → AllMatch hs ss → list_any p (joined_all hs ss) ≡ list_any p hs
+module _ (p : LinkSeen → Bool) (same : (h : LinkSeen) (s : FeedSeen) → p (joined h s) ≡ p h) where
+  pub any_same : (hs : List LinkSeen) (ss : List FeedSeen) → AllMatch hs ss → list_any p (joined_all hs ss) ≡ list_any p hs
   any_same = folded (list_any p) (λ l b. p l || b) (λ l ls. refl) (λ h s b. ap (λ a. a || b) (same h s))
 
-  pub count_same : (hs : List LinkSeen) (ss : List worker.LinkSeen) → AllMatch hs ss → length (filter p (joined_all hs ss)) ≡ length (filter p hs)
+  pub count_same : (hs : List LinkSeen) (ss : List FeedSeen) → AllMatch hs ss → length (filter p (joined_all hs ss)) ≡ length (filter p hs)
   count_same hs ss all =
       sym (length-map (filter p (joined_all hs ss)) number_of) ∙ ap length (passing_same number_of (λ h s. refl) p same hs ss all) ∙ length-map (filter p hs) number_of
 
-  place_same : (hs : List LinkSeen) (ss : List worker.LinkSeen) → AllMatch hs ss → position_or_len p (joined_all hs ss) ≡ position_or_len p hs
+  place_same : (hs : List LinkSeen) (ss : List FeedSeen) → AllMatch hs ss → position_or_len p (joined_all hs ss) ≡ position_or_len p hs
   place_same = folded (position_or_len p) (λ l n. cond (not (p l)) (1 + n) 0) (λ l ls. refl) (λ h s n. ap (λ b. cond (not b) (1 + n) 0) (same h s))
 
-  pub position_same : (hs : List LinkSeen) (ss : List worker.LinkSeen) → AllMatch hs ss → position p (joined_all hs ss) ≡ position p hs
+  pub position_same : (hs : List LinkSeen) (ss : List FeedSeen) → AllMatch hs ss → position p (joined_all hs ss) ≡ position p hs
   position_same hs ss all =
       let many : length (joined_all hs ss) ≡ length hs = joined_many hs ss all in
       rw (place_same hs ss all, many) refl
 
-pub numbers_same : (hs : List LinkSeen) (ss : List worker.LinkSeen) → AllMatch hs ss → numbers (joined_all hs ss) ≡ numbers hs
+pub numbers_same : (hs : List LinkSeen) (ss : List FeedSeen) → AllMatch hs ss → numbers (joined_all hs ss) ≡ numbers hs
 numbers_same = map_same number_of (λ h s. refl)
 
-pub rises_same : (high : ℕ) (hs : List LinkSeen) (ss : List worker.LinkSeen) → AllMatch hs ss → Rises 0 (numbers hs) high → Rises 0 (numbers (joined_all hs ss)) high
+pub rises_same : (high : ℕ) (hs : List LinkSeen) (ss : List FeedSeen) → AllMatch hs ss → Rises 0 (numbers hs) high → Rises 0 (numbers (joined_all hs ss)) high
 rises_same high hs ss all rises = subst (λ ns. Rises 0 ns high) (sym (numbers_same hs ss all)) rises
 
 -- ---- a step of what is kept of the sessions
 
-module _ (step : LinkSeen → LinkSeen) (same : (h : LinkSeen) (s : worker.LinkSeen) → joined (step h) s ≡ step (joined h s)) where
-  at_same : (number : ℕ) (h : LinkSeen) (s : worker.LinkSeen) → joined (at_link number step h) s ≡ at_link number step (joined h s)
+module _ (step : LinkSeen → LinkSeen) (same : (h : LinkSeen) (s : FeedSeen) → joined (step h) s ≡ step (joined h s)) where
+  at_same : (number : ℕ) (h : LinkSeen) (s : FeedSeen) → joined (at_link number step h) s ≡ at_link number step (joined h s)
   at_same number h s = by (has_that number h)
     where
       by : (b : Bool) → joined (if b then step h else h) s ≡ (if b then step (joined h s) else joined h s)
       by true = same h s
       by false = refl
 
-  pub halves_changed : (number : ℕ) (hs : List LinkSeen) (ss : List worker.LinkSeen) → joined_all (map (at_link number step) hs) ss ≡ map (at_link number step) (joined_all hs ss)
+  pub halves_changed : (number : ℕ) (hs : List LinkSeen) (ss : List FeedSeen) → joined_all (map (at_link number step) hs) ss ≡ map (at_link number step) (joined_all hs ss)
   halves_changed number [] ss = refl
   halves_changed number (h ∷ hs) [] = refl
   halves_changed number (h ∷ hs) (s ∷ ss) = ap (λ l. l ∷ joined_all (map (at_link number step) hs) ss) (at_same number h s) ∙ ap (λ ls. at_link number step (joined h s) ∷ ls) (halves_changed number hs ss)
 
-pub halves_match : (step : LinkSeen → LinkSeen) → ((h : LinkSeen) (s : worker.LinkSeen) → Matches h s → Matches (step h) s) → (number : ℕ) (hs : List LinkSeen) (ss : List worker.LinkSeen) → AllMatch hs ss
+pub halves_match : (step : LinkSeen → LinkSeen) → ((h : LinkSeen) (s : FeedSeen) → Matches h s → Matches (step h) s) → (number : ℕ) (hs : List LinkSeen) (ss : List FeedSeen) → AllMatch hs ss
     → AllMatch (map (at_link number step) hs) ss
 halves_match step kept number [] [] all = all
 halves_match step kept number [] (s ∷ ss) all = all
@@ -129,8 +127,8 @@ halves_match step kept number (h ∷ hs) (s ∷ ss) all = (by (has_that number h
 
 -- ---- a step of what all links are fed
 
-module _ (g : worker.LinkSeen → worker.LinkSeen) where
-  pub states_match : ((h : LinkSeen) (s : worker.LinkSeen) → Matches h s → Matches h (g s)) → (hs : List LinkSeen) (ss : List worker.LinkSeen) → AllMatch hs ss → AllMatch hs (map g ss)
+module _ (g : FeedSeen → FeedSeen) where
+  pub states_match : ((h : LinkSeen) (s : FeedSeen) → Matches h s → Matches h (g s)) → (hs : List LinkSeen) (ss : List FeedSeen) → AllMatch hs ss → AllMatch hs (map g ss)
   states_match kept [] [] all = all
   states_match kept [] (s ∷ ss) all = all
   states_match kept (h ∷ hs) [] all = all
@@ -138,16 +136,16 @@ module _ (g : worker.LinkSeen → worker.LinkSeen) where
 
   -- where it holds of what is kept of each session
   module _ (Q : LinkSeen → Type 0) where
-    pub states_changed : (step : LinkSeen → LinkSeen) → ((h : LinkSeen) (s : worker.LinkSeen) → Q h → Matches h s → joined h (g s) ≡ step (joined h s))
-        → (hs : List LinkSeen) (ss : List worker.LinkSeen) → All Q hs → AllMatch hs ss → joined_all hs (map g ss) ≡ map step (joined_all hs ss)
+    pub states_changed : (step : LinkSeen → LinkSeen) → ((h : LinkSeen) (s : FeedSeen) → Q h → Matches h s → joined h (g s) ≡ step (joined h s))
+        → (hs : List LinkSeen) (ss : List FeedSeen) → All Q hs → AllMatch hs ss → joined_all hs (map g ss) ≡ map step (joined_all hs ss)
     states_changed step is [] ss each all = refl
     states_changed step is (h ∷ hs) [] each all = absurd all
     states_changed step is (h ∷ hs) (s ∷ ss) each all =
         ap (λ l. l ∷ joined_all hs (map g ss)) (is h s (each 0 h (omega arith)) all.0)
         ∙ ap (λ ls. step (joined h s) ∷ ls) (states_changed step is hs ss (λ k d lt. each (suc k) d (omega arith)) all.1)
 
-    sums_changed : (takes : LinkSeen → Bool) → ((h : LinkSeen) (s : worker.LinkSeen) → Q h → Matches h s → (g s).put ≡ (if takes (joined h s) then one_more s.put else s.put))
-        → (hs : List LinkSeen) (ss : List worker.LinkSeen) → All Q hs → AllMatch hs ss → put_in (map g ss) ≡ min (sum_by put_of ss + length (filter takes (joined_all hs ss))) (2 ^ 64 - 1)
+    sums_changed : (takes : LinkSeen → Bool) → ((h : LinkSeen) (s : FeedSeen) → Q h → Matches h s → (g s).put ≡ (if takes (joined h s) then one_more s.put else s.put))
+        → (hs : List LinkSeen) (ss : List FeedSeen) → All Q hs → AllMatch hs ss → put_in (map g ss) ≡ min (sum_by put_of ss + length (filter takes (joined_all hs ss))) (2 ^ 64 - 1)
     sums_changed takes is [] [] each all = refl
     sums_changed takes is [] (s ∷ ss) each all = absurd all
     sums_changed takes is (h ∷ hs) [] each all = absurd all
@@ -182,8 +180,8 @@ module _ (g : worker.LinkSeen → worker.LinkSeen) where
         more_first a sum before n is = omega (arith, is)
 
     -- how many lines are put
-    pub put_changed : (takes : LinkSeen → Bool) → ((h : LinkSeen) (s : worker.LinkSeen) → Q h → Matches h s → (g s).put ≡ (if takes (joined h s) then one_more s.put else s.put))
-        → (hs : List LinkSeen) (ss : List worker.LinkSeen) → All Q hs → AllMatch hs ss → put_in (map g ss) ≡ more (length (filter takes (joined_all hs ss))) (put_in ss)
+    pub put_changed : (takes : LinkSeen → Bool) → ((h : LinkSeen) (s : FeedSeen) → Q h → Matches h s → (g s).put ≡ (if takes (joined h s) then one_more s.put else s.put))
+        → (hs : List LinkSeen) (ss : List FeedSeen) → All Q hs → AllMatch hs ss → put_in (map g ss) ≡ more (length (filter takes (joined_all hs ss))) (put_in ss)
     put_changed takes is hs ss each all =
         sums_changed takes is hs ss each all ∙ sym (capped (sum_by put_of ss) (length (filter takes (joined_all hs ss))) (2 ^ 64 - 1))
 
@@ -191,26 +189,26 @@ pub any_half : (hs : List LinkSeen) → All (λ h. h ≡ h) hs
 any_half hs = λ k d lt. refl
 
 -- what was put is counted
-pub counted_all : (hs : List LinkSeen) (ss : List worker.LinkSeen) → joined_all hs (map counted ss) ≡ joined_all hs ss
+pub counted_all : (hs : List LinkSeen) (ss : List FeedSeen) → joined_all hs (map counted ss) ≡ joined_all hs ss
 counted_all [] ss = refl
 counted_all (h ∷ hs) [] = refl
 counted_all (h ∷ hs) (s ∷ ss) = ap (λ ls. joined h s ∷ ls) (counted_all hs ss)
 
-pub counted_match : (h : LinkSeen) (s : worker.LinkSeen) → Matches h s → Matches h (counted s)
+pub counted_match : (h : LinkSeen) (s : FeedSeen) → Matches h s → Matches h (counted s)
 counted_match h s m = record { link = m.link; inbound = m.inbound; alive = m.alive; limit = m.limit; feed = m.feed; me = m.me; many = m.many }
 
-pub none_put : (ss : List worker.LinkSeen) → put_in (map counted ss) ≡ 0
+pub none_put : (ss : List FeedSeen) → put_in (map counted ss) ≡ 0
 none_put ss = ap (λ n. min n (2 ^ 64 - 1)) (none ss)
   where
-    none : (ss : List worker.LinkSeen) → sum_by put_of (map counted ss) ≡ 0
+    none : (ss : List FeedSeen) → sum_by put_of (map counted ss) ≡ 0
     none [] = refl
     none (s ∷ ss) = let first = sum_by-cons put_of (counted s) (map counted ss) in let rest = none ss in omega (arith, first, rest)
 
 -- nor do some of them count then
-pub none_put_of : (p : worker.LinkSeen → Bool) (ss : List worker.LinkSeen) → put_in (filter p (map counted ss)) ≡ 0
+pub none_put_of : (p : FeedSeen → Bool) (ss : List FeedSeen) → put_in (filter p (map counted ss)) ≡ 0
 none_put_of p ss = ap (λ n. min n (2 ^ 64 - 1)) (none ss)
   where
-    none : (ss : List worker.LinkSeen) → sum_by put_of (filter p (map counted ss)) ≡ 0
+    none : (ss : List FeedSeen) → sum_by put_of (filter p (map counted ss)) ≡ 0
     none [] = refl
     none (s ∷ ss) =
         let rest = none ss in
@@ -219,17 +217,17 @@ none_put_of p ss = ap (λ n. min n (2 ^ 64 - 1)) (none ss)
         (λ (leaves : p (counted s) ≡ false). rw leaves rest)
         (cases_Bool (p (counted s)))
 
-pub capped_put : (ss : List worker.LinkSeen) → min (put_in ss + 0) (2 ^ 64 - 1) ≡ put_in ss
+pub capped_put : (ss : List FeedSeen) → min (put_in ss + 0) (2 ^ 64 - 1) ≡ put_in ss
 capped_put ss = capped (sum_by put_of ss) 0 (2 ^ 64 - 1) ∙ ap (λ n. min n (2 ^ 64 - 1)) (let same : sum_by put_of ss + 0 ≡ sum_by put_of ss = omega arith in same)
 
-pub put_alone : (ss : List worker.LinkSeen) → more (put_in ss) 0 ≡ put_in ss
+pub put_alone : (ss : List FeedSeen) → more (put_in ss) 0 ≡ put_in ss
 put_alone ss = ap (λ n. min n (2 ^ 64 - 1)) (let same : 0 + put_in ss ≡ put_in ss + 0 = omega arith in same) ∙ capped_put ss
 
 -- a step that puts no packet line
-pub put_kept : (g : worker.LinkSeen → worker.LinkSeen) → ((h : LinkSeen) (s : worker.LinkSeen) → Matches h s → (g s).put ≡ s.put) → (hs : List LinkSeen) (ss : List worker.LinkSeen) → AllMatch hs ss → put_in (map g ss) ≡ put_in ss
+pub put_kept : (g : FeedSeen → FeedSeen) → ((h : LinkSeen) (s : FeedSeen) → Matches h s → (g s).put ≡ s.put) → (hs : List LinkSeen) (ss : List FeedSeen) → AllMatch hs ss → put_in (map g ss) ≡ put_in ss
 put_kept g same hs ss all = ap (λ n. min n (2 ^ 64 - 1)) (sums hs ss all)
   where
-    sums : (hs : List LinkSeen) (ss : List worker.LinkSeen) → AllMatch hs ss → sum_by put_of (map g ss) ≡ sum_by put_of ss
+    sums : (hs : List LinkSeen) (ss : List FeedSeen) → AllMatch hs ss → sum_by put_of (map g ss) ≡ sum_by put_of ss
     sums [] [] all = refl
     sums [] (s ∷ ss) all = absurd all
     sums (h ∷ hs) [] all = absurd all
@@ -238,19 +236,19 @@ put_kept g same hs ss all = ap (λ n. min n (2 ^ 64 - 1)) (sums hs ss all)
 
 -- ---- a link comes
 
-pub joined_push : (hs : List LinkSeen) (ss : List worker.LinkSeen) (h : LinkSeen) (s : worker.LinkSeen) → AllMatch hs ss → joined_all (hs ++ h ∷ []) (ss ++ s ∷ []) ≡ joined_all hs ss ++ joined h s ∷ []
+pub joined_push : (hs : List LinkSeen) (ss : List FeedSeen) (h : LinkSeen) (s : FeedSeen) → AllMatch hs ss → joined_all (hs ++ h ∷ []) (ss ++ s ∷ []) ≡ joined_all hs ss ++ joined h s ∷ []
 joined_push [] [] h s all = refl
 joined_push [] (x ∷ ss) h s all = absurd all
 joined_push (x ∷ hs) [] h s all = absurd all
 joined_push (x ∷ hs) (y ∷ ss) h s all = ap (λ ls. joined x y ∷ ls) (joined_push hs ss h s all.1)
 
-pub match_push : (hs : List LinkSeen) (ss : List worker.LinkSeen) (h : LinkSeen) (s : worker.LinkSeen) → AllMatch hs ss → Matches h s → AllMatch (hs ++ h ∷ []) (ss ++ s ∷ [])
+pub match_push : (hs : List LinkSeen) (ss : List FeedSeen) (h : LinkSeen) (s : FeedSeen) → AllMatch hs ss → Matches h s → AllMatch (hs ++ h ∷ []) (ss ++ s ∷ [])
 match_push [] [] h s all new = (new, tt)
 match_push [] (x ∷ ss) h s all new = absurd all
 match_push (x ∷ hs) [] h s all new = absurd all
 match_push (x ∷ hs) (y ∷ ss) h s all new = (all.0, match_push hs ss h s all.1 new)
 
-pub put_push : (ss : List worker.LinkSeen) (s : worker.LinkSeen) → s.put ≡ 0 → put_in (ss ++ s ∷ []) ≡ put_in ss
+pub put_push : (ss : List FeedSeen) (s : FeedSeen) → s.put ≡ 0 → put_in (ss ++ s ∷ []) ≡ put_in ss
 put_push ss s none =
     let one : sum_by put_of (s ∷ []) ≡ 0 = sum_by-cons put_of s [] ∙ ap (λ n. n + 0) none in
     ap (λ n. min n (2 ^ 64 - 1)) (sum_by-append put_of ss (s ∷ []) ∙ (let same : sum_by put_of ss + sum_by put_of (s ∷ []) ≡ sum_by put_of ss = omega (arith, one) in same))
@@ -258,10 +256,10 @@ put_push ss s none =
 -- ---- links leave
 
 module _ (ns : List ℕ) where
-  left_same : (h : LinkSeen) (s : worker.LinkSeen) → Matches h s → is_other ns s ≡ is_none_of ns h
+  left_same : (h : LinkSeen) (s : FeedSeen) → Matches h s → is_other ns s ≡ is_none_of ns h
   left_same h s m = ap (λ link. not (list_any (λ n. n == link) ns)) m.link
 
-  pub joined_left : (hs : List LinkSeen) (ss : List worker.LinkSeen) → AllMatch hs ss → joined_all (filter (is_none_of ns) hs) (filter (is_other ns) ss) ≡ filter (is_none_of ns) (joined_all hs ss)
+  pub joined_left : (hs : List LinkSeen) (ss : List FeedSeen) → AllMatch hs ss → joined_all (filter (is_none_of ns) hs) (filter (is_other ns) ss) ≡ filter (is_none_of ns) (joined_all hs ss)
   joined_left [] ss all = refl
   joined_left (h ∷ hs) [] all = absurd all
   joined_left (h ∷ hs) (s ∷ ss) all =
@@ -272,7 +270,7 @@ module _ (ns : List ℕ) where
       (λ (leaves : is_none_of ns h ≡ false). rw leaves rest)
       (cases_Bool (is_none_of ns h))
 
-  pub match_left : (hs : List LinkSeen) (ss : List worker.LinkSeen) → AllMatch hs ss → AllMatch (filter (is_none_of ns) hs) (filter (is_other ns) ss)
+  pub match_left : (hs : List LinkSeen) (ss : List FeedSeen) → AllMatch hs ss → AllMatch (filter (is_none_of ns) hs) (filter (is_other ns) ss)
   match_left [] [] all = all
   match_left [] (s ∷ ss) all = absurd all
   match_left (h ∷ hs) [] all = absurd all
@@ -285,14 +283,14 @@ module _ (ns : List ℕ) where
       (λ (leaves : is_none_of ns h ≡ false). rw leaves rest)
       (cases_Bool (is_none_of ns h)))
 
-  pub put_left : (ss : List worker.LinkSeen) → put_in ss ≡ 0 → put_in (filter (is_other ns) ss) ≡ 0
+  pub put_left : (ss : List FeedSeen) → put_in ss ≡ 0 → put_in (filter (is_other ns) ss) ≡ 0
   put_left ss none = ap (λ n. min n (2 ^ 64 - 1)) (sums ss (nothing (sum_by put_of ss) none))
     where
       nothing : (n : ℕ) → min n (2 ^ 64 - 1) ≡ 0 → n ≡ 0
       nothing zero is = refl
       nothing (suc n) is = absurd (omega (arith, is))
 
-      sums : (ss : List worker.LinkSeen) → sum_by put_of ss ≡ 0 → sum_by put_of (filter (is_other ns) ss) ≡ 0
+      sums : (ss : List FeedSeen) → sum_by put_of ss ≡ 0 → sum_by put_of (filter (is_other ns) ss) ≡ 0
       sums [] is = refl
       sums (s ∷ ss) is =
           let whole : sum_by put_of (s ∷ ss) ≡ s.put + sum_by put_of ss = sum_by-cons put_of s ss in
@@ -305,35 +303,35 @@ module _ (ns : List ℕ) where
 
 -- ---- a step at one place
 
-pub state_set : (hs : List LinkSeen) (ss : List worker.LinkSeen) (i : ℕ) (h g : LinkSeen) (s t : worker.LinkSeen) → i < length hs → AllMatch hs ss
+pub state_set : (hs : List LinkSeen) (ss : List FeedSeen) (i : ℕ) (h g : LinkSeen) (s t : FeedSeen) → i < length hs → AllMatch hs ss
     → joined_all (slice_set hs i g) (slice_set ss i t) ≡ slice_set (joined_all hs ss) i (joined g t)
 state_set [] ss i h g s t lt all = absurd (omega arith)
 state_set (x ∷ hs) [] i h g s t lt all = absurd all
 state_set (x ∷ hs) (y ∷ ss) zero h g s t lt all = refl
 state_set (x ∷ hs) (y ∷ ss) (suc i) h g s t lt all = ap (λ ls. joined x y ∷ ls) (state_set hs ss i h g s t (omega arith) all.1)
 
-pub match_set : (hs : List LinkSeen) (ss : List worker.LinkSeen) (i : ℕ) (g : LinkSeen) (t : worker.LinkSeen) → AllMatch hs ss → Matches g t → AllMatch (slice_set hs i g) (slice_set ss i t)
+pub match_set : (hs : List LinkSeen) (ss : List FeedSeen) (i : ℕ) (g : LinkSeen) (t : FeedSeen) → AllMatch hs ss → Matches g t → AllMatch (slice_set hs i g) (slice_set ss i t)
 match_set [] [] i g t all new = all
 match_set [] (y ∷ ss) i g t all new = absurd all
 match_set (x ∷ hs) [] i g t all new = absurd all
 match_set (x ∷ hs) (y ∷ ss) zero g t all new = (new, all.1)
 match_set (x ∷ hs) (y ∷ ss) (suc i) g t all new = (all.0, match_set hs ss i g t all.1 new)
 
-pub put_set : (ss : List worker.LinkSeen) (i : ℕ) (t : worker.LinkSeen) → ((d : worker.LinkSeen) → d ≡ get_or ss i d → t.put ≡ d.put) → put_in (slice_set ss i t) ≡ put_in ss
+pub put_set : (ss : List FeedSeen) (i : ℕ) (t : FeedSeen) → ((d : FeedSeen) → d ≡ get_or ss i d → t.put ≡ d.put) → put_in (slice_set ss i t) ≡ put_in ss
 put_set ss i t same = ap (λ n. min n (2 ^ 64 - 1)) (sums ss i same)
   where
-    sums : (ss : List worker.LinkSeen) (i : ℕ) → ((d : worker.LinkSeen) → d ≡ get_or ss i d → t.put ≡ d.put) → sum_by put_of (slice_set ss i t) ≡ sum_by put_of ss
+    sums : (ss : List FeedSeen) (i : ℕ) → ((d : FeedSeen) → d ≡ get_or ss i d → t.put ≡ d.put) → sum_by put_of (slice_set ss i t) ≡ sum_by put_of ss
     sums [] i same = refl
     sums (s ∷ ss) zero same = sum_by-cons put_of t ss ∙ ap (λ n. n + sum_by put_of ss) (same s refl) ∙ sym (sum_by-cons put_of s ss)
     sums (s ∷ ss) (suc i) same = sum_by-cons put_of s (slice_set ss i t) ∙ ap (λ n. s.put + n) (sums ss i same) ∙ sym (sum_by-cons put_of s ss)
 
 -- ---- what is asked of all links
 
-pub submitted_same : (from : Source) (hs : List LinkSeen) (ss : List worker.LinkSeen) → AllMatch hs ss → submitted_from from (joined_all hs ss) ≡ submitted_from from hs
+pub submitted_same : (from : Source) (hs : List LinkSeen) (ss : List FeedSeen) → AllMatch hs ss → submitted_from from (joined_all hs ss) ≡ submitted_from from hs
 submitted_same (source.Link number) hs ss all = picked_same client_kept (λ h s. refl) false number hs ss all
 submitted_same from hs ss all = refl
 
-pub over_same : (hs : List LinkSeen) (ss : List worker.LinkSeen) → AllMatch hs ss → map link_of (filter is_over ss) ≡ numbers (filter is_overfull (joined_all hs ss))
+pub over_same : (hs : List LinkSeen) (ss : List FeedSeen) → AllMatch hs ss → map link_of (filter is_over ss) ≡ numbers (filter is_overfull (joined_all hs ss))
 over_same [] [] all = refl
 over_same [] (s ∷ ss) all = absurd all
 over_same (h ∷ hs) [] all = absurd all
@@ -352,8 +350,8 @@ ready_by true link number ns before same is so_far =
 ready_by false link number ns before same is so_far =
     so_far ∙ ap numbers (sym (append-nil before)) ∙ ap (λ b. numbers (before ++ cond b (link ∷ []) [])) is
 
-pub ready_more : (hs : List LinkSeen) (ss : List worker.LinkSeen) (i : ℕ) (h : LinkSeen) (number : ℕ) (ready : Bool) (ns : List ℕ) → AllMatch hs ss → i < length hs → h ≡ get_or hs i h
-    → number ≡ h.link → ((s : worker.LinkSeen) → slice_get ss i ≡ Some s → ready ≡ is_ready (joined h s)) → ns ≡ numbers (filter is_ready (take i (joined_all hs ss)))
+pub ready_more : (hs : List LinkSeen) (ss : List FeedSeen) (i : ℕ) (h : LinkSeen) (number : ℕ) (ready : Bool) (ns : List ℕ) → AllMatch hs ss → i < length hs → h ≡ get_or hs i h
+    → number ≡ h.link → ((s : FeedSeen) → slice_get ss i ≡ Some s → ready ≡ is_ready (joined h s)) → ns ≡ numbers (filter is_ready (take i (joined_all hs ss)))
     → (if ready then ns ++ number ∷ [] else ns) ≡ numbers (filter is_ready (take (i + 1) (joined_all hs ss)))
 ready_more hs ss i h number ready ns all lt at same is so_far =
     let many = as_many hs ss all in
@@ -367,24 +365,24 @@ ready_more hs ss i h number ready ns all lt at same is so_far =
     ∙ ap (λ (l : LinkSeen). numbers (filter is_ready (take i links) ++ cond (is_ready l) (l ∷ []) [])) there
     ∙ sym (ap numbers (filter_more is_ready links i link within))
 
-pub ready_all : (hs : List LinkSeen) (ss : List worker.LinkSeen) (i : ℕ) (ns : List ℕ) → AllMatch hs ss → length hs ≤ i → ns ≡ numbers (filter is_ready (take i (joined_all hs ss)))
+pub ready_all : (hs : List LinkSeen) (ss : List FeedSeen) (i : ℕ) (ns : List ℕ) → AllMatch hs ss → length hs ≤ i → ns ≡ numbers (filter is_ready (take i (joined_all hs ss)))
     → ns ≡ numbers (filter is_ready (joined_all hs ss))
 ready_all hs ss i ns all past is =
     let long = joined_many hs ss all in
     is ∙ ap (λ links. numbers (filter is_ready links)) (take_all i (joined_all hs ss) (omega (arith, long)))
 
 -- one half that changes where it stands
-pub half_changed : (hs : List LinkSeen) (ss : List worker.LinkSeen) (i : ℕ) (h g : LinkSeen) → AllMatch hs ss → h ≡ get_or hs i h → ((s : worker.LinkSeen) → Matches h s → Matches g s) → AllMatch (slice_set hs i g) ss
+pub half_changed : (hs : List LinkSeen) (ss : List FeedSeen) (i : ℕ) (h g : LinkSeen) → AllMatch hs ss → h ≡ get_or hs i h → ((s : FeedSeen) → Matches h s → Matches g s) → AllMatch (slice_set hs i g) ss
 half_changed [] ss i h g all at kept = all
 half_changed (x ∷ hs) [] i h g all at kept = absurd all
 half_changed (x ∷ hs) (y ∷ ss) zero h g all at kept = (kept y (subst (λ l. Matches l y) (sym at) all.0), all.1)
 half_changed (x ∷ hs) (y ∷ ss) (suc i) h g all at kept = (all.0, half_changed hs ss i h g all.1 at kept)
 
 -- a link that brought bytes
-pub brought_matches : (h g : LinkSeen) (s : worker.LinkSeen) → g ≡ record h { last = g.last; held = g.held } → Matches h s → Matches g s
+pub brought_matches : (h g : LinkSeen) (s : FeedSeen) → g ≡ record h { last = g.last; held = g.held } → Matches h s → Matches g s
 brought_matches h g s is m =
     subst (λ l. Matches l s) (sym is) (record { link = m.link; inbound = m.inbound; alive = m.alive; limit = m.limit; feed = m.feed; me = m.me; many = m.many })
 
-pub others_same : (from : Source) (hs : List LinkSeen) (ss : List worker.LinkSeen) → AllMatch hs ss → others_from from (joined_all hs ss) ≡ others_from from hs
+pub others_same : (from : Source) (hs : List LinkSeen) (ss : List FeedSeen) → AllMatch hs ss → others_from from (joined_all hs ss) ≡ others_from from hs
 others_same (source.Link number) hs ss all = flat_same (other_login number) (λ h s. refl) hs ss all
 others_same from hs ss all = flat_same login_kept (λ h s. refl) hs ss all

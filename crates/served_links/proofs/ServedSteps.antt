@@ -20,14 +20,12 @@ use Rattle.filter_lang.specs.Terms.{TermSeen}
 use Rattle.heard_routing.specs.Heard.{is_among}
 use Rattle.link_queue.specs.Queues as queue
 use Rattle.worker_match.specs.declared.links.Feed.{Feed}
-use Rattle.worker_match.specs.Seen.{Came, ToldAll}
-use Rattle.worker_match.specs.Seen as worker
+use Rattle.worker_match.specs.Seen.{FeedSeen, ItemSeen, Came, ToldAll}
 use Rattle.worker_match.specs.Walk.{after}
 use Rattle.served_links.specs.Fed.{AllMatch, Matches, feed_of, joined, joined_all, new_half, offer_of, opening_feed, refused_of, shows_kept}
-use Rattle.served_links.specs.Halves.{AreHalves, AtRest, IsEmptied, ServedSeen, served_seen, waiting_after}
+use Rattle.served_links.specs.Halves.{AreHalves, AtRest, IsEmptied, ServedSeen, served_seen, waiting_after, more}
 use Rattle.served_links.specs.Links.{Rises, has_that, here, is_at, is_here, is_none_of, is_whole, named_of, number_of, numbers, pending_at, pending_of, when_left}
 use Rattle.served_links.specs.Changes.{at_link, at_moment, has_room, is_asked_at, is_shown_at, takes_packet, takes_shown, with_date, with_packet, with_shown, with_text}
-use Rattle.served_links.specs.Halves.{more}
 use Rattle.served_links.specs.declared.link.SourcePlace.{SourcePlace}
 use Rattle.served_links.specs.declared.served.Served.TheInside.{Inside}
 use Rattle.aprs_history.proofs.NumberLemmas.{rises_higher}
@@ -47,10 +45,10 @@ abbrev pub rests_of : ServedSeen → Bool
 rests_of served = served.rests
 
 -- what is found of the sessions that are kept is found of the links as they are seen
-pub asked : {X : Type 0} (inside : Inside) {now : ServedSeen} {searched : List LinkSeen} → served_seen inside.halves inside.feeds inside.queued inside.rests ≡ now → AllMatch inside.halves inside.feeds.links
-    → searched ≡ inside.halves → (f : List LinkSeen → X) → ((hs : List LinkSeen) (ss : List worker.LinkSeen) → AllMatch hs ss → f (joined_all hs ss) ≡ f hs) → f (here searched) ≡ f now.links
+pub asked : {X : Type 0} (inside : Inside) {now : ServedSeen} {searched : List LinkSeen} → served_seen inside.sessions inside.feeds inside.queued inside.rests ≡ now → AllMatch inside.sessions inside.feeds.links
+    → searched ≡ inside.sessions → (f : List LinkSeen → X) → ((hs : List LinkSeen) (ss : List FeedSeen) → AllMatch hs ss → f (joined_all hs ss) ≡ f hs) → f (here searched) ≡ f now.links
 asked inside view all same f alike =
-    let hs = inside.halves in
+    let hs = inside.sessions in
     let ss = inside.feeds.links in
     ap (λ links. f (here links)) same ∙ sym (alike (here hs) (present hs ss) (match_here hs ss all)) ∙ ap f (joined_here hs ss all) ∙ ap (λ (served : ServedSeen). f served.links) view
 
@@ -92,19 +90,19 @@ none_more hs feeds queued rests now view =
     let is = ap (λ (s : ServedSeen). s.queued) view in ap (more 0) (sym is) ∙ none_later queued (put_in feeds.links) ∙ is
 
 -- after want of memory no link is left
-pub met_are : {E : Type 0} (r : Result ⊤ E) (inside : Inside) (left_hs : List LinkSeen) (left : FeedsSeen) (item : worker.ItemSeen) → AreHalves inside.halves inside.feeds
-    → ((h : LinkSeen) (s : worker.LinkSeen) → Matches h s → Matches h (after s item)) → OnOk r (left_hs ≡ inside.halves) → OnOk r (left.links ≡ met_by item inside.feeds.links)
-    → OnOk r (left.waiting ≡ waiting_after inside.rests inside.feeds.waiting) → OnErr r ((left_hs ≡ []) × (left ≡ record { links = []; waiting = 0 })) → AtRest inside.rests inside.halves inside.feeds → AreHalves left_hs left × AtRest inside.rests left_hs left
+pub met_are : {E : Type 0} (r : Result ⊤ E) (inside : Inside) (left_hs : List LinkSeen) (left : FeedsSeen) (item : ItemSeen) → AreHalves inside.sessions inside.feeds
+    → ((h : LinkSeen) (s : FeedSeen) → Matches h s → Matches h (after s item)) → OnOk r (left_hs ≡ inside.sessions) → OnOk r (left.links ≡ met_by item inside.feeds.links)
+    → OnOk r (left.waiting ≡ waiting_after inside.rests inside.feeds.waiting) → OnErr r ((left_hs ≡ []) × (left ≡ record { links = []; waiting = 0 })) → AtRest inside.rests inside.sessions inside.feeds → AreHalves left_hs left × AtRest inside.rests left_hs left
 met_are (Ok done) inside left_hs left item are kept same met settled gone resting = (
   subst (λ ls. AreHalves ls left) (sym same) (record {
-    match = subst (AllMatch inside.halves) (sym met) (states_match (λ s. after s item) kept inside.halves inside.feeds.links are.match);
+    match = subst (AllMatch inside.sessions) (sym met) (states_match (λ s. after s item) kept inside.sessions inside.feeds.links are.match);
     rising = are.rising;
   }),
   (λ rest. settled ∙ ap (λ b. waiting_after b inside.feeds.waiting) rest, λ rest. ap is_whole same ∙ resting.1 rest),
 )
 met_are (Err e) inside left_hs left item are kept same met settled gone resting = (none_left left_hs left gone, none_rests inside.rests left_hs left gone)
 
-pub emptied : {E : Type 0} (r : Result ⊤ E) (inside : Inside) (left_hs : List LinkSeen) (left : FeedsSeen) {now : ServedSeen} → served_seen inside.halves inside.feeds inside.queued inside.rests ≡ now
+pub emptied : {E : Type 0} (r : Result ⊤ E) (inside : Inside) (left_hs : List LinkSeen) (left : FeedsSeen) {now : ServedSeen} → served_seen inside.sessions inside.feeds inside.queued inside.rests ≡ now
     → OnErr r ((left_hs ≡ []) × (left ≡ record { links = []; waiting = 0 })) → OnErr r (IsEmptied now (served_seen left_hs left inside.queued inside.rests))
 emptied (Ok done) inside left_hs left view gone = tt
 emptied (Err e) inside left_hs left view gone =
@@ -122,51 +120,51 @@ pub emptied_rises : {old new : ServedSeen} → IsEmptied old new → (high : ℕ
 emptied_rises gone high = subst (λ (links : List LinkSeen). Rises 0 (numbers links) high) (sym gone.links) (omega arith)
 
 -- the numbers of those that are here, as they are kept
-pub numbers_here : (hs : List LinkSeen) (ss : List worker.LinkSeen) → AllMatch hs ss → numbers (here (joined_all hs ss)) ≡ numbers (here hs)
+pub numbers_here : (hs : List LinkSeen) (ss : List FeedSeen) → AllMatch hs ss → numbers (here (joined_all hs ss)) ≡ numbers (here hs)
 numbers_here hs ss all = ap numbers (sym (joined_here hs ss all)) ∙ numbers_same (here hs) (present hs ss) (match_here hs ss all)
 
-pub met_rises : {E : Type 0} (r : Result ⊤ E) (inside : Inside) (left_hs : List LinkSeen) (left : FeedsSeen) {now : ServedSeen} → served_seen inside.halves inside.feeds inside.queued inside.rests ≡ now
-    → AreHalves inside.halves inside.feeds → AreHalves left_hs left → OnOk r (left_hs ≡ inside.halves) → OnErr r ((left_hs ≡ []) × (left ≡ record { links = []; waiting = 0 }))
+pub met_rises : {E : Type 0} (r : Result ⊤ E) (inside : Inside) (left_hs : List LinkSeen) (left : FeedsSeen) {now : ServedSeen} → served_seen inside.sessions inside.feeds inside.queued inside.rests ≡ now
+    → AreHalves inside.sessions inside.feeds → AreHalves left_hs left → OnOk r (left_hs ≡ inside.sessions) → OnErr r ((left_hs ≡ []) × (left ≡ record { links = []; waiting = 0 }))
     → (high : ℕ) → Rises 0 (numbers now.links) high → Rises 0 (numbers (here (joined_all left_hs left.links))) high
 met_rises (Ok done) inside left_hs left view are left_are same gone high rises =
-    let hs = inside.halves in
+    let hs = inside.sessions in
     let ss = inside.feeds.links in
     subst (λ ns. Rises 0 ns high)
     (sym (numbers_here left_hs left.links left_are.match ∙ ap (λ links. numbers (here links)) same ∙ sym (numbers_here hs ss are.match) ∙ ap (λ (served : ServedSeen). numbers served.links) view)) rises
 met_rises (Err e) inside left_hs left view are left_are same gone high rises = subst (λ ls. Rises 0 (numbers (here (joined_all ls left.links))) high) (sym gone.0) (omega arith)
 
-pub met_seen : {E : Type 0} (r : Result ⊤ E) (step : LinkSeen → LinkSeen) (count : ServedSeen → ℕ) (inside : Inside) (left_hs : List LinkSeen) (left : FeedsSeen) (item : worker.ItemSeen) {now : ServedSeen}
+pub met_seen : {E : Type 0} (r : Result ⊤ E) (step : LinkSeen → LinkSeen) (count : ServedSeen → ℕ) (inside : Inside) (left_hs : List LinkSeen) (left : FeedsSeen) (item : ItemSeen) {now : ServedSeen}
     → ((link : LinkSeen) → named_of (step link) ≡ named_of link)
-    → joined_all inside.halves (met_by item inside.feeds.links) ≡ map step (joined_all inside.halves inside.feeds.links)
-    → more (put_in (met_by item inside.feeds.links)) inside.queued ≡ count (served_seen inside.halves inside.feeds inside.queued inside.rests)
-    → OnOk r (left_hs ≡ inside.halves) → OnOk r (left.links ≡ met_by item inside.feeds.links) → OnOk r (left.waiting ≡ waiting_after inside.rests inside.feeds.waiting)
-    → served_seen inside.halves inside.feeds inside.queued inside.rests ≡ now
+    → joined_all inside.sessions (met_by item inside.feeds.links) ≡ map step (joined_all inside.sessions inside.feeds.links)
+    → more (put_in (met_by item inside.feeds.links)) inside.queued ≡ count (served_seen inside.sessions inside.feeds inside.queued inside.rests)
+    → OnOk r (left_hs ≡ inside.sessions) → OnOk r (left.links ≡ met_by item inside.feeds.links) → OnOk r (left.waiting ≡ waiting_after inside.rests inside.feeds.waiting)
+    → served_seen inside.sessions inside.feeds inside.queued inside.rests ≡ now
     → OnOk r (served_seen left_hs left inside.queued inside.rests ≡ record now { links = map step now.links; queued = count now; waiting = waiting_after now.rests now.waiting })
 met_seen (Ok done) step count inside left_hs left item keeps stepped counts same met settled is =
     let met_links = met_by item inside.feeds.links in
-    let links = joined_all inside.halves inside.feeds.links in
+    let links = joined_all inside.sessions inside.feeds.links in
     ap (λ ls. served_seen ls left inside.queued inside.rests) same
-    ∙ ap (λ (ls : List worker.LinkSeen). record { links = here (joined_all inside.halves ls); queued = more (put_in ls) inside.queued; waiting = left.waiting; rests = inside.rests }) met
-    ∙ ap (λ n. record { links = here (joined_all inside.halves met_links); queued = more (put_in met_links) inside.queued; waiting = n; rests = inside.rests }) settled
+    ∙ ap (λ (ls : List FeedSeen). record { links = here (joined_all inside.sessions ls); queued = more (put_in ls) inside.queued; waiting = left.waiting; rests = inside.rests }) met
+    ∙ ap (λ n. record { links = here (joined_all inside.sessions met_links); queued = more (put_in met_links) inside.queued; waiting = n; rests = inside.rests }) settled
     ∙ ap (λ (ls : List LinkSeen). record { links = ls; queued = more (put_in met_links) inside.queued; waiting = waiting_after inside.rests inside.feeds.waiting; rests = inside.rests }) (ap here stepped ∙ here_stepped step keeps links)
     ∙ ap (λ m. record { links = map step (here links); queued = m; waiting = waiting_after inside.rests inside.feeds.waiting; rests = inside.rests }) counts
     ∙ ap (λ (s : ServedSeen). record s { links = map step s.links; queued = count s; waiting = waiting_after s.rests s.waiting }) is
 met_seen (Err e) step count inside left_hs left item keeps stepped counts same met settled is = tt
 
 -- all that came is matched
-pub settled_are : {E : Type 0} (r : Result ⊤ E) (inside : Inside) (left_hs : List LinkSeen) (left : FeedsSeen) → AreHalves inside.halves inside.feeds → OnOk r (left_hs ≡ inside.halves)
-    → OnOk r (left ≡ record inside.feeds { waiting = 0 }) → OnErr r ((left_hs ≡ []) × (left ≡ record { links = []; waiting = 0 })) → AtRest inside.rests inside.halves inside.feeds → AreHalves left_hs left × AtRest inside.rests left_hs left
+pub settled_are : {E : Type 0} (r : Result ⊤ E) (inside : Inside) (left_hs : List LinkSeen) (left : FeedsSeen) → AreHalves inside.sessions inside.feeds → OnOk r (left_hs ≡ inside.sessions)
+    → OnOk r (left ≡ record inside.feeds { waiting = 0 }) → OnErr r ((left_hs ≡ []) × (left ≡ record { links = []; waiting = 0 })) → AtRest inside.rests inside.sessions inside.feeds → AreHalves left_hs left × AtRest inside.rests left_hs left
 settled_are (Ok done) inside left_hs left are same is gone resting = (
-  subst (λ ls. AreHalves ls left) (sym same) (subst (AreHalves inside.halves) (sym is) (record { match = are.match; rising = are.rising })),
+  subst (λ ls. AreHalves ls left) (sym same) (subst (AreHalves inside.sessions) (sym is) (record { match = are.match; rising = are.rising })),
   (λ rest. ap (λ (f : FeedsSeen). f.waiting) is, λ rest. ap is_whole same ∙ resting.1 rest),
 )
 settled_are (Err e) inside left_hs left are same is gone resting = (none_left left_hs left gone, none_rests inside.rests left_hs left gone)
 
-pub settled_seen : {E : Type 0} (r : Result ⊤ E) (inside : Inside) (left_hs : List LinkSeen) (left : FeedsSeen) {now : ServedSeen} → OnOk r (left_hs ≡ inside.halves)
-    → OnOk r (left ≡ record inside.feeds { waiting = 0 }) → served_seen inside.halves inside.feeds inside.queued inside.rests ≡ now
+pub settled_seen : {E : Type 0} (r : Result ⊤ E) (inside : Inside) (left_hs : List LinkSeen) (left : FeedsSeen) {now : ServedSeen} → OnOk r (left_hs ≡ inside.sessions)
+    → OnOk r (left ≡ record inside.feeds { waiting = 0 }) → served_seen inside.sessions inside.feeds inside.queued inside.rests ≡ now
     → OnOk r (served_seen left_hs left inside.queued inside.rests ≡ record now { waiting = 0 })
 settled_seen (Ok done) inside left_hs left same is view =
-    ap (λ ls. served_seen ls left inside.queued inside.rests) same ∙ ap (λ f. served_seen inside.halves f inside.queued inside.rests) is ∙ ap (λ (s : ServedSeen). record s { waiting = 0 }) view
+    ap (λ ls. served_seen ls left inside.queued inside.rests) same ∙ ap (λ f. served_seen inside.sessions f inside.queued inside.rests) is ∙ ap (λ (s : ServedSeen). record s { waiting = 0 }) view
 settled_seen (Err e) inside left_hs left same is view = tt
 
 -- a duplicate that is shown to nobody
@@ -197,15 +195,15 @@ module _ (from : Source) (line : List ℕ) where
 -- ---- links that have met all that came
 
 -- all of them change
-pub fed_on : (g : worker.LinkSeen → worker.LinkSeen) → ((h : LinkSeen) (s : worker.LinkSeen) → Matches h s → Matches h (g s))
+pub fed_on : (g : FeedSeen → FeedSeen) → ((h : LinkSeen) (s : FeedSeen) → Matches h s → Matches h (g s))
     → (hs : List LinkSeen) (feeds left : FeedsSeen) → AreHalves hs feeds → left ≡ record feeds { links = map g feeds.links } → AreHalves hs left
 fed_on g kept hs feeds left are is = subst (AreHalves hs) (sym is) (record { match = states_match g kept hs feeds.links are.match; rising = are.rising })
 
-pub forgotten_matches : (now : ℕ) (h : LinkSeen) (s : worker.LinkSeen) → Matches h s → Matches h (forgotten now s)
+pub forgotten_matches : (now : ℕ) (h : LinkSeen) (s : FeedSeen) → Matches h s → Matches h (forgotten now s)
 forgotten_matches now h s m =
     record { link = m.link; inbound = m.inbound; alive = m.alive; limit = m.limit; feed = m.feed; me = m.me; many = length-map s.friends (fresh now) ∙ m.many }
 
-pub forgotten_same : (now : ℕ) (h : LinkSeen) (s : worker.LinkSeen) → joined h (forgotten now s) ≡ at_moment now (joined h s)
+pub forgotten_same : (now : ℕ) (h : LinkSeen) (s : FeedSeen) → joined h (forgotten now s) ≡ at_moment now (joined h s)
 forgotten_same now h s =
     ⊎_elim
     (λ (over : s.over ≡ true). rw over refl)
@@ -246,7 +244,7 @@ none_leaves [] = refl
 none_leaves (l ∷ links) = ap (λ ls. l ∷ ls) (none_leaves links)
 
 -- one more comes
-pub more_are : (hs left_hs : List LinkSeen) (feeds left : FeedsSeen) (h : LinkSeen) (s : worker.LinkSeen) (high : ℕ) → AreHalves hs feeds → Matches h s → Rises 0 (numbers hs) high → high < h.link
+pub more_are : (hs left_hs : List LinkSeen) (feeds left : FeedsSeen) (h : LinkSeen) (s : FeedSeen) (high : ℕ) → AreHalves hs feeds → Matches h s → Rises 0 (numbers hs) high → high < h.link
     → h.link < 2 ^ 32 → left_hs ≡ hs ++ h ∷ [] → left ≡ record feeds { links = feeds.links ++ s ∷ [] } → AreHalves left_hs left
 more_are hs left_hs feeds left h s high are new rises above small halves is =
     subst (λ ls. AreHalves ls left) (sym halves)
@@ -255,7 +253,7 @@ more_are hs left_hs feeds left h s high are new rises above small halves is =
       rising = rises_higher 0 h.link (2 ^ 32) (numbers (hs ++ h ∷ [])) (omega arith) (rises_push 0 high hs h rises above);
     }))
 
-pub more_links : (hs left_hs now : List LinkSeen) (feeds left : FeedsSeen) (h link : LinkSeen) (s : worker.LinkSeen) → AreHalves hs feeds → left_hs ≡ hs ++ h ∷ [] → left ≡ record feeds { links = feeds.links ++ s ∷ [] }
+pub more_links : (hs left_hs now : List LinkSeen) (feeds left : FeedsSeen) (h link : LinkSeen) (s : FeedSeen) → AreHalves hs feeds → left_hs ≡ hs ++ h ∷ [] → left ≡ record feeds { links = feeds.links ++ s ∷ [] }
     → is_here link ≡ true → joined h s ≡ link → here (joined_all hs feeds.links) ≡ now → here (joined_all left_hs left.links) ≡ now ++ link ∷ []
 more_links hs left_hs now feeds left h link s are halves is stays new view =
     ap (λ ls. here (joined_all ls left.links)) halves
@@ -264,7 +262,7 @@ more_links hs left_hs now feeds left h link s are halves is stays new view =
     ∙ here_push (joined_all hs feeds.links) link stays
     ∙ ap (λ ls. ls ++ link ∷ []) view
 
-pub more_put : (feeds left : FeedsSeen) (s : worker.LinkSeen) → s.put ≡ 0 → left ≡ record feeds { links = feeds.links ++ s ∷ [] } → put_in left.links ≡ put_in feeds.links
+pub more_put : (feeds left : FeedsSeen) (s : FeedSeen) → s.put ≡ 0 → left ≡ record feeds { links = feeds.links ++ s ∷ [] } → put_in left.links ≡ put_in feeds.links
 more_put feeds left s none is = ap (λ (f : FeedsSeen). put_in f.links) is ∙ put_push feeds.links s none
 
 -- ---- one of them changes
@@ -287,7 +285,7 @@ half_kept [] place h at = refl
 half_kept (x ∷ hs) zero h at = ap (λ l. l ∷ hs) at
 half_kept (x ∷ hs) (suc place) h at = ap (λ ls. x ∷ ls) (half_kept hs place h at)
 
-module _ (hs : List LinkSeen) (feeds left : FeedsSeen) (are : AreHalves hs feeds) (place : ℕ) (h new : LinkSeen) (s t : worker.LinkSeen) (within : place < length hs) (at : h ≡ get_or hs place h)
+module _ (hs : List LinkSeen) (feeds left : FeedsSeen) (are : AreHalves hs feeds) (place : ℕ) (h new : LinkSeen) (s t : FeedSeen) (within : place < length hs) (at : h ≡ get_or hs place h)
     (there : s ≡ get_or feeds.links place s) (is : left ≡ record feeds { links = slice_set feeds.links place t }) where
   pub changed_are : Matches new t → new.link ≡ h.link → AreHalves (slice_set hs place new) left
   changed_are matches same =
@@ -302,9 +300,9 @@ module _ (hs : List LinkSeen) (feeds left : FeedsSeen) (are : AreHalves hs feeds
   pub changed_put : t.put ≡ s.put → put_in left.links ≡ put_in feeds.links
   changed_put put =
       ap (λ (f : FeedsSeen). put_in f.links) is
-      ∙ put_set feeds.links place t (λ d found. put ∙ ap (λ (x : worker.LinkSeen). x.put) (there ∙ same_there feeds.links place s d (omega (arith, as_many hs feeds.links are.match, within)) ∙ sym found))
+      ∙ put_set feeds.links place t (λ d found. put ∙ ap (λ (x : FeedSeen). x.put) (there ∙ same_there feeds.links place s d (omega (arith, as_many hs feeds.links are.match, within)) ∙ sym found))
     where
-      same_there : (ss : List worker.LinkSeen) (i : ℕ) (d e : worker.LinkSeen) → i < length ss → get_or ss i d ≡ get_or ss i e
+      same_there : (ss : List FeedSeen) (i : ℕ) (d e : FeedSeen) → i < length ss → get_or ss i d ≡ get_or ss i e
       same_there [] i d e lt = absurd (omega arith)
       same_there (x ∷ ss) zero d e lt = refl
       same_there (x ∷ ss) (suc i) d e lt = same_there ss i d e (omega arith)
@@ -325,12 +323,12 @@ module _ (hs : List LinkSeen) (feeds left : FeedsSeen) (are : AreHalves hs feeds
 
 -- a line for it alone, and what changes with it of what it is fed
 module _ (number : ℕ) (hs searched : List LinkSeen) (feeds left : FeedsSeen) (are : AreHalves hs feeds) (place : ℕ) (same : searched ≡ hs) (found : Some place ≡ position (has_that number) searched)
-    (f : worker.LinkSeen → worker.LinkSeen) (line : List ℕ) (kept : (h : LinkSeen) (s : worker.LinkSeen) → Matches h s → Matches h (f s))
-    (is : (s : worker.LinkSeen) → slice_get feeds.links place ≡ Some s → left ≡ record feeds { links = slice_set feeds.links place (told line (f s)) }) where
+    (f : FeedSeen → FeedSeen) (line : List ℕ) (kept : (h : LinkSeen) (s : FeedSeen) → Matches h s → Matches h (f s))
+    (is : (s : FeedSeen) → slice_get feeds.links place ≡ Some s → left ≡ record feeds { links = slice_set feeds.links place (told line (f s)) }) where
   within : place < length hs
   within = within_halves number place hs searched same found
 
-  state : (s : worker.LinkSeen) × (slice_get feeds.links place ≡ Some s) × (s ≡ get_or feeds.links place s)
+  state : (s : FeedSeen) × (slice_get feeds.links place ≡ Some s) × (s ≡ get_or feeds.links place s)
   state = state_at feeds.links place (within_feeds place hs feeds are within)
 
   half : (h : LinkSeen) × (h ≡ get_or hs place h)
@@ -351,14 +349,14 @@ module _ (number : ℕ) (hs searched : List LinkSeen) (feeds left : FeedsSeen) (
   pub told_are : {rests : Bool} → AtRest rests hs feeds → AreHalves hs left × AtRest rests hs left
   told_are resting = (halves_are, (λ rest. told_settled ∙ resting.0 rest, resting.1))
 
-  told_links : (step : LinkSeen → LinkSeen) → ((h : LinkSeen) (s : worker.LinkSeen) → with_text line (joined h (f s)) ≡ step (joined h s))
+  told_links : (step : LinkSeen → LinkSeen) → ((h : LinkSeen) (s : FeedSeen) → with_text line (joined h (f s)) ≡ step (joined h s))
       → joined_all hs left.links ≡ map (at_link number step) (joined_all hs feeds.links)
   told_links step stepped =
       ap (λ ls. joined_all ls left.links) (sym (half_kept hs place half.0 half.1))
       ∙ changed_links hs feeds left are place half.0 half.0 state.0 (told line (f state.0)) within half.1 state.2 (is state.0 state.1)
       number step (found ∙ ap (position (has_that number)) same) (told_same half.0 (f state.0) fed line ∙ stepped half.0 state.0)
 
-  pub told_seen : (step : LinkSeen → LinkSeen) → ((link : LinkSeen) → named_of (step link) ≡ named_of link) → ((h : LinkSeen) (s : worker.LinkSeen) → with_text line (joined h (f s)) ≡ step (joined h s)) → ((s : worker.LinkSeen) → (f s).put ≡ s.put)
+  pub told_seen : (step : LinkSeen → LinkSeen) → ((link : LinkSeen) → named_of (step link) ≡ named_of link) → ((h : LinkSeen) (s : FeedSeen) → with_text line (joined h (f s)) ≡ step (joined h s)) → ((s : FeedSeen) → (f s).put ≡ s.put)
       → (queued : ℕ) (rests : Bool) (now : ServedSeen) → served_seen hs feeds queued rests ≡ now → served_seen hs left queued rests ≡ record now { links = map (at_link number step) now.links }
   told_seen step named stepped put queued rests now view =
       seen_stepped hs hs feeds left queued rests now (at_link number step) (named_at number step named) view (told_links step stepped)
@@ -366,22 +364,22 @@ module _ (number : ℕ) (hs searched : List LinkSeen) (feeds left : FeedsSeen) (
       told_settled
 
 -- what is kept of the session of that number changes
-module _ (number : ℕ) (step : LinkSeen → LinkSeen) (kept : (h : LinkSeen) (s : worker.LinkSeen) → Matches h s → Matches (step h) s) (same : (h : LinkSeen) (s : worker.LinkSeen) → joined (step h) s ≡ step (joined h s))
-    (named : (h : LinkSeen) → named_of (step h) ≡ named_of h) (inside : Inside) (new : List LinkSeen) (is : new ≡ map (at_link number step) inside.halves) where
-  pub stepped_are : AreHalves inside.halves inside.feeds → AreHalves new inside.feeds
+module _ (number : ℕ) (step : LinkSeen → LinkSeen) (kept : (h : LinkSeen) (s : FeedSeen) → Matches h s → Matches (step h) s) (same : (h : LinkSeen) (s : FeedSeen) → joined (step h) s ≡ step (joined h s))
+    (named : (h : LinkSeen) → named_of (step h) ≡ named_of h) (inside : Inside) (new : List LinkSeen) (is : new ≡ map (at_link number step) inside.sessions) where
+  pub stepped_are : AreHalves inside.sessions inside.feeds → AreHalves new inside.feeds
   stepped_are are = record {
-    match = subst (λ hs. AllMatch hs inside.feeds.links) (sym is) (halves_match step kept number inside.halves inside.feeds.links are.match);
-    rising = rises_at number step (λ h. ap (λ (name : ℕ × Option Opening). name.0) (named h)) (2 ^ 32) inside.halves new is are.rising;
+    match = subst (λ hs. AllMatch hs inside.feeds.links) (sym is) (halves_match step kept number inside.sessions inside.feeds.links are.match);
+    rising = rises_at number step (λ h. ap (λ (name : ℕ × Option Opening). name.0) (named h)) (2 ^ 32) inside.sessions new is are.rising;
   }
 
-  pub stepped_rests : AtRest inside.rests inside.halves inside.feeds → AtRest inside.rests new inside.feeds
-  stepped_rests resting = (resting.0, λ rest. same_whole new inside.halves (ap (map named_of) is ∙ named_all (at_link number step) (named_at number step named) inside.halves) ∙ resting.1 rest)
+  pub stepped_rests : AtRest inside.rests inside.sessions inside.feeds → AtRest inside.rests new inside.feeds
+  stepped_rests resting = (resting.0, λ rest. same_whole new inside.sessions (ap (map named_of) is ∙ named_all (at_link number step) (named_at number step named) inside.sessions) ∙ resting.1 rest)
 
-  pub stepped_seen : {now : ServedSeen} → served_seen inside.halves inside.feeds inside.queued inside.rests ≡ now
+  pub stepped_seen : {now : ServedSeen} → served_seen inside.sessions inside.feeds inside.queued inside.rests ≡ now
       → served_seen new inside.feeds inside.queued inside.rests ≡ record now { links = map (at_link number step) now.links }
   stepped_seen {now} view =
-      seen_stepped inside.halves new inside.feeds inside.feeds inside.queued inside.rests now (at_link number step) (named_at number step named) view
-      (ap (λ hs. joined_all hs inside.feeds.links) is ∙ halves_changed step same number inside.halves inside.feeds.links) refl refl
+      seen_stepped inside.sessions new inside.feeds inside.feeds inside.queued inside.rests now (at_link number step) (named_at number step named) view
+      (ap (λ hs. joined_all hs inside.feeds.links) is ∙ halves_changed step same number inside.sessions inside.feeds.links) refl refl
 
 -- what is kept of a session is there
 pub half_there : (hs : List LinkSeen) (i : ℕ) → i < length hs → (h : LinkSeen) × (slice_get hs i ≡ Some h) × (h ≡ get_or hs i h)
@@ -393,18 +391,18 @@ half_there (h ∷ hs) i lt =
 -- both halves of the link of that number change
 module _ (number : ℕ) (hs searched : List LinkSeen) (feeds left : FeedsSeen) (are : AreHalves hs feeds) (place : ℕ) (same : searched ≡ hs) (within : place < length hs)
     (g : LinkSeen → LinkSeen) (new_hs : List LinkSeen) (set : (h : LinkSeen) → slice_get hs place ≡ Some h → new_hs ≡ slice_set hs place (g h)) (numbered : (h : LinkSeen) → (g h).link ≡ h.link)
-    (f : worker.LinkSeen → worker.LinkSeen) (kept : (h : LinkSeen) (s : worker.LinkSeen) → slice_get hs place ≡ Some h → Matches h s → Matches (g h) (f s))
-    (is : (s : worker.LinkSeen) → slice_get feeds.links place ≡ Some s → left ≡ record feeds { links = slice_set feeds.links place (f s) }) where
+    (f : FeedSeen → FeedSeen) (kept : (h : LinkSeen) (s : FeedSeen) → slice_get hs place ≡ Some h → Matches h s → Matches (g h) (f s))
+    (is : (s : FeedSeen) → slice_get feeds.links place ≡ Some s → left ≡ record feeds { links = slice_set feeds.links place (f s) }) where
   half_is : (h : LinkSeen) × (slice_get hs place ≡ Some h) × (h ≡ get_or hs place h)
   half_is = half_there hs place within
 
-  fed_is : (s : worker.LinkSeen) × (slice_get feeds.links place ≡ Some s) × (s ≡ get_or feeds.links place s)
+  fed_is : (s : FeedSeen) × (slice_get feeds.links place ≡ Some s) × (s ≡ get_or feeds.links place s)
   fed_is = state_at feeds.links place (within_feeds place hs feeds are within)
 
   abbrev h : LinkSeen
   h = half_is.0
 
-  abbrev s : worker.LinkSeen
+  abbrev s : FeedSeen
   s = fed_is.0
 
   matches : Matches h s
@@ -420,13 +418,13 @@ module _ (number : ℕ) (hs searched : List LinkSeen) (feeds left : FeedsSeen) (
   both_settled : left.waiting ≡ feeds.waiting
   both_settled = changed_settled hs feeds left are place h (g h) s (f s) within half_is.2 fed_is.2 (is s fed_is.1)
 
-  both_links : (step : LinkSeen → LinkSeen) → Some place ≡ position (has_that number) searched → ((h : LinkSeen) (s : worker.LinkSeen) → slice_get hs place ≡ Some h → Matches h s → joined (g h) (f s) ≡ step (joined h s))
+  both_links : (step : LinkSeen → LinkSeen) → Some place ≡ position (has_that number) searched → ((h : LinkSeen) (s : FeedSeen) → slice_get hs place ≡ Some h → Matches h s → joined (g h) (f s) ≡ step (joined h s))
       → joined_all new_hs left.links ≡ map (at_link number step) (joined_all hs feeds.links)
   both_links step found stepped =
       ap (λ ls. joined_all ls left.links) put_there
       ∙ changed_links hs feeds left are place h (g h) s (f s) within half_is.2 fed_is.2 (is s fed_is.1) number step (found ∙ ap (position (has_that number)) same) (stepped h s half_is.1 matches)
 
-  both_put : ((h : LinkSeen) (s : worker.LinkSeen) → slice_get hs place ≡ Some h → Matches h s → (f s).put ≡ s.put) → put_in left.links ≡ put_in feeds.links
+  both_put : ((h : LinkSeen) (s : FeedSeen) → slice_get hs place ≡ Some h → Matches h s → (f s).put ≡ s.put) → put_in left.links ≡ put_in feeds.links
   both_put put = changed_put hs feeds left are place h (g h) s (f s) within half_is.2 fed_is.2 (is s fed_is.1) (put h s half_is.1 matches)
 
   pub both_are : {rests : Bool} → ((h : LinkSeen) → named_of (g h) ≡ named_of h) → AtRest rests hs feeds → AreHalves new_hs left × AtRest rests new_hs left
@@ -436,8 +434,8 @@ module _ (number : ℕ) (hs searched : List LinkSeen) (feeds left : FeedsSeen) (
   )
 
   pub both_seen : (step : LinkSeen → LinkSeen) → Some place ≡ position (has_that number) searched → ((link : LinkSeen) → named_of (step link) ≡ named_of link)
-      → ((h : LinkSeen) (s : worker.LinkSeen) → slice_get hs place ≡ Some h → Matches h s → joined (g h) (f s) ≡ step (joined h s))
-      → ((h : LinkSeen) (s : worker.LinkSeen) → slice_get hs place ≡ Some h → Matches h s → (f s).put ≡ s.put) → (queued : ℕ) (rests : Bool) (now : ServedSeen) → served_seen hs feeds queued rests ≡ now
+      → ((h : LinkSeen) (s : FeedSeen) → slice_get hs place ≡ Some h → Matches h s → joined (g h) (f s) ≡ step (joined h s))
+      → ((h : LinkSeen) (s : FeedSeen) → slice_get hs place ≡ Some h → Matches h s → (f s).put ≡ s.put) → (queued : ℕ) (rests : Bool) (now : ServedSeen) → served_seen hs feeds queued rests ≡ now
       → served_seen new_hs left queued rests ≡ record now { links = map (at_link number step) now.links }
   both_seen step found named stepped put queued rests now view =
       seen_stepped hs new_hs feeds left queued rests now (at_link number step) (named_at number step named) view (both_links step found stepped) (both_put put) both_settled
@@ -446,8 +444,8 @@ module _ (number : ℕ) (hs searched : List LinkSeen) (feeds left : FeedsSeen) (
   pub gone_are : {rests : Bool} → rests ≡ false → AreHalves new_hs left × AtRest rests new_hs left
   gone_are wakes = (changed_halves, (λ rest. absurd (true≢false (sym rest ∙ wakes)), λ rest. absurd (true≢false (sym rest ∙ wakes))))
 
-  pub gone_seen : Some place ≡ position (has_that number) searched → ((h : LinkSeen) (s : worker.LinkSeen) → slice_get hs place ≡ Some h → Matches h s → joined (g h) (f s) ≡ when_left (joined h s))
-      → ((h : LinkSeen) (s : worker.LinkSeen) → slice_get hs place ≡ Some h → Matches h s → (f s).put ≡ s.put) → (queued : ℕ) (rests : Bool) (now : ServedSeen) → served_seen hs feeds queued rests ≡ now
+  pub gone_seen : Some place ≡ position (has_that number) searched → ((h : LinkSeen) (s : FeedSeen) → slice_get hs place ≡ Some h → Matches h s → joined (g h) (f s) ≡ when_left (joined h s))
+      → ((h : LinkSeen) (s : FeedSeen) → slice_get hs place ≡ Some h → Matches h s → (f s).put ≡ s.put) → (queued : ℕ) (rests : Bool) (now : ServedSeen) → served_seen hs feeds queued rests ≡ now
       → served_seen new_hs left queued rests ≡ record now { links = filter (is_none_of (number ∷ [])) now.links }
   gone_seen found leaves put queued rests now view =
       seen_changed hs new_hs feeds left queued rests now (filter (is_none_of (number ∷ [])) now.links) view
@@ -473,18 +471,18 @@ changed_nobody number step hs now feeds are none view named =
     ∙ ap (map (at_link number step)) view
 
 -- a link that has logged in
-pub login_matches : (h : LinkSeen) (s : worker.LinkSeen) (session : Session) (feed : Feed) (call : List ℕ) (mine : Option Seen) → Matches h s → feed ≡ opening_feed h.opening (Some session) → call ≡ session.call
+pub login_matches : (h : LinkSeen) (s : FeedSeen) (session : Session) (feed : Feed) (call : List ℕ) (mine : Option Seen) → Matches h s → feed ≡ opening_feed h.opening (Some session) → call ≡ session.call
     → Matches (record h { session = Some session }) (with_login feed call mine s)
 login_matches h s session feed call mine m fed named =
     record { link = m.link; inbound = m.inbound; alive = m.alive; limit = m.limit; feed = fed; me = ap (λ c. Some c) named; many = m.many }
 
 -- one that has another filter
-pub filter_matches : (h : LinkSeen) (s : worker.LinkSeen) (terms : List TermSeen) (friends : List (Option Seen)) → Matches h s → length friends ≡ length terms → Matches h (with_terms terms friends s)
+pub filter_matches : (h : LinkSeen) (s : FeedSeen) (terms : List TermSeen) (friends : List (Option Seen)) → Matches h s → length friends ≡ length terms → Matches h (with_terms terms friends s)
 filter_matches h s terms friends m many =
     record { link = m.link; inbound = m.inbound; alive = m.alive; limit = m.limit; feed = m.feed; me = m.me; many = many }
 
 -- one that took bytes
-pub taken_matches : (h : LinkSeen) (s : worker.LinkSeen) (blocked : Bool) (n : ℕ) → Matches h s → Matches (record h { blocked = blocked }) (with_taken n s)
+pub taken_matches : (h : LinkSeen) (s : FeedSeen) (blocked : Bool) (n : ℕ) → Matches h s → Matches (record h { blocked = blocked }) (with_taken n s)
 taken_matches h s blocked n m =
     record { link = m.link; inbound = m.inbound; alive = m.alive; limit = m.limit; feed = m.feed; me = m.me; many = m.many }
 
@@ -495,7 +493,7 @@ opened_matches number opening feed inbound first fed comes =
     record { link = refl; inbound = comes; alive = refl; limit = refl; feed = fed; me = refl; many = refl }
 
 -- the bytes that the link of a number has still to take
-pub pending_there : (number : ℕ) (hs : List LinkSeen) (feeds : FeedsSeen) → AreHalves hs feeds → (place : ℕ) (h : LinkSeen) (s : worker.LinkSeen) → place < length hs → h ≡ get_or hs place h
+pub pending_there : (number : ℕ) (hs : List LinkSeen) (feeds : FeedsSeen) → AreHalves hs feeds → (place : ℕ) (h : LinkSeen) (s : FeedSeen) → place < length hs → h ≡ get_or hs place h
     → slice_get feeds.links place ≡ Some s → Some place ≡ position (has_that number) hs → is_whole hs ≡ true → (now : List LinkSeen) → here (joined_all hs feeds.links) ≡ now → pending_at number now ≡ queue.pending_bytes s.queue
 pending_there number hs feeds are place h s within at there found whole now view =
     let ss = feeds.links in
@@ -504,11 +502,11 @@ pending_there number hs feeds are place h s within at there found whole now view
     ∙ picked_found pending_of [] number (joined_all hs ss) place (joined h s) (found ∙ sym (position_same (has_that number) (λ h s. refl) hs ss are.match))
     (joined_at hs ss place h s are.match within at at_place)
 
-pub pending_found : (number place : ℕ) (inside : Inside) (searched : List LinkSeen) {now : ServedSeen} → served_seen inside.halves inside.feeds inside.queued inside.rests ≡ now
-    → AreHalves inside.halves inside.feeds → is_whole inside.halves ≡ true → searched ≡ inside.halves → Some place ≡ position (has_that number) searched
-    → (s : worker.LinkSeen) × (slice_get inside.feeds.links place ≡ Some s) × (queue.pending_bytes s.queue ≡ pending_at number now.links)
+pub pending_found : (number place : ℕ) (inside : Inside) (searched : List LinkSeen) {now : ServedSeen} → served_seen inside.sessions inside.feeds inside.queued inside.rests ≡ now
+    → AreHalves inside.sessions inside.feeds → is_whole inside.sessions ≡ true → searched ≡ inside.sessions → Some place ≡ position (has_that number) searched
+    → (s : FeedSeen) × (slice_get inside.feeds.links place ≡ Some s) × (queue.pending_bytes s.queue ≡ pending_at number now.links)
 pending_found number place inside searched {now} view are whole same found =
-    let hs = inside.halves in
+    let hs = inside.sessions in
     let within = within_halves number place hs searched same found in
     let there = state_at inside.feeds.links place (within_feeds place hs inside.feeds are within) in
     let half = half_at hs place within in (
@@ -524,7 +522,7 @@ pending_nowhere number hs feeds are none whole now view =
 
 -- ---- an accepted packet comes
 
-module _ (packet : PacketSeen) (source : SourcePlace) (hearers owed : List ℕ) (hs : List LinkSeen) (ss : List worker.LinkSeen) (all : AllMatch hs ss) (rising : Rises 0 (numbers hs) (2 ^ 32)) where
+module _ (packet : PacketSeen) (source : SourcePlace) (hearers owed : List ℕ) (hs : List LinkSeen) (ss : List FeedSeen) (all : AllMatch hs ss) (rising : Rises 0 (numbers hs) (2 ^ 32)) where
   abbrev asks : LinkSeen → Bool
   asks = is_asked_at packet hearers owed
 
@@ -548,7 +546,7 @@ module _ (packet : PacketSeen) (source : SourcePlace) (hearers owed : List ℕ) 
 
 -- ---- a duplicate is refused
 
-module _ (packet : PacketSeen) (hs : List LinkSeen) (ss : List worker.LinkSeen) (all : AllMatch hs ss) where
+module _ (packet : PacketSeen) (hs : List LinkSeen) (ss : List FeedSeen) (all : AllMatch hs ss) where
   pub shown_links : joined_all hs (met_by (Came (refused_of packet)) ss) ≡ map (with_shown packet.from packet.line) (joined_all hs ss)
   shown_links = states_changed (λ s. after s (Came (refused_of packet))) (λ h. h ≡ h) (with_shown packet.from packet.line) (λ h s same m. shown_same h s m packet) hs ss (any_half hs) all
 
@@ -557,10 +555,10 @@ module _ (packet : PacketSeen) (hs : List LinkSeen) (ss : List worker.LinkSeen) 
 
 -- ---- the clients are told the date
 
-pub dated_links : (line : List ℕ) (hs : List LinkSeen) (ss : List worker.LinkSeen) → AllMatch hs ss → joined_all hs (met_by (ToldAll line) ss) ≡ map (with_date line) (joined_all hs ss)
+pub dated_links : (line : List ℕ) (hs : List LinkSeen) (ss : List FeedSeen) → AllMatch hs ss → joined_all hs (met_by (ToldAll line) ss) ≡ map (with_date line) (joined_all hs ss)
 dated_links line hs ss all = states_changed (λ s. after s (ToldAll line)) (λ h. h ≡ h) (with_date line) (λ h s same m. date_same h s m line) hs ss (any_half hs) all
 
-pub dated_put : (line : List ℕ) (hs : List LinkSeen) (ss : List worker.LinkSeen) → AllMatch hs ss → put_in (met_by (ToldAll line) ss) ≡ put_in ss
+pub dated_put : (line : List ℕ) (hs : List LinkSeen) (ss : List FeedSeen) → AllMatch hs ss → put_in (met_by (ToldAll line) ss) ≡ put_in ss
 dated_put line hs ss all = put_kept (λ s. after s (ToldAll line)) (λ h s m. date_uncounted h s m line) hs ss all
 
 -- ---- those that left are let go

@@ -1,11 +1,9 @@
 -- What each thing that comes changes of a link.
-use Rattle.served_links.specs.Fed.{new_half}
 use Rattle.std.specs.Prelude.{ℕ, ◌==◌, Bool, true, false, nat_lt, List, [], ◌∷◌, length, map, not, ◌&&◌, ◌||◌, is_some, Option, Some, None, if◌then◌else◌}
-use Rattle.std.specs.List.{zip}
 use Rattle.aprs_base.specs.PacketSeen.{PacketSeen}
 use Rattle.aprs_base.specs.Held.{Held}
 use Rattle.filter_lang.specs.Terms.{TermSeen}
-use Rattle.filter_eval.specs.Passes.{fresh, is_some_and, is_text, passes_of}
+use Rattle.filter_eval.specs.Passes.{fresh, passes_of}
 use Rattle.filter_eval.specs.declared.seen.Seen.{Seen}
 use Rattle.station_table.specs.Stations.{seen_in}
 use Rattle.heard_routing.specs.Heard.{is_among}
@@ -14,10 +12,11 @@ use Rattle.aprs_history.specs.Stands.{LinkSeen, friends_kept, place_kept}
 use Rattle.aprs_history.specs.Trace.{is_from}
 use Rattle.aprs_history.specs.Links.{Opening, is_client_link}
 use Rattle.aprs_history.specs.Messages.{is_to_login}
-use Rattle.aprs_history.specs.Sights.{named_call}
 use Rattle.aprs_history.specs.Texts.{most_waiting, opening_wants, shows_duplicates}
 use Rattle.aprs_base.specs.declared.packets.Source.{Source}
+use Rattle.worker_match.specs.Walk.{friends_seen, mine_seen}
 use Rattle.served_links.specs.declared.link.SourcePlace.{SourcePlace}
+use Rattle.served_links.specs.Fed.{login_of, new_half}
 use Rattle.served_links.specs.Pending.{with_line, without_bytes}
 use Rattle.served_links.specs.Links.{has_that}
 
@@ -54,25 +53,12 @@ with_session session mine reply link = with_text reply (record link { session = 
 abbrev pub with_filter : List TermSeen → List (Option Seen) → List ℕ → LinkSeen → LinkSeen
 with_filter terms friends reply link = with_text reply (record link { filter = terms; friends = friends_kept link.over friends })
 
--- whether a term names a call whose position it asks for
-abbrev pub is_named : List ℕ → TermSeen → Bool
-is_named call term = is_some_and (λ named. is_text named call) (named_call term.what)
-
--- where a term's call was last seen, once a station was seen
-abbrev pub friend_seen : List ℕ → Seen → TermSeen × Option Seen → Option Seen
-friend_seen call seen term = if is_named call term.0 then Some seen else term.1
-
--- where the link's own login was
-abbrev pub login_seen : List ℕ → Seen → Option Session → Option Seen → Option Seen
-login_seen call seen None before = before
-login_seen call seen (Some session) before = if is_text session.call call then Some seen else before
-
--- a station was seen
+-- a station was seen: an overfull link takes no packet any more, so places don't count for it
 abbrev pub with_seen : List ℕ → Option Seen → LinkSeen → LinkSeen
 with_seen call None link = link
 with_seen call (Some seen) link =
     if link.over then link
-    else record link { friends = map (friend_seen call seen) (zip link.filter link.friends); mine = login_seen call seen link.session link.mine }
+    else record link { friends = friends_seen call seen link.filter link.friends; mine = mine_seen call seen (login_of link.session) link.mine }
 
 -- what an accepted packet says of where its source is
 abbrev pub with_places : PacketSeen → LinkSeen → LinkSeen

@@ -1,6 +1,7 @@
 -- A link in two halves: what is kept of its session, and what it is fed.
-use Rattle.std.specs.Prelude.{◌≡◌, ℕ, Bool, true, false, List, [], ◌∷◌, length, Option, Some, None, ⊤}
-use Rattle.aprs_base.specs.Held.{held_after}
+use Rattle.std.specs.Prelude.{◌≡◌, ℕ, Bool, true, false, List, [], length, map, Option, Some, None}
+use Rattle.std.specs.List.{AllZip, zip}
+use Rattle.aprs_base.specs.Held.{Held, held_after}
 use Rattle.aprs_base.specs.PacketSeen.{PacketSeen}
 use Rattle.aprs_base.specs.declared.packets.PortKind.{PortKind}
 use Rattle.aprs_base.specs.declared.packets.PortKind.TheVariants as port
@@ -12,13 +13,29 @@ use Rattle.aprs_history.specs.Stands.{LinkSeen, friends_kept, place_kept}
 use Rattle.aprs_history.specs.Texts.{most_waiting, shows_duplicates}
 use Rattle.worker_match.specs.declared.links.Feed.{Feed}
 use Rattle.worker_match.specs.declared.links.Feed.TheVariants as feed
-use Rattle.worker_match.specs.Seen.{OfferSeen}
-use Rattle.worker_match.specs.Seen as worker
+use Rattle.worker_match.specs.Seen.{FeedSeen, OfferSeen}
 use Rattle.worker_match.specs.Walk.{terms_of}
 use Rattle.served_links.specs.declared.link.SourcePlace.{SourcePlace}
 
+-- what is kept of a session is seen as a link that is fed nothing
+abbrev pub unfed : (link : ℕ) (opening : Option Opening) (last : ℕ) (held : Held) (session : Option Session) (blocked gone : Bool) → LinkSeen
+unfed link opening last held session blocked gone = record {
+  link = link;
+  opening = opening;
+  last = last;
+  held = held;
+  session = session;
+  filter = [];
+  friends = [];
+  mine = None;
+  queue = record { lines = []; offset = 0 };
+  over = false;
+  blocked = blocked;
+  gone = gone;
+}
+
 -- both halves as one; places don't count any more for one that is overfull
-abbrev pub joined : LinkSeen → worker.LinkSeen → LinkSeen
+abbrev pub joined : LinkSeen → FeedSeen → LinkSeen
 joined half state = record half {
   filter = terms_of state.filter;
   friends = friends_kept state.over state.friends;
@@ -27,10 +44,8 @@ joined half state = record half {
   over = state.over;
 }
 
-abbrev pub joined_all : List LinkSeen → List worker.LinkSeen → List LinkSeen
-joined_all [] states = []
-joined_all (half ∷ halves) [] = []
-joined_all (half ∷ halves) (state ∷ states) = joined half state ∷ joined_all halves states
+abbrev pub joined_all : List LinkSeen → List FeedSeen → List LinkSeen
+joined_all halves states = map (λ pair. joined pair.0 pair.1) (zip halves states)
 
 -- what a client of a port is fed once it has logged in
 abbrev pub port_feed : PortKind → Feed
@@ -56,7 +71,7 @@ login_of None = None
 login_of (Some session) = Some session.call
 
 -- the halves are those of one link, which is fed what its session says
-pub record Matches (half : LinkSeen) (state : worker.LinkSeen) : Type 0 where
+pub record Matches (half : LinkSeen) (state : FeedSeen) : Type 0 where
   pub link : state.link ≡ half.link
   pub inbound : state.inbound ≡ is_client_link half.opening
   pub alive : state.alive ≡ true
@@ -65,11 +80,8 @@ pub record Matches (half : LinkSeen) (state : worker.LinkSeen) : Type 0 where
   pub me : state.me ≡ login_of half.session
   pub many : length state.friends ≡ length (terms_of state.filter)
 
-abbrev pub AllMatch : List LinkSeen → List worker.LinkSeen → Type 0
-AllMatch [] [] = ⊤
-AllMatch [] (state ∷ states) = ⊥
-AllMatch (half ∷ halves) [] = ⊥
-AllMatch (half ∷ halves) (state ∷ states) = Matches half state × AllMatch halves states
+abbrev pub AllMatch : List LinkSeen → List FeedSeen → Type 0
+AllMatch halves states = AllZip Matches halves states
 
 -- an accepted packet as it is offered to all links
 abbrev pub offer_of : PacketSeen → SourcePlace → List ℕ → OfferSeen
@@ -81,20 +93,7 @@ refused_of packet = record { packet = packet; dupe = true; submitted = false; kn
 
 -- a link that has just been opened, beside what it is fed
 abbrev pub new_half : ℕ → Opening → LinkSeen
-new_half number opening = record {
-  link = number;
-  opening = Some opening;
-  last = opening.moment;
-  held = held_after [];
-  session = None;
-  filter = [];
-  friends = [];
-  mine = None;
-  queue = record { lines = []; offset = 0 };
-  over = false;
-  blocked = false;
-  gone = false;
-}
+new_half number opening = unfed number (Some opening) opening.moment (held_after []) None false false
 
 -- whether it is shown the duplicates that others are refused
 abbrev pub shows_kept : LinkSeen → Bool

@@ -33,7 +33,7 @@ when_left link = record link { opening = None }
 abbrev pub has_that : ℕ → LinkSeen → Bool
 has_that number link = link.link == number
 
--- the same where it hasn't left
+-- whether it has that number, and hasn't left
 abbrev pub is_at : ℕ → LinkSeen → Bool
 is_at number link = has_that number link && is_here link
 
@@ -159,7 +159,7 @@ login_kept link = verified_login link.session
 abbrev pub logins_at : List LinkSeen → List (List ℕ)
 logins_at links = flat_map login_kept links
 
--- the same of what is kept, where some have left
+-- those logins, as they are found where some that left are kept
 abbrev pub login_here : LinkSeen → List (List ℕ)
 login_here link = if is_here link then login_kept link else []
 

@@ -5,7 +5,7 @@ ghost use Rattle.q_construct.specs.Rule.{same};
 ghost use Rattle.served_links.specs.Counts.{IsCounted, count_in, having, leaves, one_among};
 ghost use Rattle.served_links.specs.Links.{list_of};
 
-use crate::link::Link;
+use crate::link::LinkSession;
 use aprs_base::{Call, Memory, copy_call};
 use indexmap::IndexMap;
 use std::hash::RandomState;
@@ -72,7 +72,7 @@ pub(crate) fn lower(counts: &mut Counts, login: Option<Call>)
 }
 
 /// The links of these numbers count no more.
-pub(crate) fn lower_these(counts: &mut Counts, links: &[Link], numbers: &[u32])
+pub(crate) fn lower_these(counts: &mut Counts, links: &[LinkSession], numbers: &[u32])
     ensures { (other : List ℕ) (n : ℕ) → IsCounted other (n + having other (filter (leaves numbers.now) links.now)) counts.old.entries → IsCounted other n counts.new.entries }
 {
     for link in links {

@@ -2,6 +2,7 @@
 #![tactic(auto)]
 
 mod counts;
+mod kinds;
 mod link;
 mod links;
 mod logins;

@@ -1,22 +1,20 @@
 //! What is kept of a link and its session.
-ghost use Rattle.std.specs.Prelude.{◌≡◌, ◌||◌, ◌++◌, IsTrue, List, ℕ, OnErr, OnOk, Some, nat_lt};
+ghost use Rattle.std.specs.Prelude.{◌≡◌, ◌++◌, IsTrue, List, ℕ, OnErr, OnOk, Some, nat_lt};
 ghost use Rattle.std.specs.List.Sorted.{IsStrictlyIncreasing};
 ghost use Rattle.aprs_base.specs.Bytes.{is_station};
 ghost use Rattle.aprs_base.specs.Cuts.{cuts_by};
 ghost use Rattle.aprs_base.specs.Held.{held_after};
-ghost use Rattle.aprs_history.specs.Links.{has_filters, is_client_of};
+ghost use Rattle.aprs_history.specs.Links.{has_filters};
 ghost use Rattle.aprs_history.specs.Messages.{is_to_login};
-ghost use Rattle.aprs_history.specs.Setting.{is_filter_kind, is_only_kind};
 ghost use Rattle.aprs_history.specs.Texts.{shows_duplicates};
 ghost use Rattle.aprs_history.specs.Trace.{is_from, is_member};
-ghost use Rattle.aprs_history.specs.Verdicts.{client_origin};
-ghost use Rattle.line_verdict.specs.Voices.{HasStation, visitor_voice, voice_of};
-ghost use Rattle.q_construct.specs.Rule.{has_station};
-ghost use Rattle.served_links.specs.Fed.{feed_of, new_half, opening_feed, port_feed};
+ghost use Rattle.line_verdict.specs.Voices.{HasStation, voice_of};
+ghost use Rattle.served_links.specs.Fed.{new_half, opening_feed};
 ghost use Rattle.served_links.specs.Links.{client_kept, is_here, is_late_here, is_late_link, is_login, is_lost_here, is_nameless_link, is_none_of, login_here, number_of, list_of, speaker_kept, timeout_for, when_left};
 ghost use Rattle.served_links.specs.Changes.{is_asked_at, when_gone, with_bytes, with_room};
 ghost use Rattle.served_links.specs.EndLines.{late_reason_kept};
 
+use crate::kinds::{feed_of, is_filter_kind, is_inbound, visitor_voice};
 use crate::messages::{is_among, is_message_to};
 use aprs_base::{Addr, Call, Cut, Cutter, Memory, Packet, PortKind, Source, copy_call};
 use aprs_history::{EndReason, LinkKind, Session};
@@ -45,9 +43,9 @@ pub struct Timeouts {
     pub uplink: u32,
 }
 
-/// What is kept of a link's session. What it is fed is kept beside it.
+/// What is kept of a link's session, seen as a link that is fed nothing. What it is fed is kept beside it.
 #[derive(Drop)]
-pub struct Link {
+pub struct LinkSession {
     pub number: u32,
     /// `None` once it has left: then it keeps its place until all such are let go.
     kind: Option<LinkKind>,
@@ -61,70 +59,25 @@ pub struct Link {
     gone: bool,
 }
 
-impl Model for Link {
-    ghost use Rattle.std.specs.Prelude.{Some, None, [], false, option_map, IsTrue};
+impl Model for LinkSession {
+    ghost use Rattle.std.specs.Prelude.{option_map, IsTrue};
     ghost use Rattle.aprs_history.specs.Stands.{LinkSeen};
+    ghost use Rattle.served_links.specs.Fed.{unfed};
     ghost use Rattle.served_links.specs.Links.{is_login};
 
     ghost Value = { LinkSeen };
 
-    ghost view = { λ l. record {
-      link = l.number;
-      opening = option_map (λ kind. record { kind = kind; from = l.from; moment = l.opened }) l.kind;
-      last = l.last;
-      held = l.cutter;
-      session = l.session;
-      filter = [];
-      friends = [];
-      mine = None;
-      queue = record { lines = []; offset = 0 };
-      over = false;
-      blocked = l.blocked;
-      gone = l.gone;
-    } };
+    ghost view = { λ l. unfed l.number (option_map (λ kind. record { kind = kind; from = l.from; moment = l.opened }) l.kind) l.last l.cutter l.session l.blocked l.gone };
 
     ghost invariant = { λ l. IsTrue (is_login l.session) };
 }
 
-/// Whether a link of that kind was opened from the other side.
-pub(crate) fn is_inbound(kind: LinkKind) -> bool
-    ensures { result ≡ is_client_of kind }
-{
-    match kind {
-        LinkKind::Client(_) => true,
-        LinkKind::Uplink(_) => false,
-    }
-}
-
-/// What a client of a port is fed once it has logged in.
-fn port_feed(kind: PortKind) -> Feed
-    ensures { result ≡ port_feed kind }
-{
-    match kind {
-        PortKind::Full => Feed::Full,
-        PortKind::Igate | PortKind::Only => Feed::Filter,
-        PortKind::Dupe => Feed::Dupe,
-        PortKind::Submit | PortKind::Core => Feed::Nothing,
-    }
-}
-
-/// What a link is fed, logged in or not.
-pub(crate) fn feed_of(kind: LinkKind, session: &Option<Session>) -> Feed
-    ensures { result ≡ feed_of kind session.now }
-{
-    match kind {
-        LinkKind::Client(_) if session.is_none() => Feed::Nothing,
-        LinkKind::Client(port) => port_feed(port),
-        LinkKind::Uplink(_) => Feed::Up,
-    }
-}
-
-impl Link {
+impl LinkSession {
     /// A link that has just been opened.
-    pub fn open(number: u32, kind: LinkKind, from: Addr, moment: u64) -> Link
+    pub fn open(number: u32, kind: LinkKind, from: Addr, moment: u64) -> LinkSession
         ensures { result ≡ new_half number (record { kind = kind; from = from; moment = moment }) }
     {
-        Link {
+        LinkSession {
             number,
             kind: Some(kind),
             from,
@@ -374,54 +327,5 @@ pub fn is_from(number: u32, from: &Source) -> bool
     match from {
         Source::Link(link) => number == *link,
         Source::Submit(_) | Source::Peer(_) => false,
-    }
-}
-
-/// Whether ports of this kind have filters.
-fn is_filter_kind(kind: PortKind) -> bool
-    ensures { result ≡ is_filter_kind kind }
-{
-    match kind {
-        PortKind::Igate | PortKind::Only => true,
-        PortKind::Full | PortKind::Dupe | PortKind::Submit | PortKind::Core => false,
-    }
-}
-
-/// Whether ports of this kind serve clients alone.
-fn is_only_kind(kind: PortKind) -> bool
-    ensures { result ≡ is_only_kind kind }
-{
-    match kind {
-        PortKind::Only => true,
-        _ => false,
-    }
-}
-
-/// Who speaks on a port of this kind, logged in or not.
-fn visitor_voice(kind: PortKind, session: &Option<Session>) -> Voice
-    requires { IsTrue (is_login session.now) }
-    ensures value { result ≡ visitor_voice kind session.now }
-    ensures station { HasStation result }
-{
-    let filters = is_filter_kind(kind);
-    match session {
-        None => Voice::Nameless { filters },
-        Some(_) if kind == PortKind::Dupe => Voice::Reader,
-        Some(session) => Voice::Client {
-            filters,
-            origin: client_origin(kind, session),
-        },
-    }
-}
-
-fn client_origin(kind: PortKind, session: &Session) -> Origin
-    requires { IsTrue (is_station session.now.call) }
-    ensures value { result ≡ client_origin (is_only_kind kind) session.now }
-    ensures station { IsTrue (has_station result) }
-{
-    Origin::Client {
-        login: copy_call(&session.call),
-        verified: session.verified,
-        only: is_only_kind(kind),
     }
 }

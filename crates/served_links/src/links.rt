@@ -1,4 +1,4 @@
-//! Links that are served, in the order of their numbers.
+//! What is kept of links' sessions, in the order of the links' numbers: what is looked for in it, and done at one place.
 ghost use Rattle.std.specs.Prelude.{◌≡◌, ◌++◌, ◌^◌, ℕ, [], IfOk, IsTrue, List, None, OnErr, OnOk, Some, filter, map, position};
 ghost use Rattle.std.specs.Arc.{arc_value};
 ghost use Rattle.std.specs.List.{list_any};
@@ -13,11 +13,10 @@ ghost use Rattle.served_links.specs.Changes.{at_link, is_asked_at, when_gone, wi
 ghost use Rattle.uplinks_peers.specs.Sides.{is_passed_on};
 ghost use Rattle.uplinks_peers.specs.declared.sides.Side.TheVariants as side;
 ghost use Rattle.worker_match.specs.Items.{item_seen};
-ghost use Rattle.worker_match.specs.Seen.{Came};
-ghost use Rattle.worker_match.specs.Seen as worker;
+ghost use Rattle.worker_match.specs.Seen.{FeedSeen, Came};
 ghost use Rattle.worker_match.specs.Walk.{IsOrdered};
 
-use crate::link::{Link, SourcePlace, Timeouts};
+use crate::link::{LinkSession, SourcePlace, Timeouts};
 use crate::messages::is_message;
 use aprs_base::{Cut, Cutter, Memory, Packet, Shared, Source};
 use line_verdict::Voice;
@@ -26,15 +25,15 @@ use uplinks_peers::{Side, goes_to};
 use worker_match::Item;
 
 /// Where the link of that number stands.
-pub(crate) fn place_of(links: &[Link], number: u32) -> Option<usize>
+pub(crate) fn place_of(links: &[LinkSession], number: u32) -> Option<usize>
     requires { Rises 0 (numbers links.now) (2 ^ 32) }
     ensures { result ≡ position (has_that number) links.now }
 {
     links.binary_search_by_key(&number, |link| link.number).ok()
 }
 
-/// The same where it hasn't left.
-pub(crate) fn place_here(links: &[Link], number: u32) -> Option<usize>
+/// Where the link of that number stands, if it hasn't left.
+pub(crate) fn place_here(links: &[LinkSession], number: u32) -> Option<usize>
     requires { Rises 0 (numbers links.now) (2 ^ 32) }
     ensures { result ≡ position (is_at number) links.now }
 {
@@ -45,7 +44,7 @@ pub(crate) fn place_here(links: &[Link], number: u32) -> Option<usize>
 }
 
 /// A copy of that link's cutter.
-pub(crate) fn cutter_at(links: &[Link], number: u32) -> Option<Cutter>
+pub(crate) fn cutter_at(links: &[LinkSession], number: u32) -> Option<Cutter>
     requires { Rises 0 (numbers links.now) (2 ^ 32) }
     ensures { result ≡ held_at number (here links.now) }
 {
@@ -56,7 +55,7 @@ pub(crate) fn cutter_at(links: &[Link], number: u32) -> Option<Cutter>
 }
 
 /// The link has room again.
-pub(crate) fn give_room(links: &mut Vec<Link>, number: u32)
+pub(crate) fn give_room(links: &mut Vec<LinkSession>, number: u32)
     requires { Rises 0 (numbers links.old.items) (2 ^ 32) }
     ensures { links.new.items ≡ map (at_link number with_room) links.old.items }
 {
@@ -67,7 +66,7 @@ pub(crate) fn give_room(links: &mut Vec<Link>, number: u32)
 }
 
 /// A send found the link gone.
-pub(crate) fn lose(links: &mut Vec<Link>, number: u32)
+pub(crate) fn lose(links: &mut Vec<LinkSession>, number: u32)
     requires { Rises 0 (numbers links.old.items) (2 ^ 32) }
     ensures { links.new.items ≡ map (at_link number when_gone) links.old.items }
 {
@@ -90,7 +89,7 @@ fn asks_nobody(packet: &Packet, hearers: &[u32], owed: &[u32]) -> bool
 /// The numbers of the links that the message rule asks for, where these links heard the packet's receiver and are owed it.
 fn asked(
     alloc: Global,
-    links: &[Link],
+    links: &[LinkSession],
     packet: &Packet,
     hearers: &[u32],
     owed: &[u32],
@@ -114,7 +113,7 @@ fn asked(
 /// An accepted packet as it is offered to all links.
 pub(crate) fn offered(
     alloc: Global,
-    links: &[Link],
+    links: &[LinkSession],
     packet: &Packet,
     shared: &Shared,
     source: &SourcePlace,
@@ -140,14 +139,14 @@ pub(crate) fn offered(
 }
 
 /// Whether one of them is shown the duplicates that others are refused.
-pub(crate) fn shows_any(links: &[Link]) -> bool
+pub(crate) fn shows_any(links: &[LinkSession]) -> bool
     ensures { result ≡ list_any shows_kept links.now }
 {
     links.iter().any(|link| link.shows_duplicates())
 }
 
 /// The numbers of the links that a send found gone.
-pub(crate) fn lost(alloc: Global, links: &[Link]) -> Result<Vec<u32>, Memory>
+pub(crate) fn lost(alloc: Global, links: &[LinkSession]) -> Result<Vec<u32>, Memory>
     ensures { IfOk result (λ v. v.items ≡ numbers (filter is_lost_here links.now)) }
 {
     let mut numbers = Vec::new(alloc);
@@ -162,7 +161,7 @@ pub(crate) fn lost(alloc: Global, links: &[Link]) -> Result<Vec<u32>, Memory>
 /// The numbers of the links that end by time.
 pub(crate) fn late(
     alloc: Global,
-    links: &[Link],
+    links: &[LinkSession],
     timeouts: Timeouts,
     now: u64,
 ) -> Result<Vec<u32>, Memory>
@@ -178,21 +177,21 @@ pub(crate) fn late(
 }
 
 /// The links of these numbers leave.
-pub(crate) fn drop_these(links: &mut Vec<Link>, numbers: &[u32])
+pub(crate) fn drop_these(links: &mut Vec<LinkSession>, numbers: &[u32])
     ensures { links.new.items ≡ filter (is_none_of numbers.now) links.old.items }
 {
     links.retain(|link| link.is_none_of(numbers));
 }
 
 /// Those that left are let go.
-pub(crate) fn sweep(links: &mut Vec<Link>)
+pub(crate) fn sweep(links: &mut Vec<LinkSession>)
     ensures { links.new.items ≡ here links.old.items }
 {
     links.retain(|link| link.is_here());
 }
 
 /// The numbers of all links.
-pub(crate) fn all(alloc: Global, links: &[Link]) -> Result<Vec<u32>, Memory>
+pub(crate) fn all(alloc: Global, links: &[LinkSession]) -> Result<Vec<u32>, Memory>
     ensures { IfOk result (λ v. v.items ≡ numbers (here links.now)) }
 {
     let mut numbers = Vec::new(alloc);
@@ -205,7 +204,7 @@ pub(crate) fn all(alloc: Global, links: &[Link]) -> Result<Vec<u32>, Memory>
 }
 
 /// Whether there is a link of that number.
-pub(crate) fn has_link(links: &[Link], number: u32) -> bool
+pub(crate) fn has_link(links: &[LinkSession], number: u32) -> bool
     requires { Rises 0 (numbers links.now) (2 ^ 32) }
     ensures { result ≡ has_number number (here links.now) }
 {
@@ -213,7 +212,7 @@ pub(crate) fn has_link(links: &[Link], number: u32) -> bool
 }
 
 /// Who speaks on that link.
-pub(crate) fn voice_at(links: &[Link], number: u32) -> Voice
+pub(crate) fn voice_at(links: &[LinkSession], number: u32) -> Voice
     requires { Rises 0 (numbers links.now) (2 ^ 32) }
     ensures value { result ≡ voice_of (speaker_at number (here links.now)) }
     ensures station { HasStation result }
@@ -225,7 +224,7 @@ pub(crate) fn voice_at(links: &[Link], number: u32) -> Voice
 }
 
 /// Whether that link is a client.
-pub(crate) fn is_client_at(links: &[Link], number: u32) -> bool
+pub(crate) fn is_client_at(links: &[LinkSession], number: u32) -> bool
     requires { Rises 0 (numbers links.now) (2 ^ 32) }
     ensures { result ≡ client_at number (here links.now) }
 {
@@ -236,7 +235,7 @@ pub(crate) fn is_client_at(links: &[Link], number: u32) -> bool
 }
 
 /// The side at the other end of that link.
-fn side_at(links: &[Link], number: u32) -> Side
+fn side_at(links: &[LinkSession], number: u32) -> Side
     requires { Rises 0 (numbers links.now) (2 ^ 32) }
     ensures { is_passed_on result side.Peer ≡ client_at number (here links.now) }
 {
@@ -248,7 +247,7 @@ fn side_at(links: &[Link], number: u32) -> Side
 }
 
 /// The side that sends what comes from there. A link that is no client is an uplink.
-fn side_of(links: &[Link], from: &Source) -> Side
+fn side_of(links: &[LinkSession], from: &Source) -> Side
     requires { Rises 0 (numbers links.now) (2 ^ 32) }
     ensures { is_passed_on result side.Peer ≡ submitted_from from.now (here links.now) }
 {
@@ -260,7 +259,7 @@ fn side_of(links: &[Link], from: &Source) -> Side
 }
 
 /// Whether what comes from there was submitted here: that alone goes on to peers and uplinks.
-pub(crate) fn is_submitted(links: &[Link], from: &Source) -> bool
+pub(crate) fn is_submitted(links: &[LinkSession], from: &Source) -> bool
     requires { Rises 0 (numbers links.now) (2 ^ 32) }
     ensures { result ≡ submitted_from from.now (here links.now) }
 {
@@ -268,7 +267,7 @@ pub(crate) fn is_submitted(links: &[Link], from: &Source) -> bool
 }
 
 /// How many clients there are.
-pub(crate) fn count_clients(links: &[Link]) -> usize
+pub(crate) fn count_clients(links: &[LinkSession]) -> usize
     ensures { result ≡ clients_in links.now }
 {
     let mut count = 0;
@@ -281,7 +280,7 @@ pub(crate) fn count_clients(links: &[Link]) -> usize
 }
 
 /// Whether the port of that link has filters.
-pub(crate) fn has_filters_at(links: &[Link], number: u32) -> bool
+pub(crate) fn has_filters_at(links: &[LinkSession], number: u32) -> bool
     requires { Rises 0 (numbers links.now) (2 ^ 32) }
     ensures { result ≡ filters_at number (here links.now) }
 {
@@ -294,7 +293,7 @@ pub(crate) fn has_filters_at(links: &[Link], number: u32) -> bool
 /// The link of that number brought bytes: what they cut. `Memory` changes nothing.
 pub(crate) fn bring(
     alloc: Global,
-    links: &mut Vec<Link>,
+    links: &mut Vec<LinkSession>,
     number: u32,
     moment: u64,
     bytes: &[u8],
@@ -302,7 +301,7 @@ pub(crate) fn bring(
     requires { Rises 0 (numbers links.old.items) (2 ^ 32) }
     ensures named { map named_of links.new.items ≡ map named_of links.old.items }
     ensures logins { map login_here links.new.items ≡ map login_here links.old.items }
-    ensures halves { (states : List worker.LinkSeen) → AllMatch links.old.items states → AllMatch links.new.items states }
+    ensures halves { (states : List FeedSeen) → AllMatch links.old.items states → AllMatch links.new.items states }
     ensures links { (before : List ℕ) → held_at number (here links.old.items) ≡ Some (held_after before)
         → OnOk result (links.new.items ≡ map (at_link number (with_bytes moment (held_after (before ++ bytes.now)))) links.old.items) }
     ensures cuts { (before : List ℕ) → held_at number (here links.old.items) ≡ Some (held_after before) → IfOk result (λ cuts. cuts.items ≡ cuts_by before bytes.now) }

@@ -4,7 +4,7 @@ ghost use Rattle.std.specs.List.{list_any};
 ghost use Rattle.q_construct.specs.Rule.{among};
 ghost use Rattle.served_links.specs.Links.{here, login_here, logins_at, other_here, others_at};
 
-use crate::link::Link;
+use crate::link::LinkSession;
 use crate::sessions::Sessions;
 use aprs_base::{Call, Source};
 use q_construct::Calls;
@@ -17,7 +17,7 @@ pub struct Logins<'a> {
 }
 
 /// Whether the link is here, is verified and has logged in with this call.
-fn has_login(link: &Link, call: &Call) -> bool
+fn has_login(link: &LinkSession, call: &Call) -> bool
     ensures { result ≡ among call.now (login_here link.now) }
 {
     match link.verified_call() {
@@ -26,15 +26,15 @@ fn has_login(link: &Link, call: &Call) -> bool
     }
 }
 
-/// The same where the link's number is another.
-fn has_other_login(link: &Link, number: u32, call: &Call) -> bool
+/// Whether the link has another number, is here, is verified and has logged in with this call.
+fn has_other_login(link: &LinkSession, number: u32, call: &Call) -> bool
     ensures { result ≡ among call.now (other_here number link.now) }
 {
     link.number() != number && has_login(link, call)
 }
 
-/// Whether one of the links has, link by link.
-fn any_other_has_login(links: &[Link], number: u32, call: &Call) -> bool
+/// Whether a verified link of another number has logged in with this call, link by link.
+fn any_other_has_login(links: &[LinkSession], number: u32, call: &Call) -> bool
     ensures { result ≡ list_any (λ link. among call.now (other_here number link)) links.now }
 {
     links.iter().any(|link| has_other_login(link, number, call))
@@ -47,7 +47,7 @@ fn have_login(links: &Sessions, call: &Call) -> bool
     links.count_login(call) > 0
 }
 
-/// Whether a verified link of another number has.
+/// Whether a verified link of another number has logged in with this call.
 fn have_other_login(links: &Sessions, number: u32, call: &Call) -> bool
     ensures { result ≡ among call.now (others_at number (here links.now)) }
 {

@@ -8,10 +8,11 @@ ghost use Rattle.served_links.specs.Counts.{having};
 ghost use Rattle.served_links.specs.Changes.{at_link, when_gone, with_bytes, with_room};
 ghost use Rattle.served_links.specs.Fed.{AllMatch, new_half, opening_feed};
 ghost use Rattle.served_links.specs.Links.{Rises, clients_in, held_at, here, is_none_of, is_whole, named_of, numbers, when_left};
-ghost use Rattle.worker_match.specs.Seen as worker;
+ghost use Rattle.worker_match.specs.Seen.{FeedSeen};
 
 use crate::counts::{Counts, count_of, lower, lower_these, raise};
-use crate::link::{Link, is_inbound};
+use crate::kinds::is_inbound;
+use crate::link::LinkSession;
 use crate::links::{bring, count_clients, drop_these, give_room, lose, sweep};
 use aprs_base::{Addr, Call, Cut, Memory};
 use aprs_history::{LinkKind, Session};
@@ -24,7 +25,7 @@ use worker_match::Feed;
 /// What is kept of all sessions. A link that leaves keeps its place until all that left are let go, in one pass.
 #[derive(Drop)]
 pub struct Sessions {
-    links: Vec<Link>,
+    links: Vec<LinkSession>,
     /// How many verified ones have logged in with each call.
     counts: Counts,
     /// How many are clients.
@@ -59,7 +60,7 @@ impl Sessions {
         }
     }
 
-    pub fn as_slice(&self) -> &[Link]
+    pub fn as_slice(&self) -> &[LinkSession]
         ensures value { result.now ≡ self.now }
     {
         self.links.as_slice()
@@ -108,7 +109,8 @@ impl Sessions {
         ensures ok { OnOk result (self.new ≡ self.old ++ new_half number (record { kind = kind; from = from; moment = moment }) ∷ []) }
         ensures err { OnErr result (self.new ≡ self.old) }
     {
-        self.links.push(Link::open(number, kind, from, moment))?;
+        self.links
+            .push(LinkSession::open(number, kind, from, moment))?;
         self.clients += usize::from(is_inbound(kind));
         Ok(())
     }
@@ -159,7 +161,7 @@ impl Sessions {
     ) -> Result<Vec<Cut>, Memory>
         requires { Rises 0 (numbers self.old) (2 ^ 32) }
         ensures named { map named_of self.new ≡ map named_of self.old }
-        ensures halves { (states : List worker.LinkSeen) → AllMatch self.old states → AllMatch self.new states }
+        ensures halves { (states : List FeedSeen) → AllMatch self.old states → AllMatch self.new states }
         ensures links { (before : List ℕ) → held_at number (here self.old) ≡ Some (held_after before)
             → OnOk result (self.new ≡ map (at_link number (with_bytes moment (held_after (before ++ bytes.now)))) self.old) }
         ensures cuts { (before : List ℕ) → held_at number (here self.old) ≡ Some (held_after before) → IfOk result (λ cuts. cuts.items ≡ cuts_by before bytes.now) }

@@ -3,14 +3,14 @@ ghost use Rattle.std.specs.Prelude.{◌≡◌, ◌++◌, OnOk, filter, map};
 ghost use Rattle.served_links.specs.EndLines.{late_line, lost_line, stop_line};
 ghost use Rattle.served_links.specs.Links.{here, is_late_here, is_lost_here};
 
-use crate::link::{Link, Timeouts};
+use crate::link::{LinkSession, Timeouts};
 use aprs_base::{JournalLine, Memory};
 use aprs_history::EndReason;
 use journal_lines::end_line;
 
 /// The links that a send found gone.
 pub(crate) fn tell_lost(
-    links: &[Link],
+    links: &[LinkSession],
     now: u64,
     lines: &mut Vec<JournalLine>,
 ) -> Result<(), Memory>
@@ -26,7 +26,7 @@ pub(crate) fn tell_lost(
 
 /// The links that are late.
 pub(crate) fn tell_late(
-    links: &[Link],
+    links: &[LinkSession],
     timeouts: Timeouts,
     now: u64,
     lines: &mut Vec<JournalLine>,
@@ -43,7 +43,7 @@ pub(crate) fn tell_late(
 
 /// All links, which a stop ends.
 pub(crate) fn tell_stopped(
-    links: &[Link],
+    links: &[LinkSession],
     now: u64,
     lines: &mut Vec<JournalLine>,
 ) -> Result<(), Memory>

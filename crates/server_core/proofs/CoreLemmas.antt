@@ -17,19 +17,18 @@ use Rattle.uplinks_peers.specs.declared.uplinks.UpEvent.TheVariants as up
 use Rattle.uplinks_peers.specs.Uplinks.{acts_at, uplinks_after}
 use Rattle.aprs_history.specs.Dials.{uplinks_of}
 use Rattle.aprs_history.specs.declared.verdicts.LinkKind.TheVariants.{Uplink}
-use Rattle.aprs_history.specs.declared.verdicts.Refusal.{Refusal}
 use Rattle.aprs_history.specs.declared.verdicts.Verdict.{Verdict}
-use Rattle.aprs_history.specs.declared.verdicts.Verdict.TheVariants.{PassedOver, Refused, LoggedIn}
+use Rattle.aprs_history.specs.declared.verdicts.Verdict.TheVariants.{PassedOver, LoggedIn}
 use Rattle.aprs_history.specs.Setting.{Setting, kind_at}
 use Rattle.aprs_history.specs.Scenes.{datagram_scene, logins_of, others_of, scene_of, speaker_of, verified_login, accepted_of}
-use Rattle.aprs_history.specs.Verdicts.{Visitor, is_duplicate, verdict_of}
+use Rattle.aprs_history.specs.Verdicts.{Visitor, is_duplicate}
 use Rattle.aprs_history.specs.declared.verdicts.Admission.{Admission}
 use Rattle.aprs_history.specs.declared.verdicts.Admission.TheVariants.{NoPort, NotAsked, Served, TurnedAway}
 use Rattle.aprs_history.specs.Trace.{Trace, AtListener, ByUplink, Dated, Looked, Unjoined, RoundBegan, Ticked, Opened, Brought, Said, Roomed, Ended, is_live, is_member, is_other, live_links, moment_of, placed_all, stopped_links}
 use Rattle.aprs_history.specs.declared.verdicts.EndReason.TheVariants.{FoundGone, ByPeer}
 use Rattle.aprs_history.specs.Links.{client_links, is_client_link, session_of, opening_of, brought_by, gone_links, late_links, late_reason}
 use Rattle.aprs_history.specs.Dates.{comment_text}
-use Rattle.aprs_history.specs.History.{admission, admitted, joined_admission, refuse_datagram, begin_round, comment_seconds, dated, end_each, end_stopped, refused_links, refused_reason, relay, say_all}
+use Rattle.aprs_history.specs.History.{admission, admitted, joined_admission, begin_round, comment_seconds, dated, end_each, end_stopped, refused_links, refused_reason, relay, say_all}
 use Rattle.aprs_history.specs.Stands.{LinkSeen, CoreSeen, ReachSeen, link_seen, Follows, window_of}
 use Rattle.served_links.specs.Changes.{at_link, with_room, with_bytes, with_date}
 use Rattle.served_links.specs.Links.{has_that, has_number, is_late_link, is_none_of, is_overfull, is_another, numbers, Rises, client_kept, clients_in, held_at, held_kept, logins_at, speaker_at, speaker_kept, others_at, is_lost}
@@ -56,7 +55,7 @@ use Rattle.station_table.specs.Stations.{young}
 abbrev pub relinked : List LinkSeen → CoreMeaning → CoreMeaning
 relinked links core = record core { seen = record core.seen { links = links } }
 
--- the same with all that is known of the links
+-- the core with other links, and with what else is known of these
 abbrev pub with_served : ServedSeen → CoreMeaning → CoreMeaning
 with_served served core = record { conf = core.conf; seen = record core.seen { links = served.links; totals = record core.seen.totals { queued = served.queued } }; rests = served.rests }
 
@@ -211,27 +210,14 @@ module _ (core : CoreMeaning) (t : Trace) (walks : Walks core t) where
     lasts = walks.lasts;
   }
 
--- a line that a link said
-pub walks_heard : (core : CoreMeaning) (t : Trace) → Walks core t → (number : ℕ) (cut : Cut) → is_live t number ≡ true
-    → Walks (with_verdict (source.Link number) (verdict_of (scene_at core number) cut) core) (Said (source.Link number) cut (verdict_of (scene_of (setting_of core.conf) t number) cut) ∷ t)
-walks_heard core t walks number cut live =
-    let verdict = verdict_of (scene_at core number) cut in
-    let same : verdict ≡ verdict_of (scene_of (setting_of core.conf) t number) cut = ap (λ scene. verdict_of scene cut) (scene_now core t walks number live) in
-    subst (λ judged. Walks (with_verdict (source.Link number) verdict core) (Said (source.Link number) cut judged ∷ t)) same
-    (record { follows = follows_said (setting_of core.conf) core.seen t walks.follows walks.going walks.lasts (source.Link number) cut verdict live; going = walks.going; lasts = walks.lasts })
+-- a line that was said
+pub walks_said : (core : CoreMeaning) (t : Trace) → Walks core t → (from : Source) (cut : Cut) (verdict : Verdict) → IsSaidBy t from → Walks (with_verdict from verdict core) (Said from cut verdict ∷ t)
+walks_said core t walks from cut verdict by =
+    record { follows = follows_said (setting_of core.conf) core.seen t walks.follows walks.going walks.lasts from cut verdict by; going = walks.going; lasts = walks.lasts }
 
-said_by : (t : Trace) (from : Source) → IsDatagram from → IsSaidBy t from
+pub said_by : (t : Trace) (from : Source) → IsDatagram from → IsSaidBy t from
 said_by t (source.Link number) datagram = absurd datagram
 said_by t from datagram = tt
-
--- a line of a datagram
-pub walks_carried : (core : CoreMeaning) (t : Trace) → Walks core t → (from : Source) (origin : Origin) (cut : Cut) → IsDatagram from
-    → Walks (with_verdict from (verdict_of (carried_at origin core) cut) core) (Said from cut (verdict_of (datagram_scene (setting_of core.conf) origin t) cut) ∷ t)
-walks_carried core t walks from origin cut datagram =
-    let verdict = verdict_of (carried_at origin core) cut in
-    let same : verdict ≡ verdict_of (datagram_scene (setting_of core.conf) origin t) cut = ap (λ scene. verdict_of scene cut) (carried_now core t walks origin) in
-    subst (λ judged. Walks (with_verdict from verdict core) (Said from cut judged ∷ t)) same
-    (record { follows = follows_said (setting_of core.conf) core.seen t walks.follows walks.going walks.lasts from cut verdict (said_by t from datagram); going = walks.going; lasts = walks.lasts })
 
 -- the lines of a peer's datagram
 pub relayed_as : (s : Setting) (listener : ℕ) (first : Cut) (more cuts : List Cut) (peer : ℕ) (call : List ℕ) (origin : Origin) (found : Option (ℕ × List ℕ)) (t : Trace)
@@ -240,12 +226,6 @@ relayed_as s listener first more cuts peer call origin found t are from is =
     ap (λ cs. say_all (datagram_scene s origin) (source.Peer peer) cs t) are
     ∙ ap (λ (o : Origin). say_all (datagram_scene s o) (source.Peer peer) (first ∷ more) t) from
     ∙ ap (λ (f : Option (ℕ × List ℕ)). relay s listener first more f t) (sym is)
-
--- a datagram that is refused whole
-pub walks_unread : (core : CoreMeaning) (t : Trace) → Walks core t → (listener : ℕ) (cut : Cut) (why : Refusal)
-    → Walks (with_verdict (source.Submit listener) (Refused why) core) (refuse_datagram listener cut why t)
-walks_unread core t walks listener cut why =
-    record { follows = follows_said (setting_of core.conf) core.seen t walks.follows walks.going walks.lasts (source.Submit listener) cut (Refused why) tt; going = walks.going; lasts = walks.lasts }
 
 -- what a verdict leaves as it is
 pub rest_kept : (core : CoreMeaning) (from : Source) (verdict : Verdict) → SameRest core (with_verdict from verdict core)

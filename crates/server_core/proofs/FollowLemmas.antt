@@ -150,7 +150,7 @@ keeping base accepted now session terms text taken = record base {
   over = text.over;
 }
 
--- the same where it isn't overfull
+-- a link that keeps up with its text, as it is seen where it isn't overfull
 abbrev open_keeping : LinkSeen → List PacketSeen → ℕ → Option Session → List TermSeen → Queued → LinkSeen
 open_keeping base accepted now session terms queue = record base {
   session = session;

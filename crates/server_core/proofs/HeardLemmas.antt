@@ -136,7 +136,7 @@ missed_shape member same told none = grind arith
 gone_shape : (gone member : Bool) (told : Option ℕ) → cond (not gone) (if member then told else None) None ≡ (if not gone && member then told else None)
 gone_shape gone member told = grind arith
 
--- the same of what only clients are remembered for
+-- of what only clients are remembered for, where a link comes
 came_client : (member same client new : Bool) (told : Option ℕ) → (same ≡ true → member ≡ false)
     → (if member && client then told else None) ≡ (if (member || same) && (if same then new else client) then (if same then None else told) else None)
 came_client member same client new told none = grind arith

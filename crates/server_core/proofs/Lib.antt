@@ -8,6 +8,7 @@ pub mod LinkLemmas
 pub mod MemberLemmas
 pub mod OfferLemmas
 pub mod RoundLemmas
+pub mod SayingLemmas
 pub mod SendLemmas
 pub mod ServedLemmas
 pub mod SightLemmas

@@ -1,12 +1,13 @@
 -- Where stations were last seen: as time goes on, as a packet comes, and by the table.
 use Rattle.std.proofs.Common.{◌≡◌, ℕ, ◌-◌, ◌≤◌, ◌<◌, Bool, true, false, List, [], ◌∷◌, ◌++◌, map, refl, sym, ap, ◌∙◌, arith, Option, Some, None, option_map, ⊎_elim, nat_lt, cond, if◌then◌else◌}
-use Rattle.std.specs.List.{zip}
 use Rattle.std.specs.Option.{option_and_then}
 use Rattle.std.proofs.lemmas.Simd.{map-map}
 use Rattle.std.proofs.lemmas.Bool.{cases_Bool, ltb-true, ltb-false, false_from_ne_true, lt-ltb}
 use Rattle.aprs_base.specs.declared.packets.Source.{Source}
 use Rattle.aprs_base.specs.PacketSeen.{PacketSeen}
 use Rattle.filter_lang.specs.Terms.{TermSeen}
+use Rattle.filter_lang.specs.declared.terms.What.{What}
+use Rattle.filter_lang.specs.declared.terms.What.TheVariants as what
 use Rattle.aprs_base.specs.declared.packets.Place.{Place}
 use Rattle.aprs_body.specs.Classes.{position_bit}
 use Rattle.filter_eval.specs.Passes.{fresh, has_class, is_some_and, is_text, is_young, position_age}
@@ -18,7 +19,9 @@ use Rattle.aprs_history.specs.declared.verdicts.Session.{Session}
 use Rattle.aprs_history.specs.Sights.{friend_in, is_gate_at, login_in, named_call, sighting}
 use Rattle.aprs_history.specs.Stands.{LinkSeen, CoreSeen}
 use Rattle.server_core.specs.LinkSteps.{found_in, place_young, source_found}
-use Rattle.served_links.specs.Changes.{friend_seen, login_seen, with_seen}
+use Rattle.worker_match.specs.Walk.{friends_seen, mine_seen, names}
+use Rattle.served_links.specs.Changes.{with_seen}
+use Rattle.served_links.specs.Fed.{login_of}
 use Rattle.served_links.specs.Links.{submitted_from}
 
 -- ---- time goes on
@@ -92,21 +95,22 @@ module _ (accepted : List PacketSeen) (now : ℕ) (packet : PacketSeen) where
       either true = seen_now now seen at
       either false = refl
 
-  seen_friend : (seen : Seen) → Some seen ≡ seen_in packet → seen.moment ≡ now → (named : Option (List ℕ))
-      → cond (is_some_and (λ call. is_text call packet.parts.source) named) (Some seen) (option_and_then (sighting accepted now) named)
-      ≡ option_and_then (sighting (accepted ++ packet ∷ []) now) named
-  seen_friend seen some at None = refl
-  seen_friend seen some at (Some call) = seen_call seen some at call
+  seen_friend : (seen : Seen) → Some seen ≡ seen_in packet → seen.moment ≡ now → (w : What)
+      → cond (names packet.parts.source w) (Some seen) (option_and_then (sighting accepted now) (named_call w))
+      ≡ option_and_then (sighting (accepted ++ packet ∷ []) now) (named_call w)
+  seen_friend seen some at (what.Friend call km) = seen_call seen some at call
+  seen_friend seen some at (what.ClassNear mask call km) = seen_call seen some at call
+  seen_friend seen some at other = refl
 
   seen_login : (seen : Seen) → Some seen ≡ seen_in packet → seen.moment ≡ now → (session : Option Session)
-      → login_seen packet.parts.source seen session (login_in accepted now session) ≡ login_in (accepted ++ packet ∷ []) now session
+      → mine_seen packet.parts.source seen (login_of session) (login_in accepted now session) ≡ login_in (accepted ++ packet ∷ []) now session
   seen_login seen some at None = refl
   seen_login seen some at (Some session) = seen_call seen some at session.call
 
   seen_friends : (seen : Seen) → Some seen ≡ seen_in packet → seen.moment ≡ now → (terms : List TermSeen)
-      → map (friend_seen packet.parts.source seen) (zip terms (map (friend_in accepted now) terms)) ≡ map (friend_in (accepted ++ packet ∷ []) now) terms
+      → friends_seen packet.parts.source seen terms (map (friend_in accepted now) terms) ≡ map (friend_in (accepted ++ packet ∷ []) now) terms
   seen_friends seen some at [] = refl
-  seen_friends seen some at (term ∷ terms) = rw (seen_friend seen some at (named_call term.what), seen_friends seen some at terms) refl
+  seen_friends seen some at (term ∷ terms) = rw (seen_friend seen some at term.what, seen_friends seen some at terms) refl
 
   -- what there is to keep of a link after a packet, whatever it tells
   pub places_kept : (told : Option Seen) → told ≡ seen_in packet → ((seen : Seen) → Some seen ≡ seen_in packet → seen.moment ≡ now)
@@ -119,11 +123,11 @@ module _ (accepted : List PacketSeen) (now : ℕ) (packet : PacketSeen) where
       ∙ ap (λ seen. record link { mine = seen }) (unseen_login none link.session ∙ sym mine)
   places_kept (Some seen) some at link open' friends mine =
       let places : List (Option Seen) → Option Seen → LinkSeen = λ fs place. record link { friends = fs; mine = place } in
-      let friends_after = map (friend_seen packet.parts.source seen) (zip link.filter link.friends) in
-      let mine_after = login_seen packet.parts.source seen link.session link.mine in
+      let friends_after = friends_seen packet.parts.source seen link.filter link.friends in
+      let mine_after = mine_seen packet.parts.source seen (login_of link.session) link.mine in
       ap (λ fs. places fs (login_in (accepted ++ packet ∷ []) now link.session))
-      (sym (seen_friends seen some (at seen some) link.filter) ∙ ap (λ fs. map (friend_seen packet.parts.source seen) (zip link.filter fs)) (sym friends))
-      ∙ ap (places friends_after) (sym (seen_login seen some (at seen some) link.session) ∙ ap (login_seen packet.parts.source seen link.session) (sym mine))
+      (sym (seen_friends seen some (at seen some) link.filter) ∙ ap (friends_seen packet.parts.source seen link.filter) (sym friends))
+      ∙ ap (places friends_after) (sym (seen_login seen some (at seen some) link.session) ∙ ap (mine_seen packet.parts.source seen (login_of link.session)) (sym mine))
       ∙ sym (ap (λ over. if over then link else places friends_after mine_after) open')
 
 -- a packet tells what it was accepted with

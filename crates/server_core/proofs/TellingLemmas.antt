@@ -1,15 +1,12 @@
 -- What a round tells the journals, and the lines of its trace.
-use Rattle.std.proofs.Common.{◌≡◌, ℕ, ◌/◌, Bool, true, false, nat_lt, List, [], ◌∷◌, ◌++◌, map, filter, refl, sym, ap, ◌∙◌, Option, None, subst, append-nil, append_assoc, ⊎_elim, if◌then◌else◌}
+use Rattle.std.proofs.Common.{◌≡◌, ℕ, ◌/◌, Bool, true, false, nat_lt, List, [], ◌∷◌, ◌++◌, map, filter, refl, sym, ap, ◌∙◌, Option, None, append-nil, append_assoc, ⊎_elim, if◌then◌else◌}
 use Rattle.std.proofs.lemmas.Bool.{cases_Bool}
 use Rattle.std.proofs.lemmas.Simd.{map-map}
-use Rattle.aprs_base.specs.Cuts.{cuts_by}
 use Rattle.aprs_base.specs.Journals.{JournalLineSeen}
 use Rattle.aprs_base.specs.declared.cutting.Cut.{Cut}
 use Rattle.aprs_base.specs.declared.events.Event.{Event}
 use Rattle.aprs_base.specs.declared.packets.Source.{Source}
-use Rattle.aprs_base.specs.declared.packets.Source.TheVariants as source
 use Rattle.aprs_base.specs.declared.texts.Addr.{Addr}
-use Rattle.q_construct.specs.declared.origins.Origin.{Origin}
 use Rattle.uplinks_peers.specs.Uplinks.{is_dialled}
 use Rattle.aprs_history.specs.declared.verdicts.Admission.{Admission}
 use Rattle.aprs_history.specs.declared.verdicts.EndReason.{EndReason}
@@ -17,18 +14,16 @@ use Rattle.aprs_history.specs.declared.verdicts.EndReason.TheVariants.{ByPeer, F
 use Rattle.aprs_history.specs.declared.verdicts.Verdict.{Verdict}
 use Rattle.aprs_history.specs.Setting.{Setting, kind_at}
 use Rattle.aprs_history.specs.Trace.{Trace, AtListener, Dated, Looked, RoundBegan, Ticked, Opened, Brought, Said, Ended, Unjoined, is_live, is_member, live_links, moment_of, placed_all, turned_links}
-use Rattle.aprs_history.specs.Links.{brought_by, gone_links, is_gone, is_late, late_links, late_reason}
-use Rattle.aprs_history.specs.Scenes.{datagram_scene, scene_of}
-use Rattle.aprs_history.specs.Verdicts.{verdict_of}
-use Rattle.aprs_history.specs.History.{admission, admitted, begin_round, bring, comment_seconds, dated, end_each, end_stopped, refused_links, refused_reason, say_all, with_bytes_of, with_tick}
+use Rattle.aprs_history.specs.Links.{gone_links, is_gone, is_late, late_links, late_reason}
+use Rattle.aprs_history.specs.History.{admission, admitted, begin_round, comment_seconds, dated, end_each, end_stopped, refused_links, refused_reason, with_tick}
 use Rattle.aprs_history.specs.Journal.{end_line, entry_lines, group_of, label, opening_lines, round_lines, unjoined_line, unjoined_lines, verdict_lines}
 use Rattle.aprs_history.specs.Stands.{ReachSeen, link_seen}
 use Rattle.served_links.specs.Links.{clients_in, has_number, is_late_link, is_lost, is_overfull, numbers}
 use Rattle.server_core.specs.Meaning.{CoreMeaning, setting_of, timeouts_of}
-use Rattle.server_core.specs.Steps.{Walks, carried_at, scene_at}
+use Rattle.server_core.specs.Steps.{Walks}
 use Rattle.server_core.specs.Telling.{KnowUnasked, Tells, refused_by, refused_line, said_lines}
 use Rattle.served_links.specs.EndLines.{late_line, lost_line, stop_line}
-use Rattle.server_core.proofs.CoreLemmas.{carried_now, clients_now, scene_now, there_now}
+use Rattle.server_core.proofs.CoreLemmas.{clients_now, there_now}
 use Rattle.server_core.proofs.WalkLemmas.{follows_began, late_seen, links_live, lost_seen_as, refused_are, tested_links}
 
 -- ---- the lines of entries
@@ -54,7 +49,7 @@ tells_ticked s moment t lines = tells_nothing s t (Ticked moment ∷ t) lines (a
 tells_looked : (s : Setting) (t : Trace) (lines : List JournalLineSeen) → Tells s t (Looked ∷ t) lines lines
 tells_looked s t lines = tells_nothing s t (Looked ∷ t) lines (append-nil (round_lines s t))
 
-tells_brought : (s : Setting) (link : ℕ) (bytes : List ℕ) (t : Trace) (lines : List JournalLineSeen) → Tells s t (Brought link bytes ∷ t) lines lines
+pub tells_brought : (s : Setting) (link : ℕ) (bytes : List ℕ) (t : Trace) (lines : List JournalLineSeen) → Tells s t (Brought link bytes ∷ t) lines lines
 tells_brought s link bytes t lines = tells_nothing s t (Brought link bytes ∷ t) lines (append-nil (round_lines s t))
 
 tells_dated : (s : Setting) (before : ℕ) (t : Trace) (lines : List JournalLineSeen) → Tells s t (dated before t) lines lines
@@ -186,23 +181,3 @@ module _ (core : CoreMeaning) (t : Trace) (walks : Walks core t) where
   tells_said from cut verdict old new is =
       tells_more setting t (Said from cut verdict ∷ t) (verdict_lines (label (group_of setting) from) (moment_of t) verdict) old new refl
       (is ∙ ap (λ m. old ++ verdict_lines (label (group_of setting) from) m verdict) walks.follows.moment)
-
-  pub tells_heard : (link : ℕ) (cut : Cut) → is_live t link ≡ true → (old new : List JournalLineSeen) → new ≡ old ++ said_lines core (source.Link link) (verdict_of (scene_at core link) cut)
-      → Tells setting t (Said (source.Link link) cut (verdict_of (scene_of setting t link) cut) ∷ t) old new
-  tells_heard link cut live old new is =
-      tells_said (source.Link link) cut (verdict_of (scene_of setting t link) cut) old new
-      (is ∙ ap (λ scene. old ++ said_lines core (source.Link link) (verdict_of scene cut)) (scene_now core t walks link live))
-
-  pub tells_carried : (from : Source) (origin : Origin) (cut : Cut) (old new : List JournalLineSeen) → new ≡ old ++ said_lines core from (verdict_of (carried_at origin core) cut)
-      → Tells setting t (Said from cut (verdict_of (datagram_scene setting origin t) cut) ∷ t) old new
-  tells_carried from origin cut old new is =
-      tells_said from cut (verdict_of (datagram_scene setting origin t) cut) old new
-      (is ∙ ap (λ scene. old ++ said_lines core from (verdict_of scene cut)) (carried_now core t walks origin))
-
-  -- bytes on a link that lives
-  pub tells_bytes : (link : ℕ) (bytes : List ℕ) (cuts : List Cut) → is_live t link ≡ true → cuts ≡ cuts_by (brought_by t link) bytes → (old new : List JournalLineSeen)
-      → Tells setting (Brought link bytes ∷ t) (say_all (λ now. scene_of setting now link) (source.Link link) cuts (Brought link bytes ∷ t)) old new → Tells setting t (with_bytes_of setting link bytes t) old new
-  tells_bytes link bytes cuts live are old new told =
-      subst (λ b. Tells setting t (if b then bring setting link bytes t else t) old new) (sym live)
-      (subst (λ cs. Tells setting t (say_all (λ now. scene_of setting now link) (source.Link link) cs (Brought link bytes ∷ t)) old new) are
-      (tells_then setting t (Brought link bytes ∷ t) (say_all (λ now. scene_of setting now link) (source.Link link) cuts (Brought link bytes ∷ t)) old old new (tells_brought setting link bytes t old) told))

@@ -167,7 +167,7 @@ may_promise links from link = not (is_from link from) && filters_at link links
 abbrev pub promised_one : List LinkSeen → Source → List ℕ → ℕ → ℕ → HeardSeen → HeardSeen
 promised_one links from sender now link table = if may_promise links from link then promised link sender now table else table
 
--- the same for several links, one after another
+-- what is promised to several links, one after another
 abbrev pub promised_all : List LinkSeen → Source → List ℕ → ℕ → List ℕ → HeardSeen → HeardSeen
 promised_all links from sender now [] table = table
 promised_all links from sender now (link ∷ more) table = promised_all links from sender now more (promised_one links from sender now link table)
@@ -188,7 +188,7 @@ abbrev pub forgotten_all : List ℕ → HeardSeen → HeardSeen
 forgotten_all [] table = table
 forgotten_all (link ∷ more) table = forgotten_all more (without_link link table)
 
--- the same of their uplinks
+-- the uplinks after these links ended
 abbrev pub ended_all : List ℕ → ℕ → UplinksSeen → UplinksSeen
 ended_all [] now uplinks = uplinks
 ended_all (link ∷ more) now uplinks = ended_all more now (uplinks_after (up.Ended link) now uplinks)

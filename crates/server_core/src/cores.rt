@@ -15,7 +15,7 @@ ghost use Rattle.server_core.specs.Meaning.{AreActs, Stands, numbered, setting_o
 ghost use Rattle.server_core.specs.Steps.{SameRest};
 
 use crate::acts::Acts;
-use crate::server::Walker;
+use crate::server::State;
 use aprs_base::{Event, Gate, JournalLine, Memory, Totals};
 use aprs_conf::Conf;
 use dupe_window::Window;
@@ -28,7 +28,7 @@ use std::thread::Threads;
 /// The core of a server. Outside of a round all that came to its links is matched.
 #[derive(Drop)]
 pub struct Core {
-    walker: Walker,
+    state: State,
     workers: u32,
 }
 
@@ -38,9 +38,9 @@ impl Model for Core {
 
     ghost Value = { CoreMeaning };
 
-    ghost view = { λ c. c.walker };
+    ghost view = { λ c. c.state };
 
-    ghost invariant = { λ c. (c.walker.rests ≡ true) × (1 ≤ c.workers) × (c.workers ≤ 64) };
+    ghost invariant = { λ c. (c.state.rests ≡ true) × (1 ≤ c.workers) × (c.workers ≤ 64) };
 }
 
 impl Core {
@@ -64,7 +64,7 @@ impl Core {
         ensures fresh { IfOk result (λ core. (core.seen.greatest ≡ 0) × (core.seen.stopped ≡ false)) }
     {
         Ok(Core {
-            walker: Walker::new(alloc, hasher, conf)?,
+            state: State::new(alloc, hasher, conf)?,
             workers,
         })
     }
@@ -73,35 +73,35 @@ impl Core {
     pub fn conf(&self) -> &Conf
         ensures { result.now ≡ self.now.conf }
     {
-        self.walker.conf()
+        self.state.conf()
     }
 
     /// The greatest number of a link that it was told of, 0 where there is none.
     pub fn greatest(&self) -> u32
         ensures { result ≡ self.now.seen.greatest }
     {
-        self.walker.greatest()
+        self.state.greatest()
     }
 
     /// Whether a round ended with a stop.
     pub fn is_stopped(&self) -> bool
         ensures { result ≡ self.now.seen.stopped }
     {
-        self.walker.is_stopped()
+        self.state.is_stopped()
     }
 
     /// Whether the link is there, and may be offered bytes.
     pub fn serves(&self, link: u32) -> bool
         ensures { result ≡ has_number link self.now.seen.links }
     {
-        self.walker.serves(link)
+        self.state.serves(link)
     }
 
     /// The packets that were accepted a short while ago.
     pub fn window(&self) -> &Window
         ensures { result.now ≡ self.now.seen.window }
     {
-        self.walker.window()
+        self.state.window()
     }
 
     /// What it has counted since it was made.
@@ -109,7 +109,7 @@ impl Core {
         ensures kept { result ≡ self.now.seen.totals }
         ensures counts { (h : History) → Stands self.now h → result ≡ totals_of (setting_of self.now.conf) (trace_of (setting_of self.now.conf) h) }
     {
-        self.walker.totals()
+        self.state.totals()
     }
 
     /// Takes one whole round of events, and says what is to be done. What comes to the links is matched by at most as many
@@ -147,11 +147,13 @@ impl Core {
             workers: self.workers,
             gate,
         };
-        let acts = self.walker.round(&crew, alloc, events, lines);
-        if acts.is_err() {
-            self.walker.give_up();
+        match self.state.round(&crew, alloc, events, lines) {
+            Ok(()) => self.state.acts(alloc),
+            Err(memory) => {
+                self.state.give_up();
+                Err(memory)
+            }
         }
-        acts
     }
 
     /// Writes the next bytes that the link has still to take, as many as there are and as fit, at most 65,536, and says
@@ -164,15 +166,7 @@ impl Core {
             → take result out.new ≡ take (min (length out.old) 65536) (untaken (setting_of self.now.conf) (trace_of (setting_of self.now.conf) h) link) }
         ensures rest { drop result out.new ≡ drop result out.old }
     {
-        self.next_bytes(link, out)
-    }
-
-    fn next_bytes(&self, link: u32, out: &mut [u8]) -> usize
-        ensures count { result ≡ min (min (length out.old) 65536) (length (pending_at link self.now.seen.links)) }
-        ensures bytes { take result out.new ≡ take (min (length out.old) 65536) (pending_at link self.now.seen.links) }
-        ensures rest { drop result out.new ≡ drop result out.old }
-    {
-        self.walker.offer(link, out)
+        self.state.offer(link, out)
     }
 
     /// The bytes that `offer` writes into room for 65,536, where they stand in a text that links share: nothing is copied. `None` where
@@ -183,7 +177,7 @@ impl Core {
         ensures next { (h : History) → Stands self.now h
             → IfSome result (λ bytes. bytes.now ≡ take 65536 (untaken (setting_of self.now.conf) (trace_of (setting_of self.now.conf) h) link)) }
     {
-        self.walker.shared_offer(link)
+        self.state.shared_offer(link)
     }
 
     /// The link took the first `n` of the `offered` bytes, which were its last offer.
@@ -195,7 +189,7 @@ impl Core {
         ensures numbers { numbers self.new.seen.links ≡ numbers self.old.seen.links }
         ensures rest { SameRest self.old self.new }
     {
-        self.walker.took(link, offered, n);
+        self.state.took(link, offered, n);
     }
 
     /// A send found the link gone: it ends as the next round begins.
@@ -204,6 +198,6 @@ impl Core {
         ensures numbers { numbers self.new.seen.links ≡ numbers self.old.seen.links }
         ensures rest { SameRest self.old self.new }
     {
-        self.walker.gone(link);
+        self.state.gone(link);
     }
 }

@@ -1,9 +1,11 @@
 //! Messages: whom they are for, which links heard their receivers, and which are owed their senders' positions.
-ghost use Rattle.std.specs.Prelude.{◌≡◌, OnOk, IfOk};
+ghost use Rattle.std.specs.Prelude.{◌≡◌, List, OnOk, IfOk};
 ghost use Rattle.std.specs.List.Sorted.{IsStrictlyIncreasing};
 ghost use Rattle.aprs_base.specs.declared.texts.Word9.{Word9};
 ghost use Rattle.aprs_history.specs.Messages.{is_message, is_position};
+ghost use Rattle.aprs_history.specs.Stands.{LinkSeen};
 ghost use Rattle.heard_routing.specs.Heard.{courtesies, without_promises};
+ghost use Rattle.served_links.specs.Links.{submitted_from};
 ghost use Rattle.server_core.specs.LinkSteps.{call_in, forgotten_all, hearers_of, may_promise, noted_from, promised_all, promised_one, receiver_of};
 
 use aprs_base::{Call, Memory, Packet, Source, Word9};
@@ -97,7 +99,7 @@ fn promise_one(
     Ok(())
 }
 
-/// The same for several links.
+/// Promises it to several links, one after another.
 pub(crate) fn promise_all(
     alloc: Global,
     heard: &mut Heard,
@@ -115,19 +117,19 @@ pub(crate) fn promise_all(
     Ok(())
 }
 
-/// A client has heard the source of its packet.
+/// A client has heard the source of its packet: a link whose packets are submitted here is a client's.
 pub(crate) fn note_from(
     alloc: Global,
     heard: &mut Heard,
-    links: &Served,
     from: &Source,
+    submitted: bool,
     call: &Call,
     now: u64,
 ) -> Result<(), Memory>
-    ensures { OnOk result (heard.new ≡ noted_from links.now.links from.now call.now now heard.old) }
+    ensures { (links : List LinkSeen) → submitted ≡ submitted_from from.now links → OnOk result (heard.new ≡ noted_from links from.now call.now now heard.old) }
 {
     match from {
-        Source::Link(number) if links.is_client_at(*number) => {
+        Source::Link(number) if submitted => {
             heard.note(alloc, *number, call, now)?;
         }
         _ => {}

@@ -20,7 +20,7 @@ fn place_for(numbers: &[u32], number: u32) -> usize
     numbers.iter().take_while(|other| **other <= number).count()
 }
 
-/// The same for several, one after another.
+/// Puts several numbers into their places, one after another.
 pub(crate) fn place_all(numbers: &mut Vec<u32>, more: &[u32]) -> Result<(), Memory>
     ensures { OnOk result (numbers.new.items ≡ placed_all more.now numbers.old.items) }
 {

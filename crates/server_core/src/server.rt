@@ -5,14 +5,12 @@ ghost use Rattle.aprs_conf.specs.Sound.{IsGroup, IsWithin};
 ghost use Rattle.aprs_history.specs.Stands.{reach_of};
 ghost use Rattle.aprs_history.specs.History.{History, trace_of};
 ghost use Rattle.aprs_history.specs.Journal.{round_lines};
-ghost use Rattle.aprs_history.specs.Scenes.{accepted_of};
 ghost use Rattle.aprs_history.specs.Rounds.{AreFresh, greatest_after, is_whole, only_listens, stopped_after, with_events};
-ghost use Rattle.server_core.specs.LinkSteps.{AreServed};
-ghost use Rattle.served_links.specs.Links.{Rises, has_number, numbers, pending_at};
+ghost use Rattle.served_links.specs.Links.{has_number, numbers, pending_at};
 ghost use Rattle.served_links.specs.Halves.{more};
 ghost use Rattle.aprs_base.specs.declared.events.Happening.{Happening};
 ghost use Rattle.aprs_base.specs.declared.events.Sent.{Sent};
-ghost use Rattle.server_core.specs.Meaning.{AreActs, Stands, numbered, setting_of};
+ghost use Rattle.server_core.specs.Meaning.{Stands, numbered, setting_of};
 ghost use Rattle.server_core.specs.Steps.{SameRest};
 
 mod ahead;
@@ -27,7 +25,6 @@ mod telling;
 mod ticks;
 mod verdicts;
 
-use crate::acts::Acts;
 use crate::conf::{dupe_window, uplink_timeout};
 use crate::reach::Reach;
 use aprs_base::{Event, Gate, JournalLine, Memory, Totals};
@@ -72,7 +69,7 @@ struct Counts {
 
 /// What a core keeps. In the middle of a round, when it doesn't rest, what came to the links may wait to be matched.
 #[derive(Drop)]
-pub(crate) struct Walker {
+pub(crate) struct State {
     conf: Conf,
     moment: u64,
     links: Served,
@@ -95,7 +92,7 @@ pub(crate) struct Walker {
     hasher: RandomState,
 }
 
-impl Model for Walker {
+impl Model for State {
     ghost use Rattle.server_core.specs.Meaning.{CoreMeaning};
     ghost use Rattle.server_core.specs.Kept.{IsKept};
 
@@ -106,9 +103,9 @@ impl Model for Walker {
     ghost invariant = { λ c. IsKept (record { conf = c.conf; seen = record { moment = c.moment; links = c.links.links; turned = c.turned.items; closing = c.closing.items; window = c.window; stations = c.stations; heard = c.heard; reach = c.reach; greatest = c.greatest; stopped = c.stopped; totals = record { accepted = c.counts.accepted; duplicate = c.counts.duplicate; refused = c.counts.refused; queued = c.links.queued } }; rests = c.links.rests }) };
 }
 
-impl Walker {
+impl State {
     /// For this configuration. It stands for the history of its listeners alone.
-    pub fn new(alloc: Global, hasher: &RandomState, conf: Conf) -> Result<Walker, Memory>
+    pub fn new(alloc: Global, hasher: &RandomState, conf: Conf) -> Result<State, Memory>
         requires listens { length (numbered conf.listens) ≤ 16 }
         requires station { IsTrue (is_station conf.server) }
         requires uplinks { length conf.uplinks ≤ 8 }
@@ -120,7 +117,7 @@ impl Walker {
     {
         let reach = reach_for(alloc, &conf);
         let seconds = dupe_window(&conf);
-        Ok(Walker {
+        Ok(State {
             conf,
             moment: 0,
             links: Served::new(alloc, hasher),
@@ -190,15 +187,15 @@ impl Walker {
         }
     }
 
-    /// Takes one whole round of events, and says what is to be done. What comes to the links is matched by the crew. The lines
-    /// that the round has for the journals come after those that are there.
+    /// Walks over one whole round of events. What comes to the links is matched by the crew. The lines that the round has for the
+    /// journals come after those that are there.
     pub fn round<R: Threads + Sync, G: Gate + Sync>(
         &mut self,
         crew: &Crew<R, G>,
         alloc: Global,
         events: &[Event],
         lines: &mut Vec<JournalLine>,
-    ) -> Result<Acts, Memory>
+    ) -> Result<(), Memory>
         requires workers { (1 ≤ crew.now.workers) × (crew.now.workers ≤ 64) }
         requires whole { is_whole 0 events.now ≡ true }
         requires fresh { AreFresh self.old.seen.greatest events.now }
@@ -207,25 +204,19 @@ impl Walker {
         ensures greatest { OnOk result (self.new.seen.greatest ≡ greatest_after events.now self.old.seen.greatest) }
         ensures stopped { OnOk result (self.new.seen.stopped ≡ stopped_after events.now false) }
         ensures rests { OnOk result (self.new.rests ≡ true) }
-        ensures done { IfOk result (λ acts. acts.done ≡ self.new.seen.stopped) }
-        ensures rising { IfOk result (λ acts. Rises 0 acts.offers self.new.seen.greatest) }
-        ensures served { IfOk result (λ acts. AreServed acts.offers self.new.seen.links) }
-        // The core stands for the history with the round, and the acts are those that are due after it.
         ensures stands { (h : History) → Stands self.old h → OnOk result (Stands self.new (with_events events.now h)) }
-        ensures due { (h : History) → Stands self.old h
-            → IfOk result (λ acts. AreActs (setting_of self.new.conf) (with_events events.now h) acts) }
-        // Beside them are the packets that the round accepted, in order.
-        ensures accepted { (h : History) → Stands self.old h
-            → IfOk result (λ acts. accepted_of (trace_of (setting_of self.old.conf) (with_events events.now h)) ≡ accepted_of (trace_of (setting_of self.old.conf) h) ++ acts.accepted) }
         ensures lines { (h : History) → Stands self.old h
             → OnOk result (lines.new.items ≡ lines.old.items ++ round_lines (setting_of self.old.conf) (trace_of (setting_of self.old.conf) (with_events events.now h))) }
     {
         self.tell_lost(lines)?;
         self.begin(alloc)?;
         self.look_ahead(crew.rt, alloc, events)?;
-        self.walk(crew, alloc, events, lines)?;
+        for event in events {
+            self.settle_before(crew, event)?;
+            self.take_event(alloc, event, lines)?;
+        }
         self.finish(crew, alloc, events, lines)?;
-        self.acts(alloc)
+        Ok(())
     }
 
     /// Writes the next bytes that the link has still to take, as many as there are and as fit, at most 65,536, and says
@@ -287,5 +278,5 @@ impl Walker {
 fn first_offered(bytes: &[u8]) -> &[u8]
     ensures { result.now ≡ take 65536 bytes.now }
 {
-    &bytes[..bytes.len().min(MOST_OFFERED)]
+    &bytes[..MOST_OFFERED.min(bytes.len())]
 }

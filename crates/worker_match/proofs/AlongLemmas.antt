@@ -5,7 +5,7 @@ use Rattle.std.proofs.lemmas.Bool.{cases_Bool}
 use Rattle.std.proofs.lemmas.List.{drop_more, length-drop}
 use Rattle.worker_match.specs.declared.items.Item.{Item}
 use Rattle.worker_match.specs.Items.{item_seen, items_seen}
-use Rattle.worker_match.specs.Seen.{LinkSeen, OfferSeen, Came}
+use Rattle.worker_match.specs.Seen.{FeedSeen, OfferSeen, Came}
 use Rattle.worker_match.specs.Walk.{wants, with_copy, with_packet}
 use Rattle.worker_match.specs.Runs.{IsRunOf, RunSeen, fresh, is_packet, line_of, with_run}
 use Rattle.worker_match.proofs.RunLemmas.{both}
@@ -13,7 +13,7 @@ use Rattle.worker_match.proofs.TakenLemmas.{one_taken}
 use Rattle.worker_match.proofs.WalkLemmas.{left_is}
 
 -- the run's line of a wanted packet
-pub placed_taken : {T E : Type 0} (result : Result T E) (lines : List (List ℕ)) (offer : OfferSeen) (link new : LinkSeen)
+pub placed_taken : {T E : Type 0} (result : Result T E) (lines : List (List ℕ)) (offer : OfferSeen) (link new : FeedSeen)
     → lines ≡ fresh offer.dupe offer.packet.line → offer.dupe ≡ false → wants offer link ≡ true → OnOk result (new ≡ with_run lines link)
     → OnOk result (length link.queue.lines ≤ link.queue.limit) → OnOk result (link.put < 2 ^ 64) → OnOk result (new ≡ with_packet offer link)
 placed_taken (Err e) lines offer link new is fresh_is wanted taken few counted = tt

@@ -4,7 +4,7 @@ use Rattle.std.specs.List.{flat_map}
 use Rattle.std.proofs.Math.Seq.{drop-nil, take-add}
 use Rattle.worker_match.specs.declared.items.Item.{Item}
 use Rattle.worker_match.specs.Items.{item_seen, items_seen}
-use Rattle.worker_match.specs.Seen.{LinkSeen, OfferSeen, Came}
+use Rattle.worker_match.specs.Seen.{FeedSeen, OfferSeen, Came}
 use Rattle.worker_match.specs.Walk.{is_from, walked}
 use Rattle.worker_match.specs.Runs.{IsRunOf, RunSeen, fresh, suits_others, with_run}
 use Rattle.worker_match.proofs.AlongLemmas.{IsAlong, along, along_more}
@@ -20,16 +20,16 @@ drop_twice (suc from) (suc to) (x ∷ xs) le =
     ap (λ n. drop n (drop from xs)) (let same : suc to - suc from ≡ to - from = omega arith in same) ∙ drop_twice from to xs (omega arith)
 
 -- the stretch so far, and after it the lines of the others that are left, leave of the link what all items leave of it
-pub record IsAround (items : List Item) (lines : List (List ℕ)) (start link : LinkSeen) (i from place : ℕ) : Type 0 where
+pub record IsAround (items : List Item) (lines : List (List ℕ)) (start link : FeedSeen) (i from place : ℕ) : Type 0 where
   pub along : IsAlong items lines i place
   pub within : from ≤ place
   pub so_far : length link.queue.lines ≤ link.queue.limit → link.put < 2 ^ 64
       → with_run (take (place - from) (drop from lines) ++ flat_map (line_of_others start.link) (items_seen (drop i items))) link ≡ walked (items_seen items) start
 
-pub around : (items : List Item) (run : RunSeen) (link : LinkSeen) → IsRunOf (items_seen items) run → suits_others link run ≡ true → IsAround items run.lines link link 0 0 0
+pub around : (items : List Item) (run : RunSeen) (link : FeedSeen) → IsRunOf (items_seen items) run → suits_others link run ≡ true → IsAround items run.lines link link 0 0 0
 around items run link is suit = record { along = along items run is; within = omega arith; so_far = λ few counted. others_suited (items_seen items) run link is suit few counted }
 
-module _ (items : List Item) (lines : List (List ℕ)) (start link : LinkSeen) (i from place : ℕ) (x : Item) (is : IsAround items lines start link i from place)
+module _ (items : List Item) (lines : List (List ℕ)) (start link : FeedSeen) (i from place : ℕ) (x : Item) (is : IsAround items lines start link i from place)
     (lt : i < length items) (at : x ≡ get_or items i x) (offer : OfferSeen) (step : ℕ) (seen : item_seen x ≡ Came offer)
     (counted : step ≡ length (fresh offer.dupe offer.packet.line)) where
   abbrev later : List (List ℕ)
@@ -44,7 +44,7 @@ module _ (items : List Item) (lines : List (List ℕ)) (start link : LinkSeen) (
   next = along_more items lines i place x is.along lt at offer step seen counted
 
   -- the link's own packet
-  pub around_own : (new : LinkSeen) → is_from start.link offer.packet.from ≡ true → new ≡ with_run (take (place - from) (drop from lines)) link
+  pub around_own : (new : FeedSeen) → is_from start.link offer.packet.from ≡ true → new ≡ with_run (take (place - from) (drop from lines)) link
       → length link.queue.lines ≤ link.queue.limit → link.put < 2 ^ 64 → IsAround items lines start new (i + 1) (place + step) (place + step)
   around_own new own taken few under = record {
     along = next.0;

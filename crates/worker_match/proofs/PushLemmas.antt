@@ -2,7 +2,7 @@
 use Rattle.std.proofs.Common.{◌≡◌, ℕ, true, false, List, length, refl, eq-eqb}
 use Rattle.std.proofs.lemmas.Bool.{eqb-true, false_from_ne_true}
 use Rattle.link_queue.specs.Queues.{QueueSeen, with_line}
-use Rattle.worker_match.specs.Seen.{LinkSeen}
+use Rattle.worker_match.specs.Seen.{FeedSeen}
 use Rattle.worker_match.specs.Walk.{is_full, one_more, with_copy, with_text}
 
 pub not_full : (queue : QueueSeen) → (length queue.lines ≡ queue.limit → ⊥) → is_full queue ≡ false
@@ -11,7 +11,7 @@ not_full queue room = false_from_ne_true _ (λ full. room (eqb-true (length queu
 pub full_is : (queue : QueueSeen) → length queue.lines ≡ queue.limit → is_full queue ≡ true
 full_is queue full = eq-eqb (length queue.lines) queue.limit full
 
-module _ (line : List ℕ) (inside now : LinkSeen) (queue : QueueSeen) (is : inside ≡ now) where
+module _ (line : List ℕ) (inside now : FeedSeen) (queue : QueueSeen) (is : inside ≡ now) where
   pub text_fits : queue ≡ with_line line inside.queue → (length inside.queue.lines ≡ inside.queue.limit → ⊥) → record inside { queue = queue } ≡ with_text line now
   unfolding with_text
   text_fits more room = rw (← is, not_full inside.queue room, more) refl

@@ -16,7 +16,7 @@ use Rattle.worker_match.specs.declared.links.Feed.{Feed}
 use Rattle.worker_match.specs.declared.links.Feed.TheVariants as feed
 use Rattle.worker_match.specs.declared.items.Item.{Item}
 use Rattle.worker_match.specs.Items.{item_seen, items_seen}
-use Rattle.worker_match.specs.Seen.{LinkSeen, OfferSeen, ItemSeen, Told, ToldAll, Ended, Became, Came}
+use Rattle.worker_match.specs.Seen.{FeedSeen, OfferSeen, ItemSeen, Told, ToldAll, Ended, Became, Came}
 use Rattle.worker_match.specs.Walk.{after, feed_wants, friends_seen, is_from, is_full, is_open, met, mine_seen, one_more, terms_of, told_by, walked, wants, with_copy, with_packet, with_seen}
 use Rattle.worker_match.specs.Runs.{IsRunOf, RunSeen, added, empty_run, fresh, is_packet, is_plain, line_of, mark, mark_of, sender_of, sent_by, suits, suits_others, takes_all, with_run}
 use Rattle.worker_match.proofs.PushLemmas.{full_is, not_full}
@@ -66,7 +66,7 @@ not_mine (Some own) call others is =
 
 -- ---- a link that takes each packet of others
 
-record IsPlain (link : LinkSeen) : Type 0 where
+record IsPlain (link : FeedSeen) : Type 0 where
   open' : is_open link ≡ true
   full : link.feed ≡ feed.Full
   none : link.filter ≡ None
@@ -74,14 +74,14 @@ record IsPlain (link : LinkSeen) : Type 0 where
   counted : link.put < 2 ^ 64
 
 -- a position of another call changes nothing
-unseen : (call : List ℕ) (told : Option Seen) (link : LinkSeen) → link.filter ≡ None → is_some_and (λ own. is_text own call) link.me ≡ false
+unseen : (call : List ℕ) (told : Option Seen) (link : FeedSeen) → link.filter ≡ None → is_some_and (λ own. is_text own call) link.me ≡ false
     → with_seen call told link ≡ link
 unseen call None link none other = refl
 unseen call (Some seen) link none other =
     ap (λ filter. record link { friends = friends_seen call seen (terms_of filter) link.friends; mine = mine_seen call seen link.me link.mine }) none
     ∙ ap (λ b. record link { mine = cond b (Some seen) link.mine }) other
 
-module _ (offer : OfferSeen) (link : LinkSeen) (plain : IsPlain link) (from : is_from link.link offer.packet.from ≡ false) where
+module _ (offer : OfferSeen) (link : FeedSeen) (plain : IsPlain link) (from : is_from link.link offer.packet.from ≡ false) where
   wanted : wants offer link ≡ not offer.dupe
   wanted = ap (λ b. not b && feed_wants link.feed offer link) from ∙ ap (λ fed. feed_wants fed offer link) plain.full
 
@@ -110,7 +110,7 @@ module _ (offer : OfferSeen) (link : LinkSeen) (plain : IsPlain link) (from : is
       unseen_either false =
           unseen offer.packet.parts.source (told_by offer) (record link { queue = with_line offer.packet.line link.queue; put = one_more link.put }) plain.none other
 
-module _ (offer : OfferSeen) (link : LinkSeen) (plain : IsPlain link) (own : is_from link.link offer.packet.from ≡ true) where
+module _ (offer : OfferSeen) (link : FeedSeen) (plain : IsPlain link) (own : is_from link.link offer.packet.from ≡ true) where
   after_own : is_some_and (λ own. is_text own offer.packet.parts.source) link.me ≡ false → after link (Came offer) ≡ link
   after_own other =
       ap (λ b. cond b (met (Came offer) link) link) plain.open'
@@ -119,7 +119,7 @@ module _ (offer : OfferSeen) (link : LinkSeen) (plain : IsPlain link) (own : is_
 
 -- ---- what a run leaves
 
-module _ (link : LinkSeen) (plain : IsPlain link) where
+module _ (link : FeedSeen) (plain : IsPlain link) where
   under : link.over ≡ false
   under = is_not link.over (both link.alive (not link.over) plain.open').1
 
@@ -171,7 +171,7 @@ abbrev pub line_of_others : ℕ → ItemSeen → List (List ℕ)
 line_of_others link (Came offer) = cond (is_from link offer.packet.from) [] (fresh offer.dupe offer.packet.line)
 line_of_others link item = []
 
-others_walked : (items : List ItemSeen) (link : LinkSeen) → IsPlain link → list_all is_packet items ≡ true
+others_walked : (items : List ItemSeen) (link : FeedSeen) → IsPlain link → list_all is_packet items ≡ true
     → is_some_and (λ own. list_any (λ other. mark own == other) (flat_map mark_of items)) link.me ≡ false
     → walked items link ≡ with_run (flat_map (line_of_others link.link) items) link
 others_walked [] link plain packets marks = sym (with_none link plain)
@@ -225,7 +225,7 @@ all_others link (Came offer ∷ items) is =
     ap (λ b. cond b [] (fresh offer.dupe offer.packet.line) ++ flat_map (line_of_others link) items) from.0
     ∙ ap (λ lines. fresh offer.dupe offer.packet.line ++ lines) (all_others link items from.1)
 
-suited_plain : (run : RunSeen) (link : LinkSeen) → suits_others link run ≡ true → length link.queue.lines ≤ link.queue.limit → link.put < 2 ^ 64
+suited_plain : (run : RunSeen) (link : FeedSeen) → suits_others link run ≡ true → length link.queue.lines ≤ link.queue.limit → link.put < 2 ^ 64
     → IsPlain link × (is_some_and (λ own. list_any (λ other. mark own == other) run.marks) link.me ≡ false)
 suited_plain run link suit few counted =
     let apart = both (is_plain link) (not (is_some_and (λ own. list_any (λ other. mark own == other) run.marks) link.me)) suit in
@@ -234,14 +234,14 @@ suited_plain run link suit few counted =
     (record { open' = open'.0; full = takes_is link.feed open'.1; none = none_is link.filter fed.1; few = few; counted = counted }, is_not _ apart.1)
 
 -- the lines of others alone
-pub others_suited : (items : List ItemSeen) (run : RunSeen) (link : LinkSeen) → IsRunOf items run → suits_others link run ≡ true
+pub others_suited : (items : List ItemSeen) (run : RunSeen) (link : FeedSeen) → IsRunOf items run → suits_others link run ≡ true
     → length link.queue.lines ≤ link.queue.limit → link.put < 2 ^ 64 → with_run (flat_map (line_of_others link.link) items) link ≡ walked items link
 others_suited items run link is suit few counted =
     let suited = suited_plain run link suit few counted in
     sym (others_walked items link suited.0 is.packets
     (ap (λ marks. is_some_and (λ own. list_any (λ other. mark own == other) marks) link.me) (sym is.marks) ∙ suited.1))
 
-suited : (items : List ItemSeen) (run : RunSeen) (link : LinkSeen) → IsRunOf items run → suits link run ≡ true
+suited : (items : List ItemSeen) (run : RunSeen) (link : FeedSeen) → IsRunOf items run → suits link run ≡ true
     → length link.queue.lines ≤ link.queue.limit → link.put < 2 ^ 64 → with_run run.lines link ≡ walked items link
 suited items run link is suit few counted =
     let apart = both (suits_others link run) (not (list_any (λ sender. link.link == sender) run.senders)) suit in
@@ -249,7 +249,7 @@ suited items run link is suit few counted =
     (is.lines ∙ sym (all_others link.link items (ap (list_any (λ sender. link.link == sender)) (sym is.senders) ∙ is_not _ apart.1)))
     ∙ others_suited items run link is apart.0 few counted
 
-pub run_met : {T E : Type 0} (result : Result T E) (items : List ItemSeen) (run : RunSeen) (lines : List (List ℕ)) (old new : LinkSeen)
+pub run_met : {T E : Type 0} (result : Result T E) (items : List ItemSeen) (run : RunSeen) (lines : List (List ℕ)) (old new : FeedSeen)
     → IsRunOf items run → suits old run ≡ true → lines ≡ run.lines → OnOk result (new ≡ with_run lines old)
     → OnOk result (length old.queue.lines ≤ old.queue.limit) → OnOk result (old.put < 2 ^ 64) → OnOk result (new ≡ walked items old)
 run_met (Ok x) items run lines old new is suit same taken few counted = taken ∙ ap (λ all. with_run all old) same ∙ suited items run old is suit few counted

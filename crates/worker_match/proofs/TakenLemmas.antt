@@ -5,12 +5,12 @@ use Rattle.std.proofs.lemmas.Bool.{cases_eq, cases_lt, le-ltb, lt-ltb}
 use Rattle.std.proofs.lemmas.List.{length-drop, length-take, length-take-le, take-append-le, take_min}
 use Rattle.std.proofs.Math.Seq.{take-append-add}
 use Rattle.link_queue.specs.Queues.{QueueSeen, with_line, with_lines}
-use Rattle.worker_match.specs.Seen.{LinkSeen}
+use Rattle.worker_match.specs.Seen.{FeedSeen}
 use Rattle.worker_match.specs.Walk.{one_more, with_copy}
 use Rattle.worker_match.specs.Runs.{with_run}
 use Rattle.worker_match.proofs.PushLemmas.{full_is, not_full}
 
-pub run_is : (link : LinkSeen) (queue other : QueueSeen) (put count : ℕ) (over last : Bool) → queue ≡ other → put ≡ count → over ≡ last
+pub run_is : (link : FeedSeen) (queue other : QueueSeen) (put count : ℕ) (over last : Bool) → queue ≡ other → put ≡ count → over ≡ last
     → record link { queue = queue; put = put; over = over } ≡ record link { queue = other; put = count; over = last }
 run_is link queue other put count over last a b c = rw (a, b, c) refl
 
@@ -27,7 +27,7 @@ take_within (suc n) (suc m) [] le = refl
 take_within (suc n) (suc m) (x ∷ xs) le = ap (λ ys. x ∷ ys) (take_within n m xs (omega arith))
 
 -- a stretch of lines, as many as fit
-pub run_taken : (lines : List (List ℕ)) (from to : ℕ) (inside now : LinkSeen) (queue : QueueSeen) (put count : ℕ) (over : Bool) → inside ≡ now
+pub run_taken : (lines : List (List ℕ)) (from to : ℕ) (inside now : FeedSeen) (queue : QueueSeen) (put count : ℕ) (over : Bool) → inside ≡ now
     → (from ≤ to) × (to ≤ length lines) → queue ≡ with_lines (take count (drop from lines)) inside.queue
     → count ≡ min (inside.queue.limit - length inside.queue.lines) (to - from)
     → put ≡ min (inside.put + count) (2 ^ 64 - 1) → over ≡ (inside.over || nat_lt count (to - from))
@@ -73,7 +73,7 @@ over_either over room left first second both sum rest = elim (cases_lt room firs
       ∙ sym (ap (λ b. (over || b) || nat_lt left second) (le-ltb room first enough) ∙ ap (λ b. b || nat_lt left second) (or-false over))
 ]
 
-module _ (link : LinkSeen) (few : length link.queue.lines ≤ link.queue.limit) (counted : link.put < 2 ^ 64) where
+module _ (link : FeedSeen) (few : length link.queue.lines ≤ link.queue.limit) (counted : link.put < 2 ^ 64) where
   -- one line
   pub one_taken : (line : List ℕ) → with_run (line ∷ []) link ≡ with_copy line link
   unfolding with_run with_copy

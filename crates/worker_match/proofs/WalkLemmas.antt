@@ -5,11 +5,11 @@ use Rattle.std.proofs.lemmas.List.Elements.{All-drop, All-take}
 use Rattle.std.proofs.lemmas.List.{drop_all, drop_more}
 use Rattle.worker_match.specs.declared.items.Item.{Item}
 use Rattle.worker_match.specs.Items.{item_seen, items_seen}
-use Rattle.worker_match.specs.Seen.{LinkSeen, ItemSeen}
+use Rattle.worker_match.specs.Seen.{FeedSeen, ItemSeen}
 use Rattle.worker_match.specs.Walk.{IsOrdered, after, is_open, met, walked}
 
 -- a link that doesn't live, or is over, stays
-pub closed_stays : (items : List ItemSeen) (link : LinkSeen) → is_open link ≡ false → walked items link ≡ link
+pub closed_stays : (items : List ItemSeen) (link : FeedSeen) → is_open link ≡ false → walked items link ≡ link
 closed_stays [] link is = refl
 closed_stays (item ∷ items) link is = ap (walked items) (ap (λ b. cond b (met item link) link) is) ∙ closed_stays items link is
 
@@ -18,7 +18,7 @@ pub left_is : (items : List Item) (i : ℕ) (x : Item) → i < length items → 
 left_is items i x lt at = drop_more items i x lt ∙ ap (λ y. y ∷ drop (i + 1) items) (sym at)
 
 -- one item more
-pub walk_more : (items : List Item) (i : ℕ) (x : Item) (link new total : LinkSeen) → i < length items → x ≡ get_or items i x → is_open link ≡ true
+pub walk_more : (items : List Item) (i : ℕ) (x : Item) (link new total : FeedSeen) → i < length items → x ≡ get_or items i x → is_open link ≡ true
     → new ≡ met (item_seen x) link → walked (items_seen (drop i items)) link ≡ total → walked (items_seen (drop (i + 1) items)) new ≡ total
 walk_more items i x link new total lt at open' is so_far =
     ap (walked (items_seen (drop (i + 1) items)))
@@ -64,12 +64,12 @@ module _ (n : ℕ) (items : List Item) where
   pub ordered_back : All IsOrdered (items_seen items) → All IsOrdered (items_seen (drop n items))
   ordered_back all = subst (All IsOrdered) (drop-map item_seen n items) (All-drop IsOrdered n (items_seen items) all)
 
-walked_on : (n : ℕ) (items : List Item) (link : LinkSeen) → walked (items_seen (drop n items)) (walked (items_seen (take n items)) link) ≡ walked (items_seen items) link
+walked_on : (n : ℕ) (items : List Item) (link : FeedSeen) → walked (items_seen (drop n items)) (walked (items_seen (take n items)) link) ≡ walked (items_seen items) link
 walked_on zero items link = refl
 walked_on (suc n) [] link = refl
 walked_on (suc n) (x ∷ items) link = walked_on n items (after link (item_seen x))
 
-all_walked_on : (n : ℕ) (items : List Item) (links : List LinkSeen)
+all_walked_on : (n : ℕ) (items : List Item) (links : List FeedSeen)
     → map (walked (items_seen (drop n items))) (map (walked (items_seen (take n items))) links) ≡ map (walked (items_seen items)) links
 all_walked_on n items [] = refl
 all_walked_on n items (link ∷ links) =
@@ -77,7 +77,7 @@ all_walked_on n items (link ∷ links) =
     ∙ ap (λ others. walked (items_seen items) link ∷ others) (all_walked_on n items links)
 
 -- one block more
-pub block_more : (n : ℕ) (items block later : List Item) (links new total : List LinkSeen) → block ≡ take n items → later ≡ drop n items
+pub block_more : (n : ℕ) (items block later : List Item) (links new total : List FeedSeen) → block ≡ take n items → later ≡ drop n items
     → new ≡ map (walked (items_seen block)) links → map (walked (items_seen items)) links ≡ total → map (walked (items_seen later)) new ≡ total
 block_more n items block later links new total front back is so_far =
     ap (λ left. map (walked (items_seen left)) new) back
@@ -86,10 +86,10 @@ block_more n items block later links new total front back is so_far =
     ∙ so_far
 
 -- no items are left
-unchanged : (links : List LinkSeen) → map (walked []) links ≡ links
+unchanged : (links : List FeedSeen) → map (walked []) links ≡ links
 unchanged [] = refl
 unchanged (link ∷ links) = ap (λ others. link ∷ others) (unchanged links)
 
-pub blocks_done : (rest : List Item) (links total : List LinkSeen) → length rest ≡ 0 → map (walked (items_seen rest)) links ≡ total → links ≡ total
+pub blocks_done : (rest : List Item) (links total : List FeedSeen) → length rest ≡ 0 → map (walked (items_seen rest)) links ≡ total → links ≡ total
 blocks_done [] links total none so_far = sym (unchanged links) ∙ so_far
 blocks_done (x ∷ rest) links total none so_far = absurd (omega arith)

@@ -7,7 +7,7 @@ use Rattle.filter_eval.specs.Passes.{is_some_and}
 use Rattle.link_queue.specs.Queues.{with_lines}
 use Rattle.worker_match.specs.declared.links.Feed.{Feed}
 use Rattle.worker_match.specs.declared.links.Feed.TheVariants as feed
-use Rattle.worker_match.specs.Seen.{LinkSeen, ItemSeen, Came}
+use Rattle.worker_match.specs.Seen.{FeedSeen, ItemSeen, Came}
 use Rattle.worker_match.specs.Walk.{is_open}
 
 -- the lines of the packets that aren't refused duplicates, the links that packets came from, and the marks of their sources
@@ -75,23 +75,23 @@ takes_some feed.Nothing = false
 takes_some feed.Dupe = false
 takes_some other = true
 
-abbrev pub is_eager : LinkSeen → Bool
+abbrev pub is_eager : FeedSeen → Bool
 is_eager link = is_open link && takes_some link.feed
 
 -- it lives, isn't over, takes all packets, and has no filter
-abbrev pub is_plain : LinkSeen → Bool
+abbrev pub is_plain : FeedSeen → Bool
 is_plain link = (is_open link && takes_all link.feed) && is_none link.filter
 
 -- it is plain, and no packet has its login's mark
-abbrev pub suits_others : LinkSeen → RunSeen → Bool
+abbrev pub suits_others : FeedSeen → RunSeen → Bool
 suits_others link run = is_plain link && not (is_some_and (λ own. list_any (λ other. mark own == other) run.marks) link.me)
 
 -- and none came from it
-abbrev pub suits : LinkSeen → RunSeen → Bool
+abbrev pub suits : FeedSeen → RunSeen → Bool
 suits link run = suits_others link run && not (list_any (λ sender. link.link == sender) run.senders)
 
 -- as many lines as fit are behind its queue, and are counted; where one doesn't the link is over
-unfoldable pub with_run : List (List ℕ) → LinkSeen → LinkSeen
+unfoldable pub with_run : List (List ℕ) → FeedSeen → FeedSeen
 with_run lines link =
     let room = link.queue.limit - length link.queue.lines in
     record link {

@@ -1,4 +1,4 @@
--- What a link and the items that come to it are seen as: what is shared is what it points to.
+-- What a link's feed and the items that come to it are seen as: what is shared is what it points to.
 use Rattle.std.specs.Prelude.{ℕ, Bool, List, Option}
 use Rattle.aprs_base.specs.PacketSeen.{PacketSeen}
 use Rattle.filter_lang.specs.Terms.{TermSeen}
@@ -6,7 +6,7 @@ use Rattle.filter_eval.specs.declared.seen.Seen.{Seen}
 use Rattle.link_queue.specs.Queues.{QueueSeen}
 use Rattle.worker_match.specs.declared.links.Feed.{Feed}
 
-pub record LinkSeen : Type 0 where
+pub record FeedSeen : Type 0 where
   pub link : ℕ
   pub feed : Feed
   pub inbound : Bool

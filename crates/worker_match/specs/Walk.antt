@@ -13,7 +13,7 @@ use Rattle.station_table.specs.Stations.{seen_in}
 use Rattle.link_queue.specs.Queues.{QueueSeen, with_line}
 use Rattle.worker_match.specs.declared.links.Feed.{Feed}
 use Rattle.worker_match.specs.declared.links.Feed.TheVariants as feed
-use Rattle.worker_match.specs.Seen.{LinkSeen, SessionSeen, OfferSeen, ItemSeen, Told, ToldAll, Ended, Became, Came}
+use Rattle.worker_match.specs.Seen.{FeedSeen, SessionSeen, OfferSeen, ItemSeen, Told, ToldAll, Ended, Became, Came}
 
 -- ---- what a link wants
 
@@ -27,19 +27,19 @@ terms_of None = []
 terms_of (Some terms) = terms
 
 -- its filter passes the packet, or the message rule asks for it there
-abbrev pub is_chosen : OfferSeen → LinkSeen → Bool
+abbrev pub is_chosen : OfferSeen → FeedSeen → Bool
 is_chosen offer link =
     passes_of (terms_of link.filter) offer.packet link.friends link.mine offer.known offer.gate
     || list_any (λ other. link.link == other) offer.extra
 
-abbrev pub feed_wants : Feed → OfferSeen → LinkSeen → Bool
+abbrev pub feed_wants : Feed → OfferSeen → FeedSeen → Bool
 feed_wants feed.Nothing offer link = false
 feed_wants feed.Full offer link = not offer.dupe
 feed_wants feed.Up offer link = not offer.dupe && offer.submitted
 feed_wants feed.Dupe offer link = offer.dupe
 feed_wants feed.Filter offer link = not offer.dupe && is_chosen offer link
 
-abbrev pub wants : OfferSeen → LinkSeen → Bool
+abbrev pub wants : OfferSeen → FeedSeen → Bool
 wants offer link = not (is_from link.link offer.packet.from) && feed_wants link.feed offer link
 
 -- ---- lines
@@ -48,15 +48,15 @@ abbrev pub is_full : QueueSeen → Bool
 is_full queue = length queue.lines == queue.limit
 
 -- a line more to take, where it fits; else the link is over
-unfoldable pub with_text : List ℕ → LinkSeen → LinkSeen
+unfoldable pub with_text : List ℕ → FeedSeen → FeedSeen
 with_text line link = if is_full link.queue then record link { over = true } else record link { queue = with_line line link.queue }
 
 -- one more, which stays at a counter's last value
 abbrev pub one_more : ℕ → ℕ
 one_more count = min (count + 1) (2 ^ 64 - 1)
 
--- the same for a packet's line, which is counted where it fits
-unfoldable pub with_copy : List ℕ → LinkSeen → LinkSeen
+-- a packet's line more to take, which is counted where it fits; else the link is over
+unfoldable pub with_copy : List ℕ → FeedSeen → FeedSeen
 with_copy line link =
     if is_full link.queue then record link { over = true }
     else record link { queue = with_line line link.queue; put = one_more link.put }
@@ -82,7 +82,7 @@ abbrev pub mine_seen : List ℕ → Seen → Option (List ℕ) → Option Seen �
 mine_seen call seen me mine = if is_some_and (λ own. is_text own call) me then Some seen else mine
 
 -- a station was seen
-abbrev pub with_seen : List ℕ → Option Seen → LinkSeen → LinkSeen
+abbrev pub with_seen : List ℕ → Option Seen → FeedSeen → FeedSeen
 with_seen call None link = link
 with_seen call (Some seen) link =
     record link { friends = friends_seen call seen (terms_of link.filter) link.friends; mine = mine_seen call seen link.me link.mine }
@@ -93,7 +93,7 @@ told_by offer = if offer.dupe then None else seen_in offer.packet
 
 -- ---- items
 
-abbrev pub with_session : SessionSeen → LinkSeen → LinkSeen
+abbrev pub with_session : SessionSeen → FeedSeen → FeedSeen
 with_session session link = record link {
   feed = session.feed;
   me = session.me;
@@ -102,24 +102,24 @@ with_session session link = record link {
   mine = session.mine;
 }
 
-abbrev pub with_packet : OfferSeen → LinkSeen → LinkSeen
+abbrev pub with_packet : OfferSeen → FeedSeen → FeedSeen
 with_packet offer link = if wants offer link then with_copy offer.packet.line link else link
 
 -- what an item leaves of a link that lives and isn't over
-abbrev pub met : ItemSeen → LinkSeen → LinkSeen
+abbrev pub met : ItemSeen → FeedSeen → FeedSeen
 met (Told number line) link = if link.link == number then with_text line link else link
 met (ToldAll line) link = if link.inbound then with_text line link else link
 met (Ended number) link = if link.link == number then record link { alive = false } else link
 met (Became session) link = if link.link == session.link then with_session session link else link
 met (Came offer) link = with_seen offer.packet.parts.source (told_by offer) (with_packet offer link)
 
-abbrev pub is_open : LinkSeen → Bool
+abbrev pub is_open : FeedSeen → Bool
 is_open link = link.alive && not link.over
 
-abbrev pub after : LinkSeen → ItemSeen → LinkSeen
+abbrev pub after : FeedSeen → ItemSeen → FeedSeen
 after link item = if is_open link then met item link else link
 
-abbrev pub walked : List ItemSeen → LinkSeen → LinkSeen
+abbrev pub walked : List ItemSeen → FeedSeen → FeedSeen
 walked items link = fold after link items
 
 -- the numbers that it names rise

@@ -5,13 +5,13 @@ ghost use Rattle.worker_match.specs.Runs.{IsRunOf, suits_others};
 ghost use Rattle.worker_match.specs.Walk.{IsOrdered, walked};
 
 use crate::items::Item;
-use crate::links::LinkState;
+use crate::links::LinkFeed;
 use crate::offers::offered;
 use crate::runs::Run;
 use aprs_base::Memory;
 
 /// One link meets the items, as long as it lives and isn't over, and takes the lines that it wants from their run.
-pub(crate) fn walk_along(link: &mut LinkState, items: &[Item], run: &Run) -> Result<(), Memory>
+pub(crate) fn walk_along(link: &mut LinkFeed, items: &[Item], run: &Run) -> Result<(), Memory>
     requires ordered { All IsOrdered (items_seen items.now) }
     requires run { IsRunOf (items_seen items.now) run.now }
     ensures { OnOk result (link.new ≡ walked (items_seen items.now) link.old) }
@@ -32,7 +32,7 @@ pub(crate) fn walk_along(link: &mut LinkState, items: &[Item], run: &Run) -> Res
 }
 
 /// A link that takes all lines that others sent takes the stretches of the run between its own packets.
-pub(crate) fn take_others(link: &mut LinkState, items: &[Item], run: &Run) -> Result<(), Memory>
+pub(crate) fn take_others(link: &mut LinkFeed, items: &[Item], run: &Run) -> Result<(), Memory>
     requires run { IsRunOf (items_seen items.now) run.now }
     requires suits { suits_others link.old run.now ≡ true }
     ensures { OnOk result (link.new ≡ walked (items_seen items.now) link.old) }

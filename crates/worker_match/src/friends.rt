@@ -49,7 +49,7 @@ pub(crate) fn see_friends(call: &Call, seen: Seen, filter: &FilterSet, friends: 
     );
 }
 
-/// The same of a link's own login.
+/// Where a link's own login was last seen, once a station was seen.
 pub(crate) fn see_mine(call: &Call, seen: Seen, me: &Option<Call>, mine: &mut Option<Seen>)
     ensures { mine.new ≡ mine_seen call.now seen me.now mine.old }
 {

@@ -1,4 +1,4 @@
-//! Links and what comes to them: one walk of each link over a list of items, shared out among workers.
+//! What links are fed, and what comes to them: one walk of each link over a list of items, shared out among workers.
 #![tactic(auto)]
 
 mod along;
@@ -12,5 +12,5 @@ mod workers;
 
 pub use items::Item;
 pub use laws::links_take_what_they_want;
-pub use links::{Feed, LinkState};
+pub use links::{Feed, LinkFeed};
 pub use workers::spread;

@@ -32,9 +32,9 @@ pub enum Feed {
     Filter,
 }
 
-/// A link: what it is fed, and the lines that it has still to take. What every walk over items needs stands first.
+/// What a link is fed, and the lines that it has still to take. What every walk over items needs stands first.
 #[derive(Drop)]
-pub struct LinkState {
+pub struct LinkFeed {
     pub link: u32,
     pub feed: Feed,
     /// Whether it was opened from the other side.
@@ -54,12 +54,12 @@ pub struct LinkState {
     pub mine: Option<Seen>,
 }
 
-impl Model for LinkState {
+impl Model for LinkFeed {
     ghost use Rattle.std.specs.Prelude.{option_map};
     ghost use Rattle.std.specs.Arc.{arc_value};
-    ghost use Rattle.worker_match.specs.Seen.{LinkSeen};
+    ghost use Rattle.worker_match.specs.Seen.{FeedSeen};
 
-    ghost Value = { LinkSeen };
+    ghost Value = { FeedSeen };
 
     ghost view = { λ l. record {
       link = l.link;
@@ -76,7 +76,7 @@ impl Model for LinkState {
     } };
 }
 
-impl LinkState {
+impl LinkFeed {
     /// Whether items change it.
     pub(crate) fn is_open(&self) -> bool
         ensures { result ≡ is_open self.now }
@@ -118,7 +118,7 @@ impl LinkState {
         Ok(())
     }
 
-    /// The same for all its lines.
+    /// Takes all lines of a batch, which are counted, as many as fit; where one doesn't the link is over.
     pub(crate) fn take_run(&mut self, batch: &Arc<Batch>) -> Result<(), Memory>
         ensures ok { OnOk result (self.new ≡ with_run (arc_value batch.now) self.old) }
         ensures err { OnErr result (self.new ≡ self.old) }
@@ -137,7 +137,7 @@ impl LinkState {
         }
     }
 
-    /// The same for a packet's line, which is counted where it fits.
+    /// Takes a packet's line, which is counted where it fits; where it doesn't the link is over.
     fn push_copy(&mut self, line: Arc<Line>)
         ensures { self.new ≡ with_copy (arc_value line) self.old }
     {
@@ -259,7 +259,8 @@ impl LinkState {
         }
     }
 
-    /// The same, and sees where its source is.
+    /// Meets a packet whose line, where it is no refused duplicate, is that of a batch from the place `from` to before the
+    /// place `to`. After `Memory` nothing is said of the link.
     pub(crate) fn meet_placed(
         &mut self,
         offer: &Offer,
@@ -342,7 +343,7 @@ impl LinkState {
         }
     }
 
-    /// The same, where it lives and isn't over.
+    /// What an item leaves of it, where it lives and isn't over. `Memory` changes nothing.
     pub(crate) fn meet(&mut self, item: &Item) -> Result<(), Memory>
         requires { IsOrdered (item_seen item.now) }
         ensures ok { OnOk result (self.new ≡ met (item_seen item.now) self.old) }
@@ -390,7 +391,7 @@ fn takes_some(feed: Feed) -> bool
     }
 }
 
-/// The same filter, shared once more.
+/// A filter, shared once more.
 fn copy_filter(filter: &Option<Arc<FilterSet>>) -> Result<Option<Arc<FilterSet>>, Memory>
     ensures { IfOk result (λ copy. option_map arc_value copy ≡ option_map arc_value filter.now) }
 {

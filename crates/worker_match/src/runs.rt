@@ -7,7 +7,7 @@ ghost use Rattle.worker_match.specs.Items.{item_seen, items_seen};
 ghost use Rattle.worker_match.specs.Runs.{IsRunOf, added, empty_run, fresh, is_packet, mark, sent_by, suits, suits_others};
 
 use crate::items::Item;
-use crate::links::LinkState;
+use crate::links::LinkFeed;
 use aprs_base::{Call, Line, Memory, Source};
 use link_queue::Batch;
 use std::alloc::Global;
@@ -34,14 +34,14 @@ impl Model for Run {
 impl Run {
     /// Whether the link takes just the lines that others sent: it takes all packets, and none of these has its login's mark,
     /// so that none tells where it is.
-    pub fn suits_others(&self, link: &LinkState) -> bool
+    pub fn suits_others(&self, link: &LinkFeed) -> bool
         ensures { result ≡ suits_others link.now self.now }
     {
         link.is_plain() && !self.has_mark_of(&link.me)
     }
 
     /// Whether it takes just these lines: none of them came from it.
-    pub fn suits(&self, link: &LinkState) -> bool
+    pub fn suits(&self, link: &LinkFeed) -> bool
         ensures { result ≡ suits link.now self.now }
     {
         self.suits_others(link) && !is_among(link.link, self.senders.as_slice())
@@ -69,7 +69,7 @@ fn is_among(number: u32, numbers: &[u32]) -> bool
     found
 }
 
-/// The same for marks.
+/// Whether a mark is among these: several are compared at once.
 fn is_marked(mark: u64, marks: &[u64]) -> bool
     ensures { result ≡ list_any (λ other. mark == other) marks.now }
 {

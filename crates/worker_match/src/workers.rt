@@ -7,7 +7,7 @@ ghost use Rattle.worker_match.specs.Walk.{IsOrdered, walked};
 
 use crate::along::{take_others, walk_along};
 use crate::items::Item;
-use crate::links::LinkState;
+use crate::links::LinkFeed;
 use crate::runs::{Run, run_of};
 use aprs_base::{Gate, Memory};
 use std::thread::{Threads, join_mut};
@@ -35,7 +35,7 @@ struct Course {
 
 impl Course {
     /// Whether a run pays for the link.
-    fn needs_run(self, link: &LinkState) -> bool {
+    fn needs_run(self, link: &LinkFeed) -> bool {
         link.is_plain() || (self.apart && link.is_eager())
     }
 }
@@ -44,7 +44,7 @@ impl Course {
 /// time, each between its entering and its leaving the gate. After `Memory` nothing is said of the links.
 pub fn spread<R: Threads + Sync, G: Gate + Sync>(
     rt: &R,
-    links: &mut [LinkState],
+    links: &mut [LinkFeed],
     items: &[Item],
     workers: u32,
     gate: &G,
@@ -82,7 +82,7 @@ fn front_size(links: usize, parts: u32, workers: u32) -> usize
 /// The parts from `part` on, one for each worker.
 fn split<R: Threads + Sync, G: Gate + Sync>(
     rt: &R,
-    links: &mut [LinkState],
+    links: &mut [LinkFeed],
     items: &[Item],
     workers: u32,
     part: u32,
@@ -117,7 +117,7 @@ fn split<R: Threads + Sync, G: Gate + Sync>(
 
 /// One part, through the gate.
 fn pass<G: Gate>(
-    links: &mut [LinkState],
+    links: &mut [LinkFeed],
     items: &[Item],
     part: u32,
     course: Course,
@@ -133,7 +133,7 @@ fn pass<G: Gate>(
 }
 
 /// Each link meets the items in their order, a block of them after another.
-fn walk(links: &mut [LinkState], items: &[Item], course: Course) -> Result<(), Memory>
+fn walk(links: &mut [LinkFeed], items: &[Item], course: Course) -> Result<(), Memory>
     requires { All IsOrdered (items_seen items.now) }
     ensures { OnOk result (links.new ≡ map (walked (items_seen items.now)) links.old) }
 {
@@ -148,7 +148,7 @@ fn walk(links: &mut [LinkState], items: &[Item], course: Course) -> Result<(), M
 }
 
 /// How many items a block has. A run is one text to all who take it, and is the better the longer it is.
-fn block_size(links: &[LinkState], items: &[Item]) -> usize
+fn block_size(links: &[LinkFeed], items: &[Item]) -> usize
     ensures { (1 ≤ result) × (result ≤ 1000) }
 {
     if items.len() <= BLOCK {
@@ -165,7 +165,7 @@ fn block_size(links: &[LinkState], items: &[Item]) -> usize
 }
 
 /// Each link meets the items in their order.
-fn walk_block(links: &mut [LinkState], items: &[Item], course: Course) -> Result<(), Memory>
+fn walk_block(links: &mut [LinkFeed], items: &[Item], course: Course) -> Result<(), Memory>
     requires few { length items.now ≤ 1000 }
     requires ordered { All IsOrdered (items_seen items.now) }
     ensures { OnOk result (links.new ≡ map (walked (items_seen items.now)) links.old) }
@@ -174,9 +174,9 @@ fn walk_block(links: &mut [LinkState], items: &[Item], course: Course) -> Result
     walk_links(links, items, &run, course)
 }
 
-/// The same, one link after another.
+/// The links meet the items, one link after another: where these are one run, a link may take that.
 fn walk_links(
-    links: &mut [LinkState],
+    links: &mut [LinkFeed],
     items: &[Item],
     run: &Option<Run>,
     course: Course,
@@ -192,7 +192,7 @@ fn walk_links(
 }
 
 /// The items as one run, where they are packets alone and a run pays.
-fn run_for(links: &[LinkState], items: &[Item], course: Course) -> Result<Option<Run>, Memory>
+fn run_for(links: &[LinkFeed], items: &[Item], course: Course) -> Result<Option<Run>, Memory>
     requires { length items.now ≤ 1000 }
     ensures { IfOk result (λ run. IfSome run (λ run. IsRunOf (items_seen items.now) run)) }
 {
@@ -204,7 +204,7 @@ fn run_for(links: &[LinkState], items: &[Item], course: Course) -> Result<Option
 
 /// One link meets the items, or takes their run's lines where that comes to the same.
 fn meet_block(
-    link: &mut LinkState,
+    link: &mut LinkFeed,
     items: &[Item],
     run: &Option<Run>,
     course: Course,
@@ -222,7 +222,7 @@ fn meet_block(
 }
 
 /// One link meets the items, as long as it lives and isn't over.
-fn walk_link(link: &mut LinkState, items: &[Item]) -> Result<(), Memory>
+fn walk_link(link: &mut LinkFeed, items: &[Item]) -> Result<(), Memory>
     requires { All IsOrdered (items_seen items.now) }
     ensures { OnOk result (link.new ≡ walked (items_seen items.now) link.old) }
 {

@@ -1,7 +1,7 @@
 //! The lines that a round's events bring, before any of them is walked.
 ghost use Rattle.std.specs.Prelude.{◌≡◌, OnOk};
 
-use super::Walker;
+use super::State;
 use super::datagrams::cut_datagram;
 use aprs_base::{Cut, Cutter, Event, Line, Memory};
 use indexmap::IndexMap;
@@ -45,7 +45,7 @@ fn cut_on(
 }
 
 /// Takes the lines out of what was cut, and appends them.
-fn take_lines(cuts: &mut Vec<Cut>, lines: &mut Vec<Line>) -> Result<(), Memory> {
+fn move_lines(cuts: &mut Vec<Cut>, lines: &mut Vec<Line>) -> Result<(), Memory> {
     for cut in cuts.drain(..) {
         match cut {
             Cut::Line(line) => lines.push(line)?,
@@ -75,7 +75,7 @@ fn lines_of(
             }
             _ => {}
         }
-        take_lines(&mut cuts, &mut lines)?;
+        move_lines(&mut cuts, &mut lines)?;
     }
     Ok(lines)
 }
@@ -102,7 +102,7 @@ fn bring_many(events: &[Event]) -> bool {
     bytes >= MANY_BYTES
 }
 
-impl Walker {
+impl State {
     /// Where the events bring many lines, these are parsed, side by side.
     pub(super) fn look_ahead<R: Threads + Sync>(
         &mut self,

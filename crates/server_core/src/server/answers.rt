@@ -12,7 +12,7 @@ ghost use Rattle.server_core.specs.Steps.{with_verdict};
 ghost use Rattle.server_core.specs.Telling.{said_lines};
 
 use super::verdicts::{Objection, refusal_for};
-use super::{Walker, raised};
+use super::{State, raised};
 use crate::conf::server_of;
 use crate::places::friends_found;
 use aprs_base::{JournalLine, Line, Memory, Parts, Source};
@@ -22,7 +22,7 @@ use line_verdict::{denied_line, login_line, refusal_line};
 use std::alloc::Global;
 use std::sync::Arc;
 
-impl Walker {
+impl State {
     /// A duplicate is refused, and is counted: the links that are shown such take it.
     pub(super) fn show(
         &mut self,
@@ -99,8 +99,8 @@ impl Walker {
         self.refuse(alloc, from, refusal)
     }
 
-    /// The same where that is what there is against it. It is rare: by itself it leaves no room for a refusal to be cleared at each
-    /// line.
+    /// A line that came from there is refused for what there is against it, which is told and done. It is rare: by itself it leaves no
+    /// room for a refusal to be cleared at each line.
     #[inline(never)]
     pub(super) fn object(
         &mut self,

@@ -1,6 +1,6 @@
 //! Datagrams: those that stations submit, and those of the peer group.
 ghost use Rattle.std.specs.Prelude.{◌≡◌, ◌∷◌, ◌++◌, ℕ, IsTrue, IfOk, OnOk, IfSome, IsNone, List, Some, None, map};
-ghost use Rattle.aprs_history.specs.Trace.{Trace, Said};
+ghost use Rattle.aprs_history.specs.Trace.{Trace};
 ghost use Rattle.aprs_history.specs.Setting.{kind_at, peer_from};
 ghost use Rattle.aprs_base.specs.declared.cutting.Cut.{Cut};
 ghost use Rattle.q_construct.specs.Rule.{has_station};
@@ -13,7 +13,7 @@ ghost use Rattle.server_core.specs.Meaning.{peer_of, setting_of};
 ghost use Rattle.server_core.specs.Steps.{SameRest, Walks, carried_at, with_verdict};
 ghost use Rattle.server_core.specs.Telling.{Tells, said_lines};
 
-use super::Walker;
+use super::State;
 use super::verdicts::Objection;
 use crate::conf::{peer_from, peers_of, served_by, server_of};
 use aprs_base::{Addr, Cut, Cutter, JournalLine, Memory, PortKind, Source, copy_call};
@@ -33,9 +33,9 @@ pub(super) fn cut_datagram(alloc: Global, bytes: &[u8]) -> Result<Vec<Cut>, Memo
     Ok(cuts)
 }
 
-impl Walker {
-    /// What a line of a datagram said.
-    fn take_carried(
+impl State {
+    /// A line of a datagram.
+    fn take_datagram_line(
         &mut self,
         alloc: Global,
         from: Source,
@@ -55,28 +55,8 @@ impl Walker {
         }
     }
 
-    /// A line of a datagram, as the trace goes on by it.
-    fn carry(
-        &mut self,
-        alloc: Global,
-        from: Source,
-        origin: &Origin,
-        cut: &Cut,
-        lines: &mut Vec<JournalLine>,
-    ) -> Result<(), Memory>
-        requires station { IsTrue (has_station origin.now) }
-        requires datagram { IsDatagram from }
-        ensures walks { (t : Trace) → Walks self.old t
-            → OnOk result (Walks self.new (Said from cut.now (verdict_of (datagram_scene (setting_of self.old.conf) origin.now t) cut.now) ∷ t)) }
-        ensures tells { (t : Trace) → Walks self.old t
-            → OnOk result (Tells (setting_of self.old.conf) t (Said from cut.now (verdict_of (datagram_scene (setting_of self.old.conf) origin.now t) cut.now) ∷ t) lines.old.items lines.new.items) }
-        ensures rest { OnOk result (SameRest self.old self.new) }
-    {
-        self.take_carried(alloc, from, origin, cut, lines)
-    }
-
-    /// The same for several lines, one after another.
-    fn carry_all(
+    /// Lines of a datagram, one after another.
+    fn take_datagram_lines(
         &mut self,
         alloc: Global,
         from: Source,
@@ -93,7 +73,7 @@ impl Walker {
         ensures rest { OnOk result (SameRest self.old self.new) }
     {
         for cut in cuts {
-            self.carry(alloc, from, origin, cut, lines)?;
+            self.take_datagram_line(alloc, from, origin, cut, lines)?;
         }
         Ok(())
     }
@@ -129,7 +109,7 @@ impl Walker {
         ensures rest { OnOk result (SameRest self.old self.new) }
     {
         match submitter_of(server_of(&self.conf), first) {
-            Ok(login) => self.carry_all(
+            Ok(login) => self.take_datagram_lines(
                 alloc,
                 Source::Submit(listener),
                 &Origin::Udp { login },
@@ -168,7 +148,13 @@ impl Walker {
         ensures rest { OnOk result (SameRest self.old self.new) }
     {
         match self.peer_at(from) {
-            Some((peer, origin)) => self.carry_all(alloc, Source::Peer(peer), &origin, cuts, lines),
+            Some((peer, origin)) => self.take_datagram_lines(
+                alloc,
+                Source::Peer(peer),
+                &origin,
+                cuts,
+                lines,
+            ),
             None => self.refuse_datagram(alloc, listener, Refusal::Stranger, lines),
         }
     }

@@ -11,14 +11,14 @@ ghost use Rattle.server_core.specs.Meaning.{setting_of, timeouts_of};
 ghost use Rattle.server_core.specs.Steps.{SameRest, Walks};
 ghost use Rattle.server_core.specs.Telling.{KnowUnasked, Tells};
 
-use super::Walker;
+use super::State;
 use crate::conf::timeouts;
 use crate::messages::forget_all;
 use crate::numbers::place_all;
 use aprs_base::{Event, JournalLine, Memory};
 use std::alloc::Global;
 
-impl Walker {
+impl State {
     /// A link was ended by its peer.
     pub(super) fn end(&mut self, number: u32) -> Result<(), Memory>
         ensures live { (t : Trace) → Walks self.old t → IsTrue (is_live t number) → OnOk result (Walks self.new (Ended number ByPeer ∷ t)) }
@@ -44,7 +44,7 @@ impl Walker {
     {
         let ends = self.late(alloc)?;
         self.tell_late(lines)?;
-        self.drop_late(ends.as_slice())
+        self.let_go(ends.as_slice())
     }
 
     /// The numbers of the links that are late.
@@ -72,15 +72,6 @@ impl Walker {
         place_all(&mut self.closing, ends)
     }
 
-    /// The links that are late leave, and are to be closed.
-    fn drop_late(&mut self, ends: &[u32]) -> Result<(), Memory>
-        ensures walks { (t : Trace) → Walks self.old t → ends.now ≡ numbers (filter (is_late_link (timeouts_of self.old.conf) self.old.seen.moment) self.old.seen.links)
-            → OnOk result (Walks self.new (end_each (late_reason t) (late_links (setting_of self.old.conf) t) t)) }
-        ensures rest { OnOk result (SameRest self.old self.new) }
-    {
-        self.let_go(ends)
-    }
-
     /// The links that are overfull end, and those that were turned away.
     pub(super) fn end_refused(
         &mut self,
@@ -98,7 +89,7 @@ impl Walker {
     {
         let ends = self.refused(alloc)?;
         self.tell_refused(ends.as_slice(), events, lines)?;
-        self.drop_refused(ends.as_slice())
+        self.let_go(ends.as_slice())
     }
 
     /// The numbers of the links that are overfull or were turned away, rising.
@@ -109,16 +100,6 @@ impl Walker {
         let mut ends = self.links.overfull(alloc)?;
         place_all(&mut ends, self.turned.as_slice())?;
         Ok(ends)
-    }
-
-    /// These links leave, and are to be closed.
-    fn drop_refused(&mut self, ends: &[u32]) -> Result<(), Memory>
-        ensures walks { (t : Trace) → Walks self.old t → ends.now ≡ placed_all self.old.seen.turned (numbers (filter is_overfull self.old.seen.links))
-            → OnOk result (Walks self.new (end_each (refused_reason t) (refused_links (setting_of self.old.conf) t) t)) }
-        ensures rest { OnOk result (SameRest self.old self.new) }
-        ensures rests { OnOk result (self.new.rests ≡ self.old.rests) }
-    {
-        self.let_go(ends)
     }
 
     /// After a stop all links end, and keep what they have still to take.
@@ -136,7 +117,7 @@ impl Walker {
     {
         if self.stopped {
             let ends = self.all(alloc)?;
-            self.tell_stopped(lines)?;
+            self.links.tell_stopped(self.moment, lines)?;
             self.close_all(ends.as_slice())?;
         }
         Ok(())

@@ -13,7 +13,7 @@ ghost use Rattle.server_core.specs.Meaning.{setting_of};
 ghost use Rattle.server_core.specs.Steps.{SameRest, Walks};
 ghost use Rattle.server_core.specs.Telling.{Tells};
 
-use super::Walker;
+use super::State;
 use crate::conf::{code_of, is_client_kind, most_clients, served_by, server_of};
 use aprs_base::{Addr, JournalLine, Line, Memory};
 use aprs_history::{Admission, LinkKind};
@@ -31,7 +31,7 @@ fn joined_outcome(uplink: u16, asked: bool) -> Admission
     }
 }
 
-impl Walker {
+impl State {
     /// What becomes of a connection on that listener.
     fn admission(&self, listener: u16) -> Admission
         ensures value { result ≡ admitted self.now.conf.max_clients (clients_in self.now.seen.links) (kind_at (setting_of self.now.conf) listener) }

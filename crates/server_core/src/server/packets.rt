@@ -1,25 +1,24 @@
 //! What an accepted packet comes to.
-ghost use Rattle.std.specs.Prelude.{◌≡◌, ◌≤◌, ◌++◌, IsTrue, IfOk, OnOk, false, length, map};
+ghost use Rattle.std.specs.Prelude.{◌≡◌, ◌++◌, IsTrue, IfOk, OnOk, false, map};
 ghost use Rattle.std.specs.Arc.{arc_value};
 ghost use Rattle.std.specs.List.Sorted.{IsStrictlyIncreasing};
 ghost use Rattle.aprs_body.specs.Bodies.{body_of};
 ghost use Rattle.dupe_window.specs.Keys.{key_of};
 ghost use Rattle.dupe_window.specs.Windows.{has_copy};
 ghost use Rattle.aprs_history.specs.Verdicts.{packet_verdict, read_and_routed};
-ghost use Rattle.aprs_history.specs.declared.verdicts.Verdict.{Verdict};
+ghost use Rattle.aprs_history.specs.Scenes.{packet_of};
 ghost use Rattle.server_core.specs.LinkSteps.{after_packet, cast_with, noted_from, owed_in, promised_all, source_found, spent};
 ghost use Rattle.served_links.specs.Links.{others_from, submitted_from};
 ghost use Rattle.server_core.specs.Meaning.{peer_of};
 ghost use Rattle.q_construct.specs.Rule.{has_station};
 ghost use Rattle.server_core.specs.Steps.{with_verdict};
 ghost use Rattle.server_core.specs.Telling.{said_lines};
-ghost use Rattle.tnc2_line.specs.Packet.{IsParts, parts_of, text_of};
+ghost use Rattle.tnc2_line.specs.Packet.{parts_of};
 
-use super::{Walker, raised};
+use super::{State, raised};
 use crate::conf::peers_of;
 use crate::messages::{hearers_of, is_position, note_from, owed_to, promise_all, receiver_of};
 use aprs_base::{Body, JournalLine, Line, Memory, Packet, Parts, Shared, Source};
-use aprs_history::Verdict;
 use dupe_window::Key;
 use line_verdict::line_of;
 use q_construct::Origin;
@@ -27,7 +26,7 @@ use served_links::SourcePlace;
 use std::alloc::Global;
 use std::sync::Arc;
 
-impl Walker {
+impl State {
     /// Where a packet's source was last seen, whether it is a gate, and whether the packet was submitted here.
     fn source_of(&self, packet: &Packet) -> SourcePlace
         ensures { result ≡ source_found self.now.seen packet.now.from packet.now.parts.source }
@@ -53,7 +52,14 @@ impl Walker {
     }
 
     /// The links that heard a message's receiver are promised its sender's next position, and a client has heard its source.
-    fn promise(&mut self, alloc: Global, packet: &Packet, hearers: &[u32]) -> Result<(), Memory>
+    fn promise(
+        &mut self,
+        alloc: Global,
+        packet: &Packet,
+        submitted: bool,
+        hearers: &[u32],
+    ) -> Result<(), Memory>
+        requires { submitted ≡ submitted_from packet.now.from self.old.seen.links }
         ensures { OnOk result (self.new ≡ record self.old {
           seen = record self.old.seen {
             heard = noted_from self.old.seen.links packet.now.from packet.now.parts.source self.old.seen.moment
@@ -61,12 +67,11 @@ impl Walker {
           };
         }) }
     {
-        let links = &self.links;
         let sender = &packet.parts.source;
         promise_all(
             alloc,
             &mut self.heard,
-            links,
+            &self.links,
             &packet.from,
             sender,
             self.moment,
@@ -75,8 +80,8 @@ impl Walker {
         note_from(
             alloc,
             &mut self.heard,
-            links,
             &packet.from,
+            submitted,
             sender,
             self.moment,
         )
@@ -95,9 +100,32 @@ impl Walker {
         Ok(())
     }
 
-    /// An accepted packet, which is shared, goes to the links that want it and to the peers, tells where its source is, is
-    /// counted, and is kept, also for those who ask what the round accepted.
-    fn keep(
+    /// A packet that came from there now, with this body and this line, to be shared.
+    fn packet_of(
+        &self,
+        alloc: Global,
+        from: Source,
+        parts: Parts,
+        body: Body,
+        line: Line,
+    ) -> Result<Shared, Memory>
+        requires { body ≡ body_of parts.dest parts.body }
+        ensures { IfOk result (λ packet. arc_value packet ≡ packet_of from self.now.seen.moment parts line) }
+    {
+        let line = Arc::new(alloc, line)?;
+        let packet = Packet {
+            from,
+            moment: self.moment,
+            parts,
+            body,
+            line,
+        };
+        Ok(Arc::new(alloc, packet)?)
+    }
+
+    /// A packet is accepted, which is shared and has this key: it goes to the links that want it and to the peers, tells where its
+    /// source is, is counted, and is kept, also for those who ask what the round accepted.
+    fn accept(
         &mut self,
         alloc: Global,
         packet: &Packet,
@@ -114,7 +142,7 @@ impl Walker {
         let to = receiver_of(packet);
         let hearers = hearers_of(alloc, &self.heard, self.moment, &to)?;
         let owed = self.spend(alloc, packet)?;
-        self.promise(alloc, packet, hearers.as_slice())?;
+        self.promise(alloc, packet, source.submitted, hearers.as_slice())?;
         self.cast(packet, source.submitted)?;
         self.reach.accept(shared)?;
         self.links.share(
@@ -131,59 +159,7 @@ impl Walker {
         Ok(())
     }
 
-    /// A packet that came from there is accepted. It has this key.
-    pub(super) fn accept(
-        &mut self,
-        alloc: Global,
-        from: Source,
-        parts: Parts,
-        body: Body,
-        line: Line,
-        key: Key,
-    ) -> Result<(), Memory>
-        requires key { key ≡ key_of parts }
-        requires body { body ≡ body_of parts.dest parts.body }
-        requires new { has_copy self.old.seen.moment self.old.seen.window parts ≡ false }
-        ensures { OnOk result (self.new ≡ with_verdict from (Verdict.Accepted parts line) self.old) }
-    {
-        let line = Arc::new(alloc, line)?;
-        let packet = Packet {
-            from,
-            moment: self.moment,
-            parts,
-            body,
-            line,
-        };
-        let shared = Arc::new(alloc, packet)?;
-        self.keep(alloc, &shared, &shared, key)
-    }
-
-    /// A packet that came from there goes on so, unless it is a copy.
-    fn take_routed(
-        &mut self,
-        alloc: Global,
-        from: Source,
-        parts: Parts,
-        body: Body,
-        lines: &mut Vec<JournalLine>,
-    ) -> Result<(), Memory>
-        requires sound { IsParts parts }
-        requires body { body ≡ body_of parts.dest parts.body }
-        requires short { length (text_of parts) ≤ 510 }
-        ensures core { OnOk result (self.new ≡ with_verdict from (packet_verdict (has_copy self.old.seen.moment self.old.seen.window) (Ok parts)) self.old) }
-        ensures lines { OnOk result (lines.new.items ≡ lines.old.items ++ said_lines self.old from (packet_verdict (has_copy self.old.seen.moment self.old.seen.window) (Ok parts))) }
-    {
-        let line = line_of(&parts);
-        let key = Key::of(&parts);
-        if self.has_copy(&key) {
-            self.tell_duplicate(&from, lines)?;
-            self.show(alloc, &from, parts, line)
-        } else {
-            self.accept(alloc, from, parts, body, line, key)
-        }
-    }
-
-    /// A packet came from there: it is refused, or accepted.
+    /// A packet came from there: it is refused, as a copy too, or accepted.
     pub(super) fn take_packet(
         &mut self,
         alloc: Global,
@@ -199,7 +175,16 @@ impl Walker {
         let mut parts = Parts::unfilled();
         match self.route(&mut parts, from, origin, line) {
             Err(objection) => self.object(alloc, &from, objection, lines),
-            Ok(body) => self.take_routed(alloc, from, parts, body, lines),
+            Ok(body) => {
+                let text = line_of(&parts);
+                let key = Key::of(&parts);
+                if self.has_copy(&key) {
+                    self.tell_duplicate(&from, lines)?;
+                    return self.show(alloc, &from, parts, text);
+                }
+                let packet = self.packet_of(alloc, from, parts, body, text)?;
+                self.accept(alloc, &packet, &packet, key)
+            }
         }
     }
 }

@@ -1,18 +1,16 @@
 //! The parts of a round: its begin, its events, its end, and what is to be done after it.
-ghost use Rattle.std.specs.Prelude.{◌≡◌, ◌∷◌, [], ◌<◌, ◌≤◌, IsTrue, IfOk, OnOk, IfSome, false, true, filter, map};
+ghost use Rattle.std.specs.Prelude.{◌≡◌, ◌∷◌, ◌<◌, ◌≤◌, IsTrue, IfOk, OnOk, IfSome, false, true, filter, map};
 ghost use Rattle.aprs_base.specs.Outside.{new_link};
 ghost use Rattle.aprs_history.specs.Trace.{Trace, Roomed, is_live};
 ghost use Rattle.aprs_history.specs.Stands.{Follows};
 ghost use Rattle.aprs_history.specs.History.{begin_round, end_round, with_event};
-ghost use Rattle.aprs_history.specs.Rounds.{AreFresh, events_trace, is_whole};
 ghost use Rattle.server_core.specs.LinkSteps.{AreServed};
 ghost use Rattle.served_links.specs.Links.{Rises, is_ready, number_of};
 ghost use Rattle.server_core.specs.Meaning.{setting_of};
-ghost use Rattle.server_core.specs.RoundWalk.{Traced, Walking};
 ghost use Rattle.server_core.specs.Steps.{AfterEvent, SameRest, Walks};
 ghost use Rattle.server_core.specs.Telling.{KnowUnasked, Tells};
 
-use super::Walker;
+use super::State;
 use crate::acts::Acts;
 use crate::messages::forget_all;
 use aprs_base::{Event, Gate, JournalLine, Memory};
@@ -39,7 +37,7 @@ fn changes_links(event: &Event) -> bool {
     )
 }
 
-impl Walker {
+impl State {
     /// A round begins: the links that a send found gone end.
     pub(super) fn begin(&mut self, alloc: Global) -> Result<(), Memory>
         ensures lasts { OnOk result (0 < self.old.seen.window.seconds) }
@@ -77,7 +75,7 @@ impl Walker {
     }
 
     /// What came to the links is matched before links come, end, or grow older, and where there is much of it.
-    fn settle_before<R: Threads + Sync, G: Gate + Sync>(
+    pub(super) fn settle_before<R: Threads + Sync, G: Gate + Sync>(
         &mut self,
         crew: &Crew<R, G>,
         event: &Event,
@@ -105,7 +103,7 @@ impl Walker {
     }
 
     /// One event of a round.
-    fn take_event(
+    pub(super) fn take_event(
         &mut self,
         alloc: Global,
         event: &Event,
@@ -147,29 +145,6 @@ impl Walker {
         Ok(())
     }
 
-    /// The events of a round, one after another.
-    pub(super) fn walk<R: Threads + Sync, G: Gate + Sync>(
-        &mut self,
-        crew: &Crew<R, G>,
-        alloc: Global,
-        events: &[Event],
-        lines: &mut Vec<JournalLine>,
-    ) -> Result<(), Memory>
-        requires workers { (1 ≤ crew.now.workers) × (crew.now.workers ≤ 64) }
-        requires whole { is_whole 0 events.now ≡ true }
-        requires fresh { AreFresh self.old.seen.greatest events.now }
-        requires going { self.old.seen.stopped ≡ false }
-        ensures walking { OnOk result (Walking self.old events.now self.new []) }
-        ensures traced { (t : Trace) → Walks self.old t → OnOk result (Traced self.old t events.now self.new [] (events_trace (setting_of self.old.conf) events.now t)) }
-        ensures tells { (t : Trace) → Walks self.old t → OnOk result (Tells (setting_of self.old.conf) t (events_trace (setting_of self.old.conf) events.now t) lines.old.items lines.new.items) }
-    {
-        for event in events {
-            self.settle_before(crew, event)?;
-            self.take_event(alloc, event, lines)?;
-        }
-        Ok(())
-    }
-
     /// What was parsed ahead is let go.
     fn let_ahead_go(&mut self, alloc: Global)
         ensures { self.new ≡ self.old }
@@ -200,7 +175,7 @@ impl Walker {
     }
 
     /// What is to be done now: the dial, the casts, the offers, and then the closes.
-    pub(super) fn acts(&self, alloc: Global) -> Result<Acts, Memory>
+    pub(crate) fn acts(&self, alloc: Global) -> Result<Acts, Memory>
         requires { self.now.rests ≡ true }
         ensures offers { IfOk result (λ acts. acts.offers ≡ map number_of (filter is_ready self.now.seen.links)) }
         ensures closes { IfOk result (λ acts. acts.closes ≡ self.now.seen.closing) }

@@ -7,17 +7,17 @@ ghost use Rattle.aprs_history.specs.declared.verdicts.EndReason.TheVariants.{ByP
 ghost use Rattle.aprs_history.specs.declared.verdicts.Verdict.{Verdict};
 ghost use Rattle.served_links.specs.Links.{has_number, is_late_link, is_lost};
 ghost use Rattle.server_core.specs.Meaning.{timeouts_of};
-ghost use Rattle.served_links.specs.EndLines.{late_line, lost_line, stop_line};
+ghost use Rattle.served_links.specs.EndLines.{late_line, lost_line};
 ghost use Rattle.server_core.specs.Telling.{refused_line, said_lines};
 
-use super::Walker;
+use super::State;
 use crate::conf::{group_of, timeouts};
 use crate::telling::{tell_opened, tell_refused, tell_verdict};
 use aprs_base::{Event, JournalLine, Memory, Source};
 use aprs_history::{Admission, EndReason, Refusal, Verdict};
 use journal_lines::{duplicate_line, end_line, join_line, refusal_line, unjoined_line};
 
-impl Walker {
+impl State {
     /// What was said from there, with this verdict.
     pub(super) fn tell_said(
         &self,
@@ -130,12 +130,5 @@ impl Walker {
         ensures { OnOk result (lines.new.items ≡ lines.old.items ++ map (refused_line self.now.seen.turned events.now self.now.seen.moment) ends.now) }
     {
         tell_refused(ends, self.turned.as_slice(), events, self.moment, lines)
-    }
-
-    /// All links, which a stop ends.
-    pub(super) fn tell_stopped(&self, lines: &mut Vec<JournalLine>) -> Result<(), Memory>
-        ensures { OnOk result (lines.new.items ≡ lines.old.items ++ map (stop_line self.now.seen.moment) self.now.seen.links) }
-    {
-        self.links.tell_stopped(self.moment, lines)
     }
 }

@@ -10,7 +10,7 @@ ghost use Rattle.server_core.specs.Meaning.{setting_of};
 ghost use Rattle.server_core.specs.Steps.{SameRest, Walks};
 ghost use Rattle.server_core.specs.Telling.{Tells};
 
-use super::Walker;
+use super::State;
 use crate::conf::server_of;
 use aprs_base::{JournalLine, Memory};
 use line_verdict::comment_of;
@@ -23,7 +23,7 @@ const LAST_MOMENT: u64 = 253_402_300_799;
 /// The seconds between two comment lines.
 const COMMENT_SECONDS: u64 = 20;
 
-impl Walker {
+impl State {
     /// The moment has risen: what is too old by now is let go.
     fn pass(&mut self, now: u64) -> Result<(), Memory>
         requires { self.old.seen.moment ≤ now }
@@ -52,7 +52,7 @@ impl Walker {
     }
 
     /// The clients are told the date, where the moment has passed a border since.
-    fn tell_date(&mut self, alloc: Global, before: u64) -> Result<(), Memory>
+    fn send_date(&mut self, alloc: Global, before: u64) -> Result<(), Memory>
         ensures walks { (t : Trace) → Walks self.old t → OnOk result (Walks self.new (dated before t)) }
         ensures rest { OnOk result (SameRest self.old self.new) }
     {
@@ -85,7 +85,7 @@ impl Walker {
         let before = self.moment;
         self.go_on(moment)?;
         self.end_late(alloc, lines)?;
-        self.tell_date(alloc, before)?;
+        self.send_date(alloc, before)?;
         self.look();
         Ok(())
     }

@@ -14,7 +14,7 @@ ghost use Rattle.served_links.specs.Links.{others_from, speaker_at};
 ghost use Rattle.server_core.specs.Objections.{Routes, refusal_for};
 ghost use Rattle.tnc2_line.specs.Packet.{IsParts, parts_of, text_of};
 
-use super::Walker;
+use super::State;
 use crate::conf::server_of;
 use aprs_base::{Body, Call, Line, Memory, Parts, Source};
 use aprs_history::{Refusal, Verdict};
@@ -81,7 +81,8 @@ fn route_parts<O: Calls>(
     }
 }
 
-/// The same of a line that was parsed, with what the packet's body is.
+/// Puts the packet that a line was parsed as, as it goes on, into parts that are still to be filled, and says what its body is, or
+/// what there is against the line.
 fn route_parsed<O: Calls>(
     whole: &mut Parts,
     server: &Call,
@@ -108,7 +109,7 @@ fn route_parsed<O: Calls>(
     }
 }
 
-impl Walker {
+impl State {
     /// Who speaks on the link of that number.
     pub(super) fn voice(&self, number: u32) -> Voice
         ensures value { result ≡ voice_of (speaker_at number self.now.seen.links) }

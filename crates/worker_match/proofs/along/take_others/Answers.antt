@@ -1,5 +1,5 @@
 use Rattle.std.proofs.Common.{◌-◌, ap, drop, sym, take, ◌∙◌}
-use Rattle.worker_match.specs.Seen.{LinkSeen}
+use Rattle.worker_match.specs.Seen.{FeedSeen}
 use Rattle.worker_match.specs.Walk.{is_from}
 use Rattle.worker_match.specs.Runs.{RunSeen, with_run}
 use Rattle.worker_match.proofs.OthersLemmas.{around, around_other, around_own}
@@ -9,7 +9,7 @@ use Rattle.worker_match.proofs.along.take_others.Goals as goal
 pub loop-item-init : goal.loop-item-init
 loop-item-init c = record {
   around = around c.args.items.now c.args.run.now c.args.link.now c.requires.run c.requires.suits;
-  number = ap (λ (link : LinkSeen). link.link) c.link.view_is;
+  number = ap (λ (link : FeedSeen). link.link) c.link.view_is;
 }
 
 pub loop-item-preserved : goal.loop-item-preserved

@@ -2,7 +2,7 @@ use Rattle.std.proofs.Common.{◌≡◌, ℕ, ◌⊎◌, ◌&&◌, Bool, true, f
 use Rattle.filter_eval.specs.declared.seen.Seen.{Seen}
 use Rattle.station_table.specs.Stations.{seen_in}
 use Rattle.link_queue.specs.Queues.{with_line}
-use Rattle.worker_match.specs.Seen.{LinkSeen, OfferSeen, ItemSeen, Told, ToldAll, Ended, Became, Came}
+use Rattle.worker_match.specs.Seen.{FeedSeen, OfferSeen, ItemSeen, Told, ToldAll, Ended, Became, Came}
 use Rattle.worker_match.specs.Walk.{after, is_full, is_open, met, mine_seen, one_more, terms_of, told_by, wants, with_copy, with_packet, with_seen, with_text}
 use Rattle.worker_match.specs.WalkLaws.{HasSeen, HasSeenNothing, HasTaken, HasTakenNone, IsOpen, IsTextFor}
 use Rattle.worker_match.proofs.FriendLemmas.{seen_each, seen_many}
@@ -14,7 +14,7 @@ closed_by : (a b : Bool) → b ≡ true → (a && not b) ≡ false
 closed_by true b is = ap not is
 closed_by false b is = refl
 
-module _ (link : LinkSeen) (offer : OfferSeen) (open' : IsOpen link) where
+module _ (link : FeedSeen) (offer : OfferSeen) (open' : IsOpen link) where
   opened : after link (Came offer) ≡ with_seen offer.packet.parts.source (told_by offer) (with_packet offer link)
   opened =
       let is : is_open link ≡ true = ap (λ a. a && not link.over) open'.alive ∙ ap not open'.under in
@@ -33,11 +33,11 @@ module _ (link : LinkSeen) (offer : OfferSeen) (open' : IsOpen link) where
         ap (λ b. cond b (with_copy offer.packet.line link) link) wanted
         ∙ ap (λ b. cond b (record link { over = true }) (record link { queue = with_line offer.packet.line link.queue; put = one_more link.put })) (full_is link.queue full)
 
-seen_taken : (call : List ℕ) (told : Option Seen) (offer : OfferSeen) (old new : LinkSeen) → HasTaken offer old new → HasTaken offer old (with_seen call told new)
+seen_taken : (call : List ℕ) (told : Option Seen) (offer : OfferSeen) (old new : FeedSeen) → HasTaken offer old new → HasTaken offer old (with_seen call told new)
 seen_taken call None offer old new has = has
 seen_taken call (Some seen) offer old new has = record { queue = has.queue; put = has.put; over = has.over }
 
-seen_none : (call : List ℕ) (told : Option Seen) (over : Bool) (old new : LinkSeen) → HasTakenNone over old new → HasTakenNone over old (with_seen call told new)
+seen_none : (call : List ℕ) (told : Option Seen) (over : Bool) (old new : FeedSeen) → HasTakenNone over old new → HasTakenNone over old (with_seen call told new)
 seen_none call None over old new has = has
 seen_none call (Some seen) over old new has = record { queue = has.queue; put = has.put; over = has.over }
 
@@ -49,7 +49,7 @@ returns-clause-over c link items over = closed_stays items link (closed_by link.
 
 -- ---- lines for a link
 
-module _ (link : LinkSeen) (line : List ℕ) (open' : IsOpen link) where
+module _ (link : FeedSeen) (line : List ℕ) (open' : IsOpen link) where
   open_is : is_open link ≡ true
   open_is = ap (λ a. a && not link.over) open'.alive ∙ ap not open'.under
 
@@ -86,26 +86,26 @@ returns-clause-full c link offer open' wanted full =
 -- ---- places
 
 -- the same filter, login and places
-record IsLike (old new : LinkSeen) : Type 0 where
+record IsLike (old new : FeedSeen) : Type 0 where
   filter : new.filter ≡ old.filter
   me : new.me ≡ old.me
   friends : new.friends ≡ old.friends
   mine : new.mine ≡ old.mine
 
-copy_either : (full : Bool) (line : List ℕ) (link : LinkSeen)
+copy_either : (full : Bool) (line : List ℕ) (link : FeedSeen)
     → IsLike link (cond full (record link { over = true }) (record link { queue = with_line line link.queue; put = one_more link.put }))
 copy_either true line link = record { filter = refl; me = refl; friends = refl; mine = refl }
 copy_either false line link = record { filter = refl; me = refl; friends = refl; mine = refl }
 
-copy_like : (line : List ℕ) (link : LinkSeen) → IsLike link (with_copy line link)
+copy_like : (line : List ℕ) (link : FeedSeen) → IsLike link (with_copy line link)
 unfolding with_copy
 copy_like line link = copy_either (is_full link.queue) line link
 
-packet_like : (wanted : Bool) (line : List ℕ) (link : LinkSeen) → IsLike link (cond wanted (with_copy line link) link)
+packet_like : (wanted : Bool) (line : List ℕ) (link : FeedSeen) → IsLike link (cond wanted (with_copy line link) link)
 packet_like true line link = copy_like line link
 packet_like false line link = record { filter = refl; me = refl; friends = refl; mine = refl }
 
-seen_by : (call : List ℕ) (seen : Seen) (old new : LinkSeen) → IsLike old new → HasSeen call seen old (with_seen call (Some seen) new)
+seen_by : (call : List ℕ) (seen : Seen) (old new : FeedSeen) → IsLike old new → HasSeen call seen old (with_seen call (Some seen) new)
 seen_by call seen old new like = record {
   friends = λ i term friend at_term at_friend.
       seen_each call seen (terms_of new.filter) new.friends i term friend (ap (λ f. slice_get (terms_of f) i) like.filter ∙ at_term) (ap (λ fs. slice_get fs i) like.friends ∙ at_friend);

@@ -1,6 +1,6 @@
 use Rattle.std.specs.Arc.{arc_value}
 use Rattle.worker_match.specs.Items.{items_seen}
-use Rattle.worker_match.specs.Seen.{LinkSeen}
+use Rattle.worker_match.specs.Seen.{FeedSeen}
 use Rattle.link_feeds.specs.Feeds.{told, with_login}
 use Rattle.link_feeds.proofs.FeedLemmas.{changed_there}
 use Rattle.link_feeds.proofs.feeds.Feeds.log_in.Goals as goal
@@ -8,5 +8,5 @@ use Rattle.link_feeds.proofs.feeds.Feeds.log_in.Goals as goal
 pub returns : goal.returns
 returns c link there =
     changed_there (items_seen c.self.inside.items.items) c.self.inside.states.items c.args.self.now c.self.view_is c.requires.settled
-    (λ (l : LinkSeen). told (arc_value c.args.reply) (with_login c.args.feed c.args.call c.args.mine l))
+    (λ (l : FeedSeen). told (arc_value c.args.reply) (with_login c.args.feed c.args.call c.args.mine l))
     c.args.place link c.index_mut.result.now c.log_in.new.state there c.index_mut.ensures.value c.log_in.ensures

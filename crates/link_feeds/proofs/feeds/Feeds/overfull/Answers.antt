@@ -1,6 +1,6 @@
 use Rattle.std.proofs.Common.{◌≡◌, List, filter, map, sym, subst, ◌∙◌, IfOk}
 use Rattle.worker_match.specs.Items.{items_seen}
-use Rattle.worker_match.specs.Seen.{LinkSeen}
+use Rattle.worker_match.specs.Seen.{FeedSeen}
 use Rattle.link_feeds.specs.Feeds.{is_over, link_of}
 use Rattle.link_feeds.proofs.FeedLemmas.{seen_standing}
 use Rattle.link_feeds.proofs.feeds.Feeds.overfull.Goals as goal
@@ -9,4 +9,4 @@ pub returns : goal.returns
 returns c =
     let states = c.self.inside.states.items in
     let here = seen_standing (items_seen c.self.inside.items.items) states c.args.self.now c.self.view_is c.requires in
-    subst (λ (links : List LinkSeen). IfOk c.overfull.result (λ numbers. numbers.items ≡ map link_of (filter is_over links))) (c.as_slice.ensures.value ∙ sym here) c.overfull.ensures
+    subst (λ (links : List FeedSeen). IfOk c.overfull.result (λ numbers. numbers.items ≡ map link_of (filter is_over links))) (c.as_slice.ensures.value ∙ sym here) c.overfull.ensures

@@ -2,7 +2,7 @@ use Rattle.std.proofs.Common.{◌≡◌, ◌≤◌, ◌<◌, ap, get_or, length,
 use Rattle.std.proofs.lemmas.Option.{get_or_from_slice_get, slice_get-get_or}
 use Rattle.link_queue.specs.Queues.{QueueSeen, pending_bytes}
 use Rattle.worker_match.specs.Items.{items_seen}
-use Rattle.worker_match.specs.Seen.{LinkSeen}
+use Rattle.worker_match.specs.Seen.{FeedSeen}
 use Rattle.link_feeds.specs.Feeds.{with_taken}
 use Rattle.link_feeds.proofs.FeedLemmas.{queue_taken, seen_standing, written_at}
 use Rattle.link_feeds.proofs.feeds.Feeds.taken.Goals as goal
@@ -15,7 +15,7 @@ taken-requires c =
     let here : c.args.self.now.links ≡ states = seen_standing items states c.args.self.now c.self.view_is c.requires.settled in
     let within : c.args.place < length states = subst (λ links. c.args.place < length links) here c.requires.within in
     let there = ap (λ links. slice_get links c.args.place) here ∙ slice_get-get_or states c.args.place c.index_mut.result.now within in
-    subst (λ (queue : QueueSeen). c.args.n ≤ length (pending_bytes queue)) (sym (ap (λ (l : LinkSeen). l.queue) (c.behind-self.view_is ∙ c.index_mut.ensures.value))) (c.requires.there link there)
+    subst (λ (queue : QueueSeen). c.args.n ≤ length (pending_bytes queue)) (sym (ap (λ (l : FeedSeen). l.queue) (c.behind-self.view_is ∙ c.index_mut.ensures.value))) (c.requires.there link there)
 
 pub returns : goal.returns
 returns c link there =

@@ -11,22 +11,22 @@ use Rattle.served_links.proofs.ServedLemmas.{halves_changed, picked_same}
 use Rattle.served_links.proofs.ServedSteps.{asked, links_of, numbers_here, seen_stepped}
 use Rattle.served_links.proofs.served.Served.bring.Goals as goal
 
-held_same : (c : goal.After-bring) → held_at c.args.number (here c.self.inside.halves) ≡ held_at c.args.number c.args.self.now.links
+held_same : (c : goal.After-bring) → held_at c.args.number (here c.self.inside.sessions) ≡ held_at c.args.number c.args.self.now.links
 held_same c = asked c.self.inside c.self.view_is c.self.invariant.0.match refl (held_at c.args.number) (picked_same held_kept (λ h s. refl) None c.args.number)
 
 pub invariant_of-self : goal.invariant_of-self
 invariant_of-self c = (
   record {
     match = c.bring.ensures.halves c.self.inside.feeds.links c.self.invariant.0.match;
-    rising = subst (λ ns. Rises 0 ns 4294967296) (sym (same_numbers c.bring.new.self c.self.inside.halves c.bring.ensures.named)) c.self.invariant.0.rising;
+    rising = subst (λ ns. Rises 0 ns 4294967296) (sym (same_numbers c.bring.new.self c.self.inside.sessions c.bring.ensures.named)) c.self.invariant.0.rising;
   },
-  (c.self.invariant.1.0, λ rests. same_whole c.bring.new.self c.self.inside.halves c.bring.ensures.named ∙ c.self.invariant.1.1 rests),
+  (c.self.invariant.1.0, λ rests. same_whole c.bring.new.self c.self.inside.sessions c.bring.ensures.named ∙ c.self.invariant.1.1 rests),
 )
 
 pub returns-clause-rises : goal.returns-clause-rises
 returns-clause-rises c high rises =
     let ss = c.self.inside.feeds.links in
-    let hs = c.self.inside.halves in
+    let hs = c.self.inside.sessions in
     subst (λ ns. Rises 0 ns high)
     (sym (numbers_here c.bring.new.self ss (c.bring.ensures.halves ss c.self.invariant.0.match) ∙ same_here c.bring.new.self hs c.bring.ensures.named
     ∙ sym (numbers_here hs ss c.self.invariant.0.match) ∙ ap numbers (ap links_of c.self.view_is)))
@@ -34,7 +34,7 @@ returns-clause-rises c high rises =
 
 pub returns-clause-links : goal.returns-clause-links
 returns-clause-links c before is =
-    let hs = c.self.inside.halves in
+    let hs = c.self.inside.sessions in
     let ss = c.self.inside.feeds.links in
     let step = with_bytes c.args.moment (held_after (before ++ c.args.bytes.now)) in
     on_ok_weaker c.bring.result

@@ -7,5 +7,5 @@ use Rattle.served_links.proofs.served.Served.count_clients.Goals as goal
 
 pub returns : goal.returns
 returns c =
-    c.count_clients.ensures ∙ sym (here_clients c.self.inside.halves) ∙ asked c.self.inside c.self.view_is c.self.invariant.0.match refl clients_in
+    c.count_clients.ensures ∙ sym (here_clients c.self.inside.sessions) ∙ asked c.self.inside c.self.view_is c.self.invariant.0.match refl clients_in
     (count_same client_kept (λ h s. refl))

@@ -11,13 +11,13 @@ forget-requires c = ap waiting_of c.self.view_is ∙ c.requires
 
 pub invariant_of-self : goal.invariant_of-self
 invariant_of-self c = (
-  fed_on (forgotten c.args.now) (forgotten_matches c.args.now) c.self.inside.halves c.self.inside.feeds c.forget.new.self c.self.invariant.0 c.forget.ensures,
+  fed_on (forgotten c.args.now) (forgotten_matches c.args.now) c.self.inside.sessions c.self.inside.feeds c.forget.new.self c.self.invariant.0 c.forget.ensures,
   (λ rests. ap (λ (f : FeedsSeen). f.waiting) c.forget.ensures ∙ c.self.invariant.1.0 rests, c.self.invariant.1.1),
 )
 
 pub returns : goal.returns
 returns c =
-    let hs = c.self.inside.halves in
+    let hs = c.self.inside.sessions in
     let ss = c.self.inside.feeds.links in
     seen_stepped hs hs c.self.inside.feeds c.forget.new.self c.self.inside.queued c.self.inside.rests c.args.self.now (at_moment c.args.now) (λ link. refl) c.self.view_is
     (ap (λ (f : FeedsSeen). joined_all hs f.links) c.forget.ensures

@@ -10,7 +10,7 @@ front_bytes-requires-clause-settled c = c.self.invariant.1.0 (ap rests_of c.self
 
 pub front_bytes-requires-clause-within : goal.front_bytes-requires-clause-within
 front_bytes-requires-clause-within c =
-    let hs = c.self.inside.halves in
+    let hs = c.self.inside.sessions in
     within_feeds c.in-Some.place hs c.self.inside.feeds c.self.invariant.0 (within_halves c.args.number c.in-Some.place hs c.as_slice.result.now c.as_slice.ensures.value c.in-Some.ensures)
 
 pub returns-in-Some-clause-count : goal.returns-in-Some-clause-count
@@ -25,7 +25,7 @@ returns-in-Some-clause-bytes c =
 
 -- or none, where there is no such link
 nothing : (c : goal.In-None) → pending_at c.args.number c.args.self.now.links ≡ []
-nothing c = pending_nowhere c.args.number c.self.inside.halves c.self.inside.feeds c.self.invariant.0 (c.in-None.ensures ∙ ap (position (has_that c.args.number)) c.as_slice.ensures.value) (c.self.invariant.1.1 (ap rests_of c.self.view_is ∙ c.requires)) c.args.self.now.links (ap links_of c.self.view_is)
+nothing c = pending_nowhere c.args.number c.self.inside.sessions c.self.inside.feeds c.self.invariant.0 (c.in-None.ensures ∙ ap (position (has_that c.args.number)) c.as_slice.ensures.value) (c.self.invariant.1.1 (ap rests_of c.self.view_is ∙ c.requires)) c.args.self.now.links (ap links_of c.self.view_is)
 
 pub returns-in-None-clause-count : goal.returns-in-None-clause-count
 returns-in-None-clause-count c = let none : length (pending_at c.args.number c.args.self.now.links) ≡ 0 = ap length (nothing c) in omega (arith, none)

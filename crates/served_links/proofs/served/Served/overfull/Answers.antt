@@ -11,6 +11,6 @@ overfull-requires c = c.self.invariant.1.0 (ap rests_of c.self.view_is ∙ c.req
 pub returns : goal.returns
 returns c =
     subst (λ (all : List ℕ). IfOk c.overfull.result (λ v. v.items ≡ all))
-    (over_same c.self.inside.halves c.self.inside.feeds.links c.self.invariant.0.match ∙ ap (λ links. numbers (filter is_overfull links))
-    (sym (joined_whole c.self.inside.halves c.self.inside.feeds.links c.self.invariant.0.match (c.self.invariant.1.1 (ap rests_of c.self.view_is ∙ c.requires))) ∙ ap links_of c.self.view_is))
+    (over_same c.self.inside.sessions c.self.inside.feeds.links c.self.invariant.0.match ∙ ap (λ links. numbers (filter is_overfull links))
+    (sym (joined_whole c.self.inside.sessions c.self.inside.feeds.links c.self.invariant.0.match (c.self.invariant.1.1 (ap rests_of c.self.view_is ∙ c.requires))) ∙ ap links_of c.self.view_is))
     c.overfull.ensures

@@ -21,14 +21,14 @@ drop_these-requires-2 c = ap (λ (f : FeedsSeen). f.waiting) c.count_put-put.ens
 
 pub invariant_of-self : goal.invariant_of-self
 invariant_of-self c = (
-  left_are c.args.ends.now c.self.inside.halves c.drop_these.new.self c.self.inside.feeds c.count_put-put.new.self c.drop_these-2.new.self c.self.invariant.0 c.drop_these.ensures c.count_put-put.ensures.counted c.drop_these-2.ensures,
+  left_are c.args.ends.now c.self.inside.sessions c.drop_these.new.self c.self.inside.feeds c.count_put-put.new.self c.drop_these-2.new.self c.self.invariant.0 c.drop_these.ensures c.count_put-put.ensures.counted c.drop_these-2.ensures,
   (
     λ rests. ap (λ (f : FeedsSeen). f.waiting) c.drop_these-2.ensures ∙ ap (λ (f : FeedsSeen). f.waiting) c.count_put-put.ensures.counted ∙ c.self.invariant.1.0 rests,
-    λ rests. ap is_whole c.drop_these.ensures ∙ whole_filter (is_none_of c.args.ends.now) c.self.inside.halves (c.self.invariant.1.1 rests),
+    λ rests. ap is_whole c.drop_these.ensures ∙ whole_filter (is_none_of c.args.ends.now) c.self.inside.sessions (c.self.invariant.1.1 rests),
   ),
 )
 
 pub returns : goal.returns
 returns c =
-    left_seen c.args.ends.now c.self.inside.halves c.drop_these.new.self c.self.inside.feeds c.count_put-put.new.self c.drop_these-2.new.self c.count_put-put.result c.self.inside.queued c.saturating_add-self-inside.result c.self.inside.rests c.args.self.now
+    left_seen c.args.ends.now c.self.inside.sessions c.drop_these.new.self c.self.inside.feeds c.count_put-put.new.self c.drop_these-2.new.self c.count_put-put.result c.self.inside.queued c.saturating_add-self-inside.result c.self.inside.rests c.args.self.now
     c.self.invariant.0 c.drop_these.ensures c.count_put-put.ensures.count c.count_put-put.ensures.counted c.drop_these-2.ensures c.saturating_add-self-inside.ensures c.self.view_is

@@ -12,5 +12,5 @@ pub returns : goal.returns
 returns c =
     subst (λ (all : List ℕ). IfOk c.ready.result (λ v. v.items ≡ all))
     (ap (λ halves. numbers (filter is_ready (joined_all halves c.self.inside.feeds.links))) c.as_slice.ensures.value ∙ ap (λ links. numbers (filter is_ready links))
-    (sym (joined_whole c.self.inside.halves c.self.inside.feeds.links c.self.invariant.0.match (c.self.invariant.1.1 (ap rests_of c.self.view_is ∙ c.requires))) ∙ ap links_of c.self.view_is))
+    (sym (joined_whole c.self.inside.sessions c.self.inside.feeds.links c.self.invariant.0.match (c.self.invariant.1.1 (ap rests_of c.self.view_is ∙ c.requires))) ∙ ap links_of c.self.view_is))
     c.ready.ensures

@@ -7,7 +7,7 @@ shared_front-requires-clause-settled c = c.self.invariant.1.0 (ap rests_of c.sel
 
 pub shared_front-requires-clause-within : goal.shared_front-requires-clause-within
 shared_front-requires-clause-within c =
-    let hs = c.self.inside.halves in
+    let hs = c.self.inside.sessions in
     within_feeds c.in-Some.place hs c.self.inside.feeds c.self.invariant.0 (within_halves c.args.number c.in-Some.place hs c.as_slice.result.now c.as_slice.ensures.value c.in-Some.ensures)
 
 pub returns-in-Some : goal.returns-in-Some

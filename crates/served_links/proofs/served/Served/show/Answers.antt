@@ -17,6 +17,6 @@ hidden c =
 pub returns-else-shows_any-clause-ok : goal.returns-else-shows_any-clause-ok
 returns-else-shows_any-clause-ok c = (
   none_shown c.args.from.now c.args.line c.args.self.now.links (hidden c),
-  sym (ap (λ ls. more (length ls) c.args.self.now.queued) (none_taken c.args.from.now c.args.line c.args.self.now.links (hidden c)) ∙ none_more c.self.inside.halves c.self.inside.feeds c.self.inside.queued c.self.inside.rests c.args.self.now c.self.view_is),
+  sym (ap (λ ls. more (length ls) c.args.self.now.queued) (none_taken c.args.from.now c.args.line c.args.self.now.links (hidden c)) ∙ none_more c.self.inside.sessions c.self.inside.feeds c.self.inside.queued c.self.inside.rests c.args.self.now c.self.view_is),
   refl,
 )

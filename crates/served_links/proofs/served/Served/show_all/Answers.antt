@@ -5,8 +5,7 @@ use Rattle.aprs_base.specs.PacketSeen.{PacketSeen}
 use Rattle.link_feeds.specs.Feeds.{met_by, put_in}
 use Rattle.worker_match.specs.Seen.{Came}
 use Rattle.served_links.specs.Fed.{joined_all, refused_of}
-use Rattle.served_links.specs.Halves.{ServedSeen, served_seen}
-use Rattle.served_links.specs.Halves.{more, waiting_after}
+use Rattle.served_links.specs.Halves.{ServedSeen, served_seen, more, waiting_after}
 use Rattle.served_links.specs.Changes.{takes_shown, with_shown}
 use Rattle.served_links.proofs.FedLemmas.{offer_matches}
 use Rattle.served_links.proofs.ServedSteps.{emptied, met_are, met_rises, met_seen, more_later, shown_links, shown_put}
@@ -21,19 +20,19 @@ met c = subst (λ i. OnOk c.come.result (c.come.new.feeds.links ≡ met_by i c.s
 
 pub invariant_of-self : goal.invariant_of-self
 invariant_of-self c =
-    met_are c.come.result c.self.inside c.come.new.halves c.come.new.feeds (Came (refused_of (packet c))) c.self.invariant.0 (λ h s m. offer_matches h (refused_of (packet c)) s m)
-    c.come.ensures.halves (met c) c.come.ensures.waiting c.come.ensures.cleared c.self.invariant.1
+    met_are c.come.result c.self.inside c.come.new.sessions c.come.new.feeds (Came (refused_of (packet c))) c.self.invariant.0 (λ h s m. offer_matches h (refused_of (packet c)) s m)
+    c.come.ensures.sessions (met c) c.come.ensures.waiting c.come.ensures.cleared c.self.invariant.1
 
 pub returns-clause-rises : goal.returns-clause-rises
 returns-clause-rises c =
-    met_rises c.come.result c.self.inside c.come.new.halves c.come.new.feeds c.self.view_is c.self.invariant.0 (invariant_of-self c).0 c.come.ensures.halves c.come.ensures.cleared
+    met_rises c.come.result c.self.inside c.come.new.sessions c.come.new.feeds c.self.view_is c.self.invariant.0 (invariant_of-self c).0 c.come.ensures.sessions c.come.ensures.cleared
 
 pub returns-clause-ok : goal.returns-clause-ok
 returns-clause-ok c =
-    let hs = c.self.inside.halves in
+    let hs = c.self.inside.sessions in
     let ss = c.self.inside.feeds.links in
     let seen = packet c in
-    let shown : Source → List ℕ → Type 0 = λ from line. OnOk c.come.result (served_seen c.come.new.halves c.come.new.feeds c.self.inside.queued c.self.inside.rests ≡ record c.args.self.now {
+    let shown : Source → List ℕ → Type 0 = λ from line. OnOk c.come.result (served_seen c.come.new.sessions c.come.new.feeds c.self.inside.queued c.self.inside.rests ≡ record c.args.self.now {
       links = map (with_shown from line) c.args.self.now.links;
       queued = more (length (filter (takes_shown from) c.args.self.now.links)) c.args.self.now.queued;
       waiting = waiting_after c.args.self.now.rests c.args.self.now.waiting;
@@ -41,11 +40,11 @@ returns-clause-ok c =
     subst (λ from. shown from c.args.line) c.in_ok-item.ensures.exact.2
     (subst (shown seen.from) c.in_ok-item.ensures.exact.3
     (met_seen c.come.result (with_shown seen.from seen.line) (λ (s : ServedSeen). more (length (filter (takes_shown seen.from) s.links)) s.queued)
-    c.self.inside c.come.new.halves c.come.new.feeds (Came (refused_of seen)) (named_shown seen.from seen.line)
+    c.self.inside c.come.new.sessions c.come.new.feeds (Came (refused_of seen)) (named_shown seen.from seen.line)
     (shown_links seen hs ss c.self.invariant.0.match)
     (ap (λ put. more put c.self.inside.queued) (shown_put seen hs ss c.self.invariant.0.match) ∙ more_later (length (filter (takes_shown seen.from) (joined_all hs ss))) (put_in ss) c.self.inside.queued
     ∙ ap (λ ls. more (length ls) (more (put_in ss) c.self.inside.queued)) (sym (none_showing seen.from (joined_all hs ss))))
-    c.come.ensures.halves (met c) c.come.ensures.waiting c.self.view_is))
+    c.come.ensures.sessions (met c) c.come.ensures.waiting c.self.view_is))
 
 pub returns-clause-err : goal.returns-clause-err
-returns-clause-err c = on_err_weaker c.come.result inl (emptied c.come.result c.self.inside c.come.new.halves c.come.new.feeds c.self.view_is c.come.ensures.cleared)
+returns-clause-err c = on_err_weaker c.come.result inl (emptied c.come.result c.self.inside c.come.new.sessions c.come.new.feeds c.self.view_is c.come.ensures.cleared)

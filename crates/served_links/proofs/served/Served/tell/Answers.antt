@@ -1,7 +1,7 @@
 use Rattle.std.proofs.Common.{ap, refl, ◌∙◌, List}
 use Rattle.std.specs.Arc.{arc_value}
 use Rattle.std.specs.List.{position}
-use Rattle.worker_match.specs.Seen as worker
+use Rattle.worker_match.specs.Seen.{FeedSeen}
 use Rattle.aprs_history.specs.Stands.{LinkSeen}
 use Rattle.served_links.specs.Links.{has_that}
 use Rattle.served_links.specs.Changes.{with_text}
@@ -14,20 +14,20 @@ tell-requires-clause-settled c = ap waiting_of c.self.view_is ∙ c.requires
 
 pub tell-requires-clause-within : goal.tell-requires-clause-within
 tell-requires-clause-within c =
-    let hs = c.self.inside.halves in
+    let hs = c.self.inside.sessions in
     within_feeds c.in-Some.place hs c.self.inside.feeds c.self.invariant.0 (within_halves c.args.number c.in-Some.place hs c.as_slice.result.now c.as_slice.ensures.value c.in-Some.ensures)
 
 pub invariant_of-self : goal.invariant_of-self
 invariant_of-self c =
-    told_are c.args.number c.self.inside.halves c.as_slice.result.now c.self.inside.feeds c.tell.new.self c.self.invariant.0 c.in-Some.place c.as_slice.ensures.value c.in-Some.ensures
-    (λ (s : worker.LinkSeen). s) (arc_value c.args.line) (λ h s m. m) c.tell.ensures c.self.invariant.1
+    told_are c.args.number c.self.inside.sessions c.as_slice.result.now c.self.inside.feeds c.tell.new.self c.self.invariant.0 c.in-Some.place c.as_slice.ensures.value c.in-Some.ensures
+    (λ (s : FeedSeen). s) (arc_value c.args.line) (λ h s m. m) c.tell.ensures c.self.invariant.1
 
 pub returns-in-Some : goal.returns-in-Some
 returns-in-Some c =
-    told_seen c.args.number c.self.inside.halves c.as_slice.result.now c.self.inside.feeds c.tell.new.self c.self.invariant.0 c.in-Some.place c.as_slice.ensures.value c.in-Some.ensures
-    (λ (s : worker.LinkSeen). s) (arc_value c.args.line) (λ h s m. m) c.tell.ensures (with_text (arc_value c.args.line)) (named_text (arc_value c.args.line)) (λ h s. refl) (λ s. refl) c.self.inside.queued c.self.inside.rests c.args.self.now c.self.view_is
+    told_seen c.args.number c.self.inside.sessions c.as_slice.result.now c.self.inside.feeds c.tell.new.self c.self.invariant.0 c.in-Some.place c.as_slice.ensures.value c.in-Some.ensures
+    (λ (s : FeedSeen). s) (arc_value c.args.line) (λ h s m. m) c.tell.ensures (with_text (arc_value c.args.line)) (named_text (arc_value c.args.line)) (λ h s. refl) (λ s. refl) c.self.inside.queued c.self.inside.rests c.args.self.now c.self.view_is
 
 pub returns-in-None : goal.returns-in-None
 returns-in-None c =
-    ap (λ (links : List LinkSeen). record c.args.self.now { links = links }) (changed_nobody c.args.number (with_text (arc_value c.args.line)) c.self.inside.halves c.args.self.now.links c.self.inside.feeds c.self.invariant.0
+    ap (λ (links : List LinkSeen). record c.args.self.now { links = links }) (changed_nobody c.args.number (with_text (arc_value c.args.line)) c.self.inside.sessions c.args.self.now.links c.self.inside.feeds c.self.invariant.0
     (c.in-None.ensures ∙ ap (position (has_that c.args.number)) c.as_slice.ensures.value) (ap links_of c.self.view_is) (named_text (arc_value c.args.line)))

@@ -1,0 +1,7 @@
+use Rattle.std.proofs.Common.{subst, sym}
+use Rattle.server_core.specs.Steps.{Walks}
+use Rattle.server_core.proofs.CoreLemmas.{walks_unjoined}
+use Rattle.server_core.proofs.server.State.unjoin.Goals as goal
+
+pub returns-clause-walks : goal.returns-clause-walks
+returns-clause-walks c = λ t walks. walks_unjoined _ t (subst (λ core. Walks core t) (sym c.self.view_is) walks) c.args.uplink c.unjoin.new.self c.unjoin.ensures

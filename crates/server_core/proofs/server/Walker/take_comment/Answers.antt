@@ -1,7 +1,0 @@
-use Rattle.std.proofs.Common.{subst, sym}
-use Rattle.line_verdict.specs.Fit.{IsFit}
-use Rattle.line_verdict.proofs.VerdictLemmas.{comment_fit}
-use Rattle.server_core.proofs.server.Walker.take_comment.Goals as goal
-
-pub follow-requires-clause-fit : goal.follow-requires-clause-fit
-follow-requires-clause-fit c = subst IsFit (sym c.in_ok-verdict.ensures) (comment_fit c.args.voice.now c.args.line.now)
