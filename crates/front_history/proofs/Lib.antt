@@ -1,7 +1,13 @@
+pub mod CountedLemmas
 pub mod FrontLemmas
+pub mod OneViewLemmas
 pub mod OtherLemmas
+pub mod PageRows
 pub mod PoolLemmas
+pub mod PortLemmas
 pub mod Rows
 pub mod ServesLemmas
 pub mod StrangerLemmas
+pub mod TurnLemmas
 pub mod ViewLemmas
+pub mod WaitingLemmas

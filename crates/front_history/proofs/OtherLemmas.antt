@@ -1,6 +1,6 @@
 -- The acts that are due are of no link that was opened where datagrams come.
 use Rattle.std.proofs.Common.{◌≡◌, ℕ, ◌+◌, ◌≤◌, ◌<◌, ◌==◌, ◌&&◌, max, Bool, true, false, List, [], ◌∷◌, ◌++◌, map, refl, sym, ap, ◌∙◌, subst, arith, eq-eqb, Option, Some, None, if◌then◌else◌, ◌⊎◌, inl, inr}
-use Rattle.std.specs.Prelude.{⊤, is_some}
+use Rattle.std.specs.Prelude.{⊤, IfSome, is_some}
 use Rattle.std.specs.List.{AllByRecursion as Each}
 use Rattle.std.proofs.lemmas.Bool.{and_parts, cases_Bool, eqb-true, false_from_ne_true, or_parts, true≢false}
 use Rattle.std.proofs.lemmas.List.Elements.{All-from_recursion}
@@ -16,6 +16,7 @@ use Rattle.aprs_history.specs.History.{History, ends_round, greatest_link, is_st
 use Rattle.aprs_history.specs.Acts.{Act, Closes, Offers, IsRun, MayCome, acts_after, but_first, cast_act, dials, due, is_offered, listens_from, offer_to, offered_links}
 use Rattle.aprs_history.specs.Headline.{HasFreshLinks}
 use Rattle.aprs_history.proofs.NumberLemmas.{differs_above}
+use Rattle.http_submit.specs.Fronts.{is_at}
 use Rattle.front_history.specs.Views.{IsNotTo, NoneIsServedThere, opened_at, opened_from}
 use Rattle.front_history.proofs.StrangerLemmas.{AreStrange, Without, none_appended, none_filtered, strangers}
 
@@ -85,11 +86,16 @@ module _ (k : ℕ) where
 
 -- ---- the links that were opened
 
-module _ (u k : ℕ) where
+-- a port that has that number
+pub at_is : (u : Option ℕ) (n : ℕ) → is_at u n ≡ true → u ≡ Some n
+at_is None n at = absurd (true≢false (sym at))
+at_is (Some m) n at = ap Some (sym (eqb-true n m at))
+
+module _ (u : Option ℕ) (k : ℕ) where
   -- a link that was opened isn't above the greatest
   pub opened_within : (h : History) → opened_at u h k ≡ true → k ≤ greatest_link h
   opened_within [] opened = absurd (true≢false (sym opened))
-  opened_within (did.Event (event.Opened listener link from) ∷ h) opened = of (listener == u && link == k) (λ is. eqb-true link k (and_parts (listener == u) (link == k) is).1) (opened_within h) opened
+  opened_within (did.Event (event.Opened listener link from) ∷ h) opened = of (is_at u listener && link == k) (λ is. eqb-true link k (and_parts (is_at u listener) (link == k) is).1) (opened_within h) opened
     where
       of : (b : Bool) → (b ≡ true → link ≡ k) → (opened_at u h k ≡ true → k ≤ greatest_link h) → is_some (if b then Some from else opened_from u h k) ≡ true → k ≤ max link (greatest_link h)
       of true same before opened = let is = same refl in omega arith
@@ -109,16 +115,19 @@ never_opened s k (did.Event (event.Joined uplink link at) ∷ h) above = (never_
 never_opened s k (did.Event e ∷ h) above = (never_opened s k h above, tt)
 never_opened s k (x ∷ h) above = never_opened s k h above
 
-module _ (s : Setting) (u : ℕ) (submits : kind_at s u ≡ Some kind.Submit) (k : ℕ) where
+module _ (s : Setting) (u : Option ℕ) (submits : IfSome u (λ n. kind_at s n ≡ Some kind.Submit)) (k : ℕ) where
+  submits_at : (n : ℕ) → u ≡ Some n → kind_at s n ≡ Some kind.Submit
+  submits_at n is = subst (λ port. IfSome port (λ m. kind_at s m ≡ Some kind.Submit)) is submits
+
   -- one that was opened where datagrams come was opened nowhere else
   pub opened_strange : (h : History) → HasFreshLinks h → opened_at u h k ≡ true → AreStrange k s h
   opened_strange [] fresh opened = absurd (true≢false (sym opened))
-  opened_strange (did.Event (event.Opened listener link from) ∷ h) fresh opened = of (opened_strange h fresh.0) (cases_Bool (listener == u && link == k))
+  opened_strange (did.Event (event.Opened listener link from) ∷ h) fresh opened = of (opened_strange h fresh.0) (cases_Bool (is_at u listener && link == k))
     where
-      of : (opened_at u h k ≡ true → AreStrange k s h) → ((listener == u && link == k) ≡ true) ⊎ ((listener == u && link == k) ≡ false) → AreStrange k s (did.Event (event.Opened listener link from) ∷ h)
+      of : (opened_at u h k ≡ true → AreStrange k s h) → ((is_at u listener && link == k) ≡ true) ⊎ ((is_at u listener && link == k) ≡ false) → AreStrange k s (did.Event (event.Opened listener link from) ∷ h)
       of earlier (inl is) =
-          let parts = and_parts (listener == u) (link == k) is in
-          (never_opened s k h (subst (λ n. greatest_link h < n) (eqb-true link k parts.1) fresh.1), inr (inr (ap (kind_at s) (eqb-true listener u parts.0) ∙ submits)))
+          let parts = and_parts (is_at u listener) (link == k) is in
+          (never_opened s k h (subst (λ n. greatest_link h < n) (eqb-true link k parts.1) fresh.1), inr (inr (submits_at listener (at_is u listener parts.0))))
       of earlier (inr other) =
           let before : opened_at u h k ≡ true = sym (ap (λ b. is_some (if b then Some from else opened_from u h k)) other) ∙ opened in
           let within = opened_within u k h before in
@@ -139,7 +148,7 @@ others_all s k [] strange run = tt
 others_all s k (did.Event e ∷ h) strange run = (tt, others_all s k h strange.0 run.0)
 others_all s k (x ∷ h) strange run = (others_come k (due s h) (is_stopped h) x (others_due k s h strange) run.1, others_all s k h strange run.0)
 
-module _ (u : ℕ) (h : History) where
+module _ (u : Option ℕ) (h : History) where
   never_opened_there : (k : ℕ) → (opened_at u h k ≡ true → (k == k) ≡ false) → opened_at u h k ≡ false
   never_opened_there k other = false_from_ne_true (opened_at u h k) (λ is. true≢false (sym (eq-eqb k k refl) ∙ other is))
 
@@ -149,8 +158,8 @@ module _ (u : ℕ) (h : History) where
   none_to (did.Closed link ∷ xs) all = (never_opened_there link (λ is. (all link is).0), none_to xs (λ k is. (all k is).1))
   none_to (x ∷ xs) all = (tt, none_to xs (λ k is. (all k is).1))
 
-pub each_not_to : (s : Setting) (h : History) (u : ℕ) → kind_at s u ≡ Some kind.Submit → IsRun s h → HasFreshLinks h → Each (IsNotTo u h) h
+pub each_not_to : (s : Setting) (h : History) (u : Option ℕ) → IfSome u (λ n. kind_at s n ≡ Some kind.Submit) → IsRun s h → HasFreshLinks h → Each (IsNotTo u h) h
 each_not_to s h u submits run fresh = none_to u h h (λ k is. others_all s k h (opened_strange s u submits k h fresh is) run)
 
 pub none_is_served_there : NoneIsServedThere
-none_is_served_there s h u submits run fresh = All-from_recursion (IsNotTo u h) h (each_not_to s h u submits run fresh)
+none_is_served_there s h u submits run fresh = All-from_recursion (IsNotTo (Some u) h) h (each_not_to s h (Some u) submits run fresh)

@@ -1,18 +1,21 @@
 -- What is served goes on by each happening: the server's, the front's, and an event.
-use Rattle.std.proofs.Common.{◌≡◌, ℕ, Bool, false, List, [], ◌∷◌, refl, sym, ap, ◌∙◌, subst, append-nil, Option, Some, None}
+use Rattle.std.proofs.Common.{◌≡◌, ℕ, ◌==◌, Bool, false, if◌then◌else◌, List, [], ◌∷◌, refl, sym, ap, ◌∙◌, subst, append-nil, Option, Some, None}
 use Rattle.std.specs.Prelude.{⊤}
 use Rattle.std.specs.Option.{option_map}
 use Rattle.aprs_base.specs.Outside.{Told, with_done}
 use Rattle.aprs_base.specs.declared.events.Event.{Event}
 use Rattle.aprs_base.specs.declared.events.Happening.{Happening}
+use Rattle.aprs_base.specs.declared.events.Sent.{Sent}
 use Rattle.aprs_base.specs.declared.events.Happening.TheVariants as did
 use Rattle.aprs_history.specs.Setting.{Setting}
-use Rattle.aprs_history.specs.History.{History, is_stopped}
+use Rattle.aprs_history.specs.History.{History, is_stopped, open_events}
 use Rattle.aprs_history.specs.Acts.{Act, MayCome, due}
 use Rattle.aprs_history.specs.Runs.{cast_by, dialled_by, listened_by, told_after, told_more}
+use Rattle.aprs_base.specs.declared.totals.Totals.{Totals}
 use Rattle.http_submit.specs.Fronts.{FrontSeen, Turns, fresh_front}
-use Rattle.front_history.specs.Answers.{Answers, FrontState, FulfilsFirst, Steps, front_state, paid, wired}
-use Rattle.front_history.specs.Serving.{ActsOn, EndsOn, GoesOn, Serves}
+use Rattle.status_page.specs.PageFronts.{PageSeen, PageTurns, counting, fresh_page}
+use Rattle.front_history.specs.Answers.{Answers, Duty, FrontState, FulfilsNext, Steps, finished, front_state, noted, paid, paid_by, published, wired, wired_for}
+use Rattle.front_history.specs.Serving.{ActsOn, EndsOn, GoesOn, SendsOn, Serves, ports_of}
 
 -- this change of what is told is that of one happening more
 abbrev pub Tells : Setting → Happening → (Told → Told) → Type 0
@@ -27,9 +30,9 @@ abbrev pub IsAct : Happening → Type 0
 IsAct (did.Event e) = ⊥
 IsAct x = ⊤
 
-pub serves_begins : (s : Setting) (now : Option Told) (at : Option ℕ) (P : History → Type 0) → P [] → Serves s now now (front_state (fresh_front at)) P
-serves_begins s None at P p = refl
-serves_begins s (Some told) at P p = ([], [], refl, (refl, refl), tt, p)
+pub serves_begins : (s : Setting) (now : Option Told) (page upload : Option ℕ) (P : History → Type 0) → P [] → Serves s now now (front_state (fresh_page page s.server) (fresh_front upload)) P
+serves_begins s None page upload P p = refl
+serves_begins s (Some told) page upload P p = ([], [], refl, (refl, refl), tt, p)
 
 -- what holds of what the server saw may be said otherwise
 pub serves_so : (s : Setting) (now : Option Told) (P Q : History → Type 0) → ((seen : History) → P seen → Q seen) → ActsOn s now now P Q
@@ -47,10 +50,10 @@ acts_then s old mid new P Q R first second state start serves = second state sta
 pub goes_then : (s : Setting) (old : Option Told) (before : FrontState) (mid new : Option Told) (after : FrontState) (P Q R : History → Type 0) → GoesOn s old before mid after P Q → ActsOn s mid new Q R → GoesOn s old before new after P R
 goes_then s old before mid new after P Q R first second start serves = second after start (first start serves)
 
-pub goes_to_end : (s : Setting) (old : Option Told) (before : FrontState) (new : Option Told) (after : FrontState) (P Q : History → Type 0) → after.front.at ≡ before.front.at → GoesOn s old before new after P Q → EndsOn s old before new P Q
+pub goes_to_end : (s : Setting) (old : Option Told) (before : FrontState) (new : Option Told) (after : FrontState) (P Q : History → Type 0) → ports_of after ≡ ports_of before → GoesOn s old before new after P Q → EndsOn s old before new P Q
 goes_to_end s old before new after P Q port goes start serves = (after, port, goes start serves)
 
-pub goes_then_ends : (s : Setting) (old : Option Told) (before : FrontState) (mid : Option Told) (after : FrontState) (new : Option Told) (P Q R : History → Type 0) → after.front.at ≡ before.front.at → GoesOn s old before mid after P Q
+pub goes_then_ends : (s : Setting) (old : Option Told) (before : FrontState) (mid : Option Told) (after : FrontState) (new : Option Told) (P Q R : History → Type 0) → ports_of after ≡ ports_of before → GoesOn s old before mid after P Q
     → EndsOn s mid after new Q R → EndsOn s old before new P R
 goes_then_ends s old before mid after new P Q R port goes ends start serves =
     let last = ends start (goes start serves) in
@@ -62,19 +65,27 @@ ends_weaker s old before new P Q R so ends start serves =
     (last.0, last.1, serves_so s new Q R so last.0 start last.2)
 
 -- where an act is due, what may come is no event, and it is the server's
-step_of : (acts : List Act) (stopped : Bool) (x : Happening) (state : FrontState) (seen : History) → IsAct x → MayCome acts stopped x → Steps acts x state state seen (x ∷ seen)
-step_of [] stopped (did.Event e) state seen act may = absurd act
-step_of [] stopped x state seen act may = absurd may.1
-step_of (first ∷ acts) stopped x state seen act may = (refl, refl)
+step_of : (s : Setting) (acts : List Act) (stopped : Bool) (x : Happening) (state : FrontState) (seen : History) → IsAct x → MayCome acts stopped x → Steps s acts x state (noted x state) seen (x ∷ seen)
+step_of s [] stopped (did.Event e) state seen act may = absurd act
+step_of s [] stopped x state seen act may = absurd may.1
+step_of s (first ∷ acts) stopped x state seen act may = (refl, refl)
 
-answers_act : (s : Setting) (more : History) (x : Happening) (before state : FrontState) (rest seen : History) → IsAct x → Answers s more before rest → Steps (due s rest) x before state rest seen
+answers_act : (s : Setting) (more : History) (x : Happening) (before state : FrontState) (rest seen : History) → IsAct x → Answers s more before rest → Steps s (due s rest) x before state rest seen
     → Answers s (x ∷ more) state seen
 answers_act s more (did.Event e) before state rest seen act answers steps = absurd act
 answers_act s more x before state rest seen act answers steps = (before, rest, answers, steps)
 
--- the server acts, while the front stands so
-pub server_acts_at : (s : Setting) (old new : Option Told) (x : Happening) (change : Told → Told) (state : FrontState) (P Q : History → Type 0) → IsAct x → Tells (wired state.front.at s) x change
-    → new ≡ option_map change old → ((seen : History) → P seen → MayCome (due s seen) (is_stopped seen) x × Q (x ∷ seen)) → GoesOn s old state new state P Q
+pub ports_noted : (x : Happening) (state : FrontState) → ports_of (noted x state) ≡ ports_of state
+ports_noted (did.Sent link bytes outcome) state = refl
+ports_noted (did.Cast peer bytes) state = refl
+ports_noted (did.Event e) state = refl
+ports_noted (did.Listen n) state = refl
+ports_noted (did.Dialled uplink) state = refl
+ports_noted (did.Closed link) state = refl
+
+-- the server acts, while the fronts stand so, and what it sent is counted
+pub server_acts_at : (s : Setting) (old new : Option Told) (x : Happening) (change : Told → Told) (state : FrontState) (P Q : History → Type 0) → IsAct x → Tells (wired_for state s) x change
+    → new ≡ option_map change old → ((seen : History) → P seen → MayCome (due s seen) (is_stopped seen) x × Q (x ∷ seen)) → GoesOn s old state new (noted x state) P Q
 server_acts_at s old new x change state P Q act tells is step None serves = is ∙ ap (option_map change) serves
 server_acts_at s old new x change state P Q act tells is step (Some first) serves =
     let more = serves.0 in
@@ -82,51 +93,112 @@ server_acts_at s old new x change state P Q act tells is step (Some first) serve
     let stepped = step seen serves.5 in (
       x ∷ more,
       x ∷ seen,
-      is ∙ ap (option_map change) serves.2 ∙ ap Some (tells (told_after (wired state.front.at s) first more)),
-      answers_act s more x state state seen (x ∷ seen) act serves.3 (step_of (due s seen) (is_stopped seen) x state seen act stepped.0),
+      is ∙ ap (option_map change) serves.2 ∙ ap Some (tells (told_after (wired_for state s) first more))
+          ∙ ap (λ ports. Some (told_after (wired ports.upload (wired ports.page s)) first (x ∷ more))) (sym (ports_noted x state)),
+      answers_act s more x state (noted x state) seen (x ∷ seen) act serves.3 (step_of s (due s seen) (is_stopped seen) x state seen act stepped.0),
       (serves.4, stepped.0),
       stepped.1,
     )
 
--- however it stands
-pub server_acts : (s : Setting) (old new : Option Told) (x : Happening) (change : Told → Told) (P Q : History → Type 0) → IsAct x → ((at : Option ℕ) → Tells (wired at s) x change) → new ≡ option_map change old
+-- it does what no front counts
+abbrev pub IsUncounted : Happening → Type 0
+IsUncounted (did.Sent link bytes outcome) = ⊥
+IsUncounted (did.Cast peer bytes) = ⊥
+IsUncounted x = ⊤
+
+uncounted : (x : Happening) (state : FrontState) → IsUncounted x → noted x state ≡ state
+uncounted (did.Sent link bytes outcome) state none = absurd none
+uncounted (did.Cast peer bytes) state none = absurd none
+uncounted (did.Event e) state none = refl
+uncounted (did.Listen n) state none = refl
+uncounted (did.Dialled uplink) state none = refl
+uncounted (did.Closed link) state none = refl
+
+-- however they stand
+pub server_acts : (s : Setting) (old new : Option Told) (x : Happening) (change : Told → Told) (P Q : History → Type 0) → IsAct x → IsUncounted x → ((state : FrontState) → Tells (wired_for state s) x change)
+    → new ≡ option_map change old
     → ((seen : History) → P seen → MayCome (due s seen) (is_stopped seen) x × Q (x ∷ seen)) → ActsOn s old new P Q
-server_acts s old new x change P Q act tells is step state = server_acts_at s old new x change state P Q act (tells state.front.at) is step
+server_acts s old new x change P Q act none tells is step state =
+    subst (λ after. GoesOn s old state new after P Q) (uncounted x state none) (server_acts_at s old new x change state P Q act (tells state) is step)
 
--- no act of the server's is due, and no stop has come
-abbrev pub IsIdle : Setting → History → Type 0
-IsIdle s seen = (due s seen ≡ []) × (is_stopped seen ≡ false)
+-- the server sends bytes to a link, or a datagram to a peer, and the front for the page counts that
+pub sent_on : (s : Setting) (old new : Option Told) (link : ℕ) (bytes : List ℕ) (outcome : Sent) (before after : PageSeen) (P Q : History → Type 0) → after ≡ counting (did.Sent link bytes outcome) before
+    → new ≡ option_map (with_done (did.Sent link bytes outcome)) old → ((seen : History) → P seen → MayCome (due s seen) (is_stopped seen) (did.Sent link bytes outcome) × Q (did.Sent link bytes outcome ∷ seen))
+    → SendsOn s old before new after P Q
+sent_on s old new link bytes outcome before after P Q counted is step front =
+    let x = did.Sent link bytes outcome in
+    subst (λ page. GoesOn s old (front_state before front) new (front_state page front) P Q) (sym counted)
+    (server_acts_at s old new x (with_done x) (front_state before front) P Q tt (tells_done (wired_for (front_state before front) s) x refl refl refl) is step)
 
--- the front acts where the server doesn't
-pub front_acts : (s : Setting) (old new : Option Told) (x : Happening) (state : FrontState) (P : History → Type 0) → IsAct x → ((at : Option ℕ) → Tells (wired at s) x (with_done x)) → FulfilsFirst state.acts x
-    → new ≡ option_map (with_done x) old → ((seen : History) → P seen → IsIdle s seen) → GoesOn s old state new (paid x state) P P
-front_acts s old new x state P act tells first is idle None serves = is ∙ ap (option_map (with_done x)) serves
-front_acts s old new x state P act tells first is idle (Some start) serves =
+pub cast_on : (s : Setting) (old new : Option Told) (peer : ℕ) (bytes : List ℕ) (change : Told → Told) (before after : PageSeen) (P Q : History → Type 0) → after ≡ counting (did.Cast peer bytes) before
+    → ((state : FrontState) → Tells (wired_for state s) (did.Cast peer bytes) change) → new ≡ option_map change old
+    → ((seen : History) → P seen → MayCome (due s seen) (is_stopped seen) (did.Cast peer bytes) × Q (did.Cast peer bytes ∷ seen)) → SendsOn s old before new after P Q
+cast_on s old new peer bytes change before after P Q counted tells is step front =
+    subst (λ page. GoesOn s old (front_state before front) new (front_state page front) P Q) (sym counted)
+    (server_acts_at s old new (did.Cast peer bytes) change (front_state before front) P Q tt (tells (front_state before front)) is step)
+
+pub sends_then : (s : Setting) (old : Option Told) (before : PageSeen) (mid : Option Told) (between : PageSeen) (new : Option Told) (after : PageSeen) (P Q R : History → Type 0)
+    → SendsOn s old before mid between P Q → SendsOn s mid between new after Q R → SendsOn s old before new after P R
+sends_then s old before mid between new after P Q R first second front start serves = second front start (first front start serves)
+
+-- what the server does that isn't counted
+pub acts_uncounted : (s : Setting) (old new : Option Told) (page : PageSeen) (P Q : History → Type 0) → ActsOn s old new P Q → SendsOn s old page new page P Q
+acts_uncounted s old new page P Q acts front = acts (front_state page front)
+
+-- no act of the server's is due, no stop has come, and these totals are published
+pub record IsIdle (s : Setting) (totals : Totals) (seen : History) : Type 0 where
+  pub none : due s seen ≡ []
+  pub going : is_stopped seen ≡ false
+  pub told : published s seen ≡ totals
+
+pub paid_at : (x : Happening) (state : FrontState) → ports_of (paid x state) ≡ ports_of state
+paid_at x state = by state.duties
+  where
+    by : (duties : List Duty) → ports_of (paid_by x duties state) ≡ ports_of state
+    by [] = refl
+    by (duty ∷ duties) = refl
+
+-- a front acts where the server doesn't
+pub front_acts : (s : Setting) (totals : Totals) (old new : Option Told) (x : Happening) (state : FrontState) (P : History → Type 0) → IsAct x → ((t : Setting) → Tells t x (with_done x)) → FulfilsNext totals state x
+    → new ≡ option_map (with_done x) old → ((seen : History) → P seen → IsIdle s totals seen) → GoesOn s old state new (paid x state) P P
+front_acts s totals old new x state P act tells first is idle None serves = is ∙ ap (option_map (with_done x)) serves
+front_acts s totals old new x state P act tells first is idle (Some start) serves =
     let more = serves.0 in
     let seen = serves.1 in
-    let rests = idle seen serves.5 in (
+    let rests = idle seen serves.5 in
+    let next : FulfilsNext (published s seen) state x = subst (λ t. FulfilsNext t state x) (sym rests.told) first in (
       x ∷ more,
       seen,
-      is ∙ ap (option_map (with_done x)) serves.2 ∙ ap Some (tells state.front.at (told_after (wired state.front.at s) start more)),
-      answers_act s more x state (paid x state) seen seen act serves.3 (subst (λ acts. Steps acts x state (paid x state) seen seen) (sym rests.0) (rests.1, first, refl, refl)),
+      is ∙ ap (option_map (with_done x)) serves.2 ∙ ap Some (tells (wired_for state s) (told_after (wired_for state s) start more))
+          ∙ ap (λ ports. Some (told_after (wired ports.upload (wired ports.page s)) start (x ∷ more))) (sym (paid_at x state)),
+      answers_act s more x state (paid x state) seen seen act serves.3 (subst (λ acts. Steps s acts x state (paid x state) seen seen) (sym rests.none) (rests.going, next, refl, refl)),
       serves.4,
       serves.5,
     )
 
 -- an event comes, and the server sees what the front hands up
-pub event_comes : (s : Setting) (old new : Option Told) (e up : Event) (state : FrontState) (after : FrontSeen) (P Q : History → Type 0) → state.front.at ≡ after.at → state.acts ≡ [] → Turns state.front e after up
-    → ((at : Option ℕ) → Tells (wired at s) (did.Event e) (with_done (did.Event e))) → new ≡ option_map (with_done (did.Event e)) old → ((seen : History) → P seen → IsIdle s seen × Q (did.Event up ∷ seen))
-    → GoesOn s old state new (front_state after) P Q
-event_comes s old new e up state after P Q at none turns tells is step None serves = is ∙ ap (option_map (with_done (did.Event e))) serves
-event_comes s old new e up state after P Q at none turns tells is step (Some start) serves =
+pub event_comes : (s : Setting) (totals : Totals) (old new : Option Told) (e up : Event) (state : FrontState) (page : PageSeen) (front : FrontSeen) (P Q : History → Type 0) → ports_of state ≡ ports_of (front_state page front)
+    → state.duties ≡ [] → state.acts ≡ [] → Turns state.front e front up → PageTurns state.page up page
+    → ((t : Setting) → Tells t (did.Event e) (with_done (did.Event e))) → new ≡ option_map (with_done (did.Event e)) old → ((seen : History) → P seen → IsIdle s totals seen × Q (did.Event up ∷ seen))
+    → GoesOn s old state new (front_state page front) P Q
+event_comes s totals old new e up state page front P Q at done none turns page_turns tells is step None serves = is ∙ ap (option_map (with_done (did.Event e))) serves
+event_comes s totals old new e up state page front P Q at done none turns page_turns tells is step (Some start) serves =
     let more = serves.0 in
     let seen = serves.1 in
-    let stepped = step seen serves.5 in (
+    let stepped = step seen serves.5 in
+    let idle = stepped.0 in (
       did.Event e ∷ more,
       did.Event up ∷ seen,
-      is ∙ ap (option_map (with_done (did.Event e))) serves.2 ∙ ap Some (tells state.front.at (told_after (wired state.front.at s) start more))
-          ∙ ap (λ u. Some (told_after (wired u s) start (did.Event e ∷ more))) at,
-      (state, seen, serves.3, record { up = up; after = after; turns = turns; idle = stepped.0.0; paid = none; state_is = refl; seen_is = refl }),
-      (serves.4, subst (λ acts. MayCome acts (is_stopped seen) (did.Event up)) (sym stepped.0.0) (stepped.0.1, tt)),
+      is ∙ ap (option_map (with_done (did.Event e))) serves.2 ∙ ap Some (tells (wired_for state s) (told_after (wired_for state s) start more))
+          ∙ ap (λ ports. Some (told_after (wired ports.upload (wired ports.page s)) start (did.Event e ∷ more))) at,
+      (state, seen, serves.3, record { up = up; after = front; page_after = page; turns = turns; page_turns = page_turns; idle = idle.none; done = done; paid = none; state_is = refl; seen_is = refl }),
+      (serves.4, subst (λ acts. MayCome acts (is_stopped seen) (did.Event up)) (sym idle.none) (idle.going, tt)),
       stepped.1,
     )
+
+-- ---- the totals that are published
+
+-- nothing is open where a round is finished
+pub finished_all : (h : History) → open_events h ≡ 0 → finished h ≡ h
+finished_all [] none = refl
+finished_all (x ∷ earlier) none = ap (λ m. if m == 0 then x ∷ earlier else finished earlier) none
