@@ -12,9 +12,10 @@ use Rattle.aprs_history.specs.Texts.{untaken}
 use Rattle.aprs_history.specs.History.{History, is_stopped, trace_of}
 use Rattle.aprs_history.specs.Acts.{Act, Offers, Closes, MayCome, due, but_first, offer_to}
 use Rattle.aprs_history.specs.Journal.{journal_of}
-use Rattle.front_history.specs.Answers.{wired}
-use Rattle.front_history.specs.Serving.{ActsOn}
-use Rattle.front_history.proofs.ServesLemmas.{server_acts, tells_done}
+use Rattle.status_page.specs.PageFronts.{PageSeen, counting}
+use Rattle.front_history.specs.Answers.{wired_for}
+use Rattle.front_history.specs.Serving.{ActsOn, SendsOn}
+use Rattle.front_history.proofs.ServesLemmas.{sent_on, server_acts, tells_done}
 use Rattle.server_core.specs.Meaning.{CoreMeaning, Stands, setting_of}
 use Rattle.aprs_history.proofs.NumberLemmas.{member_first}
 use Rattle.server_core.proofs.OfferLemmas.{left_by_other, member_differs}
@@ -42,15 +43,14 @@ owing_next conf link offers closes bytes outcome more other owing = record {
 }
 
 -- one offer is made
-pub run_sends : (lines : List JournalLineSeen) (s : Setting) (now next : Option Told) (core new : CoreMeaning) (link : ℕ) (offers closes : List ℕ) (bytes : List ℕ) (outcome : Sent) → setting_of core.conf ≡ s
+pub run_sends : (lines : List JournalLineSeen) (s : Setting) (now next : Option Told) (page after : PageSeen) (core new : CoreMeaning) (link : ℕ) (offers closes : List ℕ) (bytes : List ℕ) (outcome : Sent) → setting_of core.conf ≡ s
     → new.conf ≡ core.conf → is_member link offers ≡ false → IsOutcome bytes outcome
     → ((h : History) → Stands core h → bytes ≡ take 65536 (untaken (setting_of core.conf) (trace_of (setting_of core.conf) h) link))
     → ((h : History) → Stands core h → Stands new (did.Sent link bytes outcome ∷ h))
-    → next ≡ option_map (with_done (did.Sent link bytes outcome)) now
-    → ActsOn s now next (Offering lines core (link ∷ offers) closes) (Offering lines new offers closes)
-run_sends lines s now next core new link offers closes bytes outcome same conf other part given stands is =
-    server_acts s now next (did.Sent link bytes outcome) (with_done (did.Sent link bytes outcome)) (Offering lines core (link ∷ offers) closes) (Offering lines new offers closes)
-    tt (λ at. tells_done (wired at s) (did.Sent link bytes outcome) refl refl refl) is (λ more phase.
+    → after ≡ counting (did.Sent link bytes outcome) page → next ≡ option_map (with_done (did.Sent link bytes outcome)) now
+    → SendsOn s now page next after (Offering lines core (link ∷ offers) closes) (Offering lines new offers closes)
+run_sends lines s now next page after core new link offers closes bytes outcome same conf other part given stands counted is =
+    sent_on s now next link bytes outcome page after (Offering lines core (link ∷ offers) closes) (Offering lines new offers closes) counted is (λ more phase.
     let owing = phase.owing in
     let c = setting_of core.conf in (
       subst (λ t. MayCome (due t more) (is_stopped more) (did.Sent link bytes outcome)) same
@@ -77,7 +77,7 @@ pub run_closes : (lines : List JournalLineSeen) (s : Setting) (now next : Option
     → next ≡ option_map (with_done (did.Closed link)) now → ActsOn s now next (Offering lines core [] (link ∷ closes)) (Offering lines core [] closes)
 run_closes lines s now next core link closes same is =
     server_acts s now next (did.Closed link) (with_done (did.Closed link)) (Offering lines core [] (link ∷ closes)) (Offering lines core [] closes)
-    tt (λ at. tells_done (wired at s) (did.Closed link) refl refl refl) is (λ more phase. (
+    tt tt (λ state. tells_done (wired_for state s) (did.Closed link) refl refl refl) is (λ more phase. (
       subst (λ t. MayCome (due t more) (is_stopped more) (did.Closed link)) same (close_comes (due (setting_of core.conf) more) (is_stopped more) link (map Closes closes) phase.owing.owed),
       record { stands = stands_closed core link more phase.stands; journal = phase.journal; owing = owing_closed core.conf link closes more phase.owing },
     ))
@@ -87,11 +87,11 @@ pub offered_bytes : (bytes left : List ℕ) (room : ℕ) → room ≡ 65536 → 
 offered_bytes bytes left room is given = given ∙ ap (λ n. take (min n 65536) left) is
 
 -- one offer is made, from what the core said
-pub run_offered : (lines : List JournalLineSeen) (s : Setting) (now next : Option Told) (core new : CoreMeaning) (link : ℕ) (offers closes : List ℕ) (bytes : List ℕ) (outcome said : Sent) → setting_of core.conf ≡ s
+pub run_offered : (lines : List JournalLineSeen) (s : Setting) (now next : Option Told) (page after : PageSeen) (core new : CoreMeaning) (link : ℕ) (offers closes : List ℕ) (bytes : List ℕ) (outcome said : Sent) → setting_of core.conf ≡ s
     → new.conf ≡ core.conf → is_member link offers ≡ false → IsOutcome bytes outcome → outcome ≡ said
     → ((h : History) → Stands core h → bytes ≡ take 65536 (untaken (setting_of core.conf) (trace_of (setting_of core.conf) h) link))
     → ((h : History) → Stands core h → Stands new (did.Sent link bytes said ∷ h))
-    → next ≡ option_map (with_done (did.Sent link bytes outcome)) now
-    → ActsOn s now next (Offering lines core (link ∷ offers) closes) (Offering lines new offers closes)
-run_offered lines s now next core new link offers closes bytes outcome said same conf other part is given stands =
-    run_sends lines s now next core new link offers closes bytes outcome same conf other part given (λ h st. subst (λ o. Stands new (did.Sent link bytes o ∷ h)) (sym is) (stands h st))
+    → after ≡ counting (did.Sent link bytes outcome) page → next ≡ option_map (with_done (did.Sent link bytes outcome)) now
+    → SendsOn s now page next after (Offering lines core (link ∷ offers) closes) (Offering lines new offers closes)
+run_offered lines s now next page after core new link offers closes bytes outcome said same conf other part is given stands =
+    run_sends lines s now next page after core new link offers closes bytes outcome same conf other part given (λ h st. subst (λ o. Stands new (did.Sent link bytes o ∷ h)) (sym is) (stands h st))

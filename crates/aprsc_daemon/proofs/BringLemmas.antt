@@ -10,11 +10,15 @@ use Rattle.aprs_base.specs.declared.events.Event.TheVariants as event
 use Rattle.aprs_base.specs.declared.events.Sent.{Sent}
 use Rattle.aprs_base.specs.declared.events.Sent.TheVariants as sent
 use Rattle.http_submit.specs.Fronts.{FrontSeen, Hears, TurnsAt, TurnsBy, handed_up, paid_front}
-use Rattle.http_submit.specs.Owing.{GrewBy, Pays, TakesTurn, closed_after, reply_of}
+use Rattle.http_submit.specs.Owing.{GrewBy, Pays, closed_after, reply_of}
 use Rattle.http_submit.specs.Pools.{WaitingSeen, heard, is_link}
 use Rattle.http_submit.specs.declared.pool.Owed.{Owed}
 use Rattle.http_submit.specs.declared.requests.Post.{Post}
 use Rattle.http_submit.specs.declared.requests.Post.TheVariants.{Whole, More, Refused}
+use Rattle.status_page.specs.PageFronts.{PageSeen, reply_by}
+use Rattle.status_page.specs.Paying.{TakesPageTurn}
+use Rattle.status_page.specs.Paying.{Pays as PaysPages}
+use Rattle.aprsc_daemon.specs.declared.fronts.Fronts.{Fronts}
 use Rattle.aprsc_daemon.specs.Phases.{Brings, BringsUp, IsHandedUp, IsSubmitted, events_in}
 
 -- one happening, whatever else is told with it
@@ -47,19 +51,30 @@ brings_both these those (Some old) now next first later =
 pub brings_on : (events : List Event) (start now next : Option Told) → Brings events start now → Brings [] now next → Brings events start next
 brings_on events start now next first later = subst (λ all. Brings all start next) (append-nil events) (brings_both events [] start now next first later)
 
--- ---- behind a front
+-- ---- behind the fronts
 
 -- no reply is an event
-one_untold : (owed : Owed) (outcome : Sent) → events_in (did.Sent owed.link (reply_of owed.status) outcome ∷ closed_after owed.link outcome) ≡ []
-one_untold owed (sent.Took n) = refl
-one_untold owed sent.Gone = refl
+one_untold : (link : ℕ) (reply : List ℕ) (outcome : Sent) → events_in (did.Sent link reply outcome ∷ closed_after link outcome) ≡ []
+one_untold link reply (sent.Took n) = refl
+one_untold link reply sent.Gone = refl
 
 paid_untold : (owed : List Owed) (done : List Happening) → Pays owed done → events_in done ≡ []
 paid_untold [] done pays = ap events_in pays
 paid_untold (owed ∷ more) done pays =
     ap events_in pays.4 ∙ events_join pays.0 pays.1
-    ∙ ap (λ events. events ++ events_in pays.1) (ap events_in pays.2.is ∙ one_untold owed pays.2.outcome)
+    ∙ ap (λ events. events ++ events_in pays.1) (ap events_in pays.2.is ∙ one_untold owed.link (reply_of owed.status) pays.2.outcome)
     ∙ paid_untold more pays.1 pays.3
+
+pages_untold : (page : PageSeen) (owed : List Owed) (done : List Happening) → PaysPages page owed done → events_in done ≡ []
+pages_untold page [] done pays = ap events_in pays
+pages_untold page (owed ∷ more) done pays =
+    ap events_in pays.4 ∙ events_join pays.0 pays.1
+    ∙ ap (λ events. events ++ events_in pays.1) (ap events_in pays.2.is ∙ one_untold owed.link (reply_by page owed.status) pays.2.outcome)
+    ∙ pages_untold page more pays.1 pays.3
+
+pages_bring : (page : PageSeen) (owed : List Owed) (old new : Option Told) → GrewBy old new (PaysPages page owed) → Brings [] old new
+pages_bring page owed None new grew = grew
+pages_bring page owed (Some old) new grew = (record old { done = old.done ++ grew.0 }, grew.0, grew.1, refl, pages_untold page owed grew.0 grew.2)
 
 turn_brings : (e : Event) (owed : List Owed) (old new : Option Told) → GrewBy old new (λ more. (done : List Happening) × Pays owed done × (more ≡ done ++ did.Event e ∷ [])) → Brings (e ∷ []) old new
 turn_brings e owed None new grew = grew
@@ -103,12 +118,17 @@ zip_on P (a ∷ xs) [] x y all here = absurd all
 zip_on P (a ∷ xs) (b ∷ ys) x y all here = (all.0, zip_on P xs ys x y all.1 here)
 
 -- one event more is handed up
-pub brings_turn : (at : Option ℕ) (events : List Event) (start now next : Option Told) (before after : FrontSeen) (up : Event) → at ≡ before.at → TakesTurn now next before after up → BringsUp at events start now → BringsUp at (events ++ up ∷ []) start next
-brings_turn at events start now next before after up same turn brought = (
-  brought.0 ++ turn.came ∷ [],
-  brings_both brought.0 (turn.came ∷ []) start now next brought.1 (turn_brings turn.came before.pool.owed now next turn.told),
-  zip_on (IsHandedUp at) brought.0 events turn.came up brought.2 (subst (λ port. IsHandedUp port turn.came up) (sym same) (handed_by before.at (paid_front before) turn.came after up turn.turns)),
-)
+pub brings_turn : (at : Option ℕ) (events : List Event) (start now next : Option Told) (before after : Fronts) (up : Event) → at ≡ before.http.at → TakesPageTurn now next before.page after.page before.http after.http up
+    → BringsUp at events start now → BringsUp at (events ++ up ∷ []) start next
+brings_turn at events start now next before after up same page_turn brought =
+    let turn = page_turn.front in
+    let came = turn.came in
+    let between = page_turn.between in (
+      brought.0 ++ came ∷ [],
+      brings_both brought.0 (came ∷ []) start now next brought.1
+          (brings_both [] (came ∷ []) now between next (pages_bring before.page before.page.pool.owed now between page_turn.paid) (turn_brings came before.http.pool.owed between next turn.told)),
+      zip_on (IsHandedUp at) brought.0 events came up brought.2 (subst (λ port. IsHandedUp port came up) (sym same) (handed_by before.http.at (paid_front before.http) came after.http up turn.turns)),
+    )
 
 -- and then none
 pub brings_up_on : (at : Option ℕ) (events : List Event) (start now next : Option Told) → BringsUp at events start now → Brings [] now next → BringsUp at events start next

@@ -160,6 +160,7 @@ drill_conf = record {
   email = [];
   listens = record { name = codes "full"; spec = port kind.Full 1; idle = false } ∷ record { name = codes "igate"; spec = port kind.Igate 2; idle = false } ∷ [];
   upload = None;
+  page = None;
   uplinks = [];
   group = None;
   peers = [];

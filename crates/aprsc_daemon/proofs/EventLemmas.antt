@@ -1,28 +1,33 @@
 -- Events that come one after another, up to the end of a round.
-use Rattle.std.proofs.Common.{◌≡◌, ℕ, zero, suc, ◌+◌, ◌<◌, ◌≤◌, Bool, true, false, not, ◌&&◌, List, [], ◌∷◌, ◌++◌, length, refl, sym, ap, ◌∙◌, subst, arith, Option, Some, None, max, IfSome, if◌then◌else◌, length-append, Result, Ok, Err, IfErr, IsErrAnd, OnErr, OnOk, ◌||◌, ◌-◌, eq-eqb, ⊎_elim}
+use Rattle.std.proofs.Common.{◌≡◌, ℕ, zero, suc, ◌+◌, ◌<◌, ◌≤◌, Bool, true, false, not, ◌&&◌, List, [], ◌∷◌, ◌++◌, length, refl, sym, ap, ◌∙◌, subst, arith, Option, Some, None, max, IfSome, if◌then◌else◌, ◌==◌, length-append, Result, Ok, Err, IfErr, IsErrAnd, OnErr, OnOk, ◌||◌, ◌-◌, eq-eqb, ⊎_elim}
 use Rattle.std.proofs.Math.Bool.{or-true}
 use Rattle.std.proofs.Math.Nat.{eq-or-lt_of_le}
 use Rattle.std.specs.Bool.{MatchBool}
 use Rattle.std.proofs.lemmas.Bool.{and_parts, false≢true, not-true}
+use Rattle.std.proofs.lemmas.Bool.Decides.{nat_tests}
 use Rattle.aprs_base.specs.Outside.{Told, CountsLink, new_link}
 use Rattle.aprs_base.specs.declared.events.Event.{Event}
 use Rattle.aprs_base.specs.declared.events.Happening.TheVariants as did
 use Rattle.aprs_base.specs.declared.events.WireError.TheVariants as wire_error
 use Rattle.aprs_base.specs.Journals.{JournalLineSeen}
 use Rattle.aprs_history.specs.Setting.{Setting}
-use Rattle.aprs_history.specs.History.{History, ends_round, is_round_event, is_stop, is_stopped, open_events, greater_link, greatest_link}
+use Rattle.aprs_history.specs.History.{History, ends_round, is_round_event, is_stop, is_stopped, open_events, greater_link, greatest_link, trace_of}
 use Rattle.aprs_history.specs.Rounds.{is_whole, with_events, AreFresh, greatest_after}
 use Rattle.aprs_history.specs.Headline.{HasFreshLinks}
 use Rattle.aprs_history.specs.Acts.{due, acts_after}
-use Rattle.http_submit.specs.Fronts.{FrontSeen, paid_front}
-use Rattle.http_submit.specs.Owing.{TakesTurn}
-use Rattle.front_history.specs.Answers.{front_state}
-use Rattle.front_history.specs.Serving.{GoesOn}
+use Rattle.aprs_history.specs.Counts.{totals_of}
+use Rattle.aprs_base.specs.declared.totals.Totals.{Totals}
+use Rattle.http_submit.specs.Fronts.{paid_front}
+use Rattle.status_page.specs.Paying.{TakesPageTurn}
+use Rattle.front_history.specs.Answers.{finished, published}
+use Rattle.front_history.specs.Serving.{GoesOn, ports_of}
 use Rattle.front_history.proofs.FrontLemmas.{turn_taken, turns_keep}
-use Rattle.front_history.proofs.ServesLemmas.{IsIdle}
+use Rattle.front_history.proofs.ServesLemmas.{IsIdle, finished_all}
 use Rattle.server_core.specs.Meaning.{CoreMeaning, setting_of}
 use Rattle.server_core.proofs.RoundLemmas.{more_events}
 use Rattle.server_core.proofs.RoundLemmas.{no_stop}
+use Rattle.aprsc_daemon.specs.Fronts.{state_of}
+use Rattle.aprsc_daemon.specs.declared.fronts.Fronts.{Fronts}
 use Rattle.aprsc_daemon.specs.Phases.{is_partial, Counted, Gathering, Idle}
 
 pub with_push : (events : List Event) (e : Event) (h : History) → with_events (events ++ e ∷ []) h ≡ did.Event e ∷ with_events events h
@@ -48,12 +53,32 @@ stopped_partial n (e ∷ events) h partial going =
     let parts = parts_of n e events partial in
     stopped_partial (n + 1) events (did.Event e ∷ h) parts.1 (ap (λ b. Rattle.std.proofs.Common.◌||◌ b (is_stopped h)) (no_stop n e parts.0) ∙ going)
 
--- where a part of a round is there, nothing is to be done and no stop has come
-pub gathered_idles : {lines : List JournalLineSeen} (s : Setting) (core : CoreMeaning) (events : List Event) (more : History) → setting_of core.conf ≡ s → is_partial 0 events ≡ true → Gathering lines core events more → IsIdle s more
-gathered_idles s core events more same partial phase = (
-  ap (due s) phase.since ∙ due_partial s 0 events phase.before partial phase.resting.stands.finished (subst (λ t. due t phase.before ≡ []) same phase.resting.none),
-  ap is_stopped phase.since ∙ stopped_partial 0 events phase.before partial phase.going,
-)
+-- no part of a round finishes one
+finished_stays : (n : ℕ) (events : List Event) (h : History) → is_partial n events ≡ true → open_events h ≡ n → finished (with_events events h) ≡ finished h
+finished_stays n [] h partial open_is = refl
+finished_stays n (e ∷ events) h partial open_is =
+    let parts = parts_of n e events partial in
+    let apart : (n + 1 == 0) ≡ false = grind (arith, nat_tests) in
+    finished_stays (n + 1) events (did.Event e ∷ h) parts.1 (more_events n e h parts.0 open_is)
+    ∙ ap (λ m. if m == 0 then did.Event e ∷ h else finished h) (more_events n e h parts.0 open_is)
+    ∙ ap (λ b. if b then did.Event e ∷ h else finished h) apart
+
+-- where a part of a round is there, nothing is to be done, no stop has come, and the totals are those before it
+pub gathered_idles : {lines : List JournalLineSeen} (s : Setting) (core : CoreMeaning) (events : List Event) (totals : Totals) (more : History) → setting_of core.conf ≡ s → totals ≡ core.seen.totals → is_partial 0 events ≡ true
+    → Gathering lines core events more → IsIdle s totals more
+gathered_idles s core events totals more same told partial phase =
+    let before = phase.before in
+    let stands = phase.resting.stands in
+    record {
+      none = ap (due s) phase.since ∙ due_partial s 0 events before partial stands.finished (subst (λ t. due t before ≡ []) same phase.resting.none);
+      going = ap is_stopped phase.since ∙ stopped_partial 0 events before partial phase.going;
+      told =
+          ap (published s) phase.since
+          ∙ ap (λ h. totals_of s (trace_of s h)) (finished_stays 0 events before partial stands.finished ∙ finished_all before stands.finished)
+          ∙ ap (λ t. totals_of t (trace_of t before)) (sym same)
+          ∙ sym stands.follows.totals
+          ∙ sym told;
+    }
 
 -- one event more of the same round
 pub gathers_next : {lines : List JournalLineSeen} (core : CoreMeaning) (events : List Event) (e : Event) (more : History) → Gathering lines core events more → Gathering lines core (events ++ e ∷ []) (did.Event e ∷ more)
@@ -65,14 +90,17 @@ gathers_next core events e more phase = record {
   all = phase.all;
 }
 
-pub run_gathers : (lines : List JournalLineSeen) (s : Setting) (now next : Option Told) (before after : FrontSeen) (core : CoreMeaning) (events : List Event) (e : Event) → setting_of core.conf ≡ s → is_partial 0 events ≡ true
-    → TakesTurn now next before after e → GoesOn s now (front_state before) next (front_state after) (Gathering lines core events) (Gathering lines core (events ++ e ∷ []))
-run_gathers lines s now next before after core events e same partial turn =
-    turn_taken s now next before after e (Gathering lines core events) (Gathering lines core (events ++ e ∷ [])) turn
-    (λ more phase. (gathered_idles s core events more same partial phase, gathers_next core events e more phase))
+pub run_gathers : (lines : List JournalLineSeen) (s : Setting) (now next : Option Told) (before after : Fronts) (core : CoreMeaning) (events : List Event) (e : Event) → setting_of core.conf ≡ s → before.page.totals ≡ core.seen.totals
+    → is_partial 0 events ≡ true → TakesPageTurn now next before.page after.page before.http after.http e
+    → GoesOn s now (state_of before) next (state_of after) (Gathering lines core events) (Gathering lines core (events ++ e ∷ []))
+run_gathers lines s now next before after core events e same told partial turn =
+    turn_taken s now next before.page after.page before.http after.http e (Gathering lines core events) (Gathering lines core (events ++ e ∷ [])) turn
+    (λ more phase. (gathered_idles s core events before.page.totals more same told partial phase, gathers_next core events e more phase))
 
-pub turn_port : (now next : Option Told) (before after : FrontSeen) (e : Event) → TakesTurn now next before after e → after.at ≡ before.at
-turn_port now next before after e turn = sym (turns_keep (paid_front before) turn.came after e turn.turns)
+pub turn_ports : (now next : Option Told) (before after : Fronts) (e : Event) → TakesPageTurn now next before.page after.page before.http after.http e → ports_of (state_of after) ≡ ports_of (state_of before)
+turn_ports now next before after e turn =
+    ap (λ page. record { page = page; upload = after.http.at }) (ap (λ p. p.at) turn.turns.kept)
+    ∙ ap (λ upload. record { page = before.page.at; upload = upload }) (sym (turns_keep (paid_front before.http) turn.front.came after.http e turn.front.turns))
 
 -- where a part of a round is there, no act is due
 pub gathered_none : {lines : List JournalLineSeen} (s : Setting) (core : CoreMeaning) (events : List Event) (more : History) → setting_of core.conf ≡ s → is_partial 0 events ≡ true → Gathering lines core events more → due s more ≡ []

@@ -12,8 +12,9 @@ use Rattle.aprs_history.specs.Dials.{CastSeen}
 use Rattle.aprs_conf.specs.Seen.{ConfSeen}
 use Rattle.aprsc_daemon.specs.Runs.{RunsFor, setting_named}
 use Rattle.aprs_history.specs.Runs.{are_listens}
-use Rattle.front_history.specs.Serving.{ActsOn}
-use Rattle.front_history.proofs.ServesLemmas.{acts_then, serves_same, serves_so}
+use Rattle.status_page.specs.PageFronts.{PageSeen}
+use Rattle.front_history.specs.Serving.{ActsOn, SendsOn}
+use Rattle.front_history.proofs.ServesLemmas.{acts_then, acts_uncounted, serves_same, serves_so}
 use Rattle.aprs_base.specs.Outside.{Told}
 use Rattle.aprs_history.specs.Journal.{journal_of, round_lines}
 use Rattle.server_core.proofs.RoundLemmas.{ends_not, more_events}
@@ -161,6 +162,12 @@ acts_broken lines s now next core dial casts offers closes same stays =
     acts_then s now now next (Acting lines core dial casts offers closes) (Broken s lines) (Broken s lines)
     (serves_so s now (Acting lines core dial casts offers closes) (Broken s lines) (λ more. acts_break s core dial casts offers closes more same))
     (serves_same s now next (Broken s lines) stays)
+
+pub sends_broken : (lines : List JournalLineSeen) (s : Setting) (now next : Option Told) (page after : PageSeen) (core : CoreMeaning) (dial : Option ℕ) (casts : List CastSeen) (offers closes : List ℕ) → setting_of core.conf ≡ s → next ≡ now
+    → after ≡ page → SendsOn s now page next after (Acting lines core dial casts offers closes) (Broken s lines)
+sends_broken lines s now next page after core dial casts offers closes same stays kept =
+    subst (λ p. SendsOn s now page next p (Acting lines core dial casts offers closes) (Broken s lines)) (sym kept)
+    (acts_uncounted s now next page (Acting lines core dial casts offers closes) (Broken s lines) (acts_broken lines s now next core dial casts offers closes same stays))
 
 -- where nothing but listeners was opened there is no line
 pub only_listens_untold : (s : Setting) (h : History) → are_listens h ≡ true → journal_of s h ≡ []

@@ -5,6 +5,7 @@ pub mod DrillLemmas
 pub mod EventLemmas
 pub mod JournalLemmas
 pub mod LoadLemmas
+pub mod PortLemmas
 pub mod ReachLemmas
 mod Rows
 pub mod RunLemmas

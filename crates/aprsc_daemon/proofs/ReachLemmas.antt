@@ -17,9 +17,10 @@ use Rattle.aprs_history.specs.History.{History, is_stopped, trace_of}
 use Rattle.aprs_history.specs.Acts.{Act, Casts, Closes, Dials, MayCome, but_first, cast_act, due, offer_to}
 use Rattle.aprs_history.specs.Dials.{CastSeen}
 use Rattle.aprs_history.specs.Runs.{address_of}
-use Rattle.front_history.specs.Answers.{wired}
-use Rattle.front_history.specs.Serving.{ActsOn, Serves}
-use Rattle.front_history.proofs.ServesLemmas.{Tells, server_acts}
+use Rattle.status_page.specs.PageFronts.{PageSeen, counting}
+use Rattle.front_history.specs.Answers.{front_state, wired_for}
+use Rattle.front_history.specs.Serving.{ActsOn, SendsOn, Serves}
+use Rattle.front_history.proofs.ServesLemmas.{Tells, cast_on, server_acts}
 use Rattle.aprs_history.proofs.ReachLemmas.{dials_are_of_uplinks, peers_get_submissions}
 use Rattle.server_core.specs.Meaning.{CoreMeaning, Stands, peer_of, setting_of}
 use Rattle.aprsc_daemon.specs.Phases.{Acting, Owing}
@@ -28,6 +29,10 @@ use Rattle.aprsc_daemon.specs.Phases.{Acting, Owing}
 pub ok_then : {T E P Q : Type 0} (result : Result T E) → OnOk result P → (P → Q) → OnOk result Q
 ok_then (Ok x) p then = then p
 ok_then (Err e) p then = tt
+
+pub ok_both : {T E P Q R : Type 0} (result : Result T E) → OnOk result P → OnOk result Q → (P → Q → R) → OnOk result R
+ok_both (Ok x) p q both = both p q
+ok_both (Err e) p q both = tt
 
 -- and in each error
 pub err_then : {T E P Q : Type 0} (result : Result T E) → OnErr result P → (P → Q) → OnErr result Q
@@ -73,7 +78,7 @@ pub run_dials : (lines : List JournalLineSeen) (s : Setting) (now next : Option 
     → ActsOn s now next (Acting lines core (Some uplink) casts offers closes) (Acting lines core None casts offers closes)
 run_dials lines s now next core uplink spec casts offers closes same at is =
     server_acts s now next (did.Dialled uplink) (with_dial uplink spec) (Acting lines core (Some uplink) casts offers closes) (Acting lines core None casts offers closes)
-    tt (λ port. tells_dial (wired port s) uplink spec (ap (λ t. slice_get t.uplinks uplink) (sym same) ∙ at)) is (λ more phase. (
+    tt tt (λ state. tells_dial (wired_for state s) uplink spec (ap (λ t. slice_get t.uplinks uplink) (sym same) ∙ at)) is (λ more phase. (
       due_dial s core uplink casts offers closes more same phase,
       record { stands = stands_dialled core uplink more phase.stands; journal = phase.journal; owing = owing_dialled core.conf uplink casts offers closes more phase.owing },
     ))
@@ -109,15 +114,16 @@ due_cast s core cast bytes casts offers closes more same line phase =
     subst (λ t. MayCome (due t more) (is_stopped more) (did.Cast cast.peer bytes)) same
     (cast_comes (due (setting_of core.conf) more) (is_stopped more) cast.peer bytes (ended_line cast.line) (map cast_act casts ++ (map (offer_to (setting_of core.conf) phase.owing.round) offers ++ map Closes closes)) phase.owing.owed line)
 
-pub run_casts : (lines : List JournalLineSeen) (s : Setting) (now next : Option Told) (core : CoreMeaning) (cast : CastSeen) (peer : PeerSpec) (bytes : List ℕ) (casts : List CastSeen) (offers closes : List ℕ) → setting_of core.conf ≡ s
-    → slice_get core.conf.peers cast.peer ≡ Some peer → bytes ≡ ended_line cast.line → next ≡ option_map (with_cast cast.peer peer.at bytes) now
-    → ActsOn s now next (Acting lines core None (cast ∷ casts) offers closes) (Acting lines core None casts offers closes)
-run_casts lines s now next core cast peer bytes casts offers closes same at line is =
+pub run_casts : (lines : List JournalLineSeen) (s : Setting) (now next : Option Told) (page after : PageSeen) (core : CoreMeaning) (cast : CastSeen) (peer : PeerSpec) (bytes : List ℕ) (casts : List CastSeen) (offers closes : List ℕ) → setting_of core.conf ≡ s
+    → slice_get core.conf.peers cast.peer ≡ Some peer → bytes ≡ ended_line cast.line
+    → after ≡ counting (did.Cast cast.peer bytes) page → next ≡ option_map (with_cast cast.peer peer.at bytes) now
+    → SendsOn s now page next after (Acting lines core None (cast ∷ casts) offers closes) (Acting lines core None casts offers closes)
+run_casts lines s now next page after core cast peer bytes casts offers closes same at line counted is =
     let to : option_map address_of (slice_get s.peers cast.peer) ≡ Some peer.at =
     ap (λ t. option_map address_of (slice_get t.peers cast.peer)) (sym same)
     ∙ ap (option_map address_of) (slice_get-map peer_of core.conf.peers cast.peer ∙ ap (option_map peer_of) at) in
-    server_acts s now next (did.Cast cast.peer bytes) (with_cast cast.peer peer.at bytes) (Acting lines core None (cast ∷ casts) offers closes) (Acting lines core None casts offers closes)
-    tt (λ port. tells_cast (wired port s) cast.peer peer.at bytes to) is (λ more phase. (
+    cast_on s now next cast.peer bytes (with_cast cast.peer peer.at bytes) page after (Acting lines core None (cast ∷ casts) offers closes) (Acting lines core None casts offers closes)
+    counted (λ state. tells_cast (wired_for state s) cast.peer peer.at bytes to) is (λ more phase. (
       due_cast s core cast bytes casts offers closes more same line phase,
       record { stands = stands_cast core cast.peer bytes more phase.stands; journal = phase.journal; owing = owing_cast core.conf cast bytes casts offers closes more phase.owing },
     ))
@@ -132,9 +138,11 @@ cast_there lines s now core cast casts offers closes same none state (Some old) 
     absurd (none_within core.conf.peers cast.peer none (subst (λ n. cast.peer < n) (length-map core.conf.peers peer_of) (subst (λ t. cast.peer < length t.peers) (sym same) lt)))
 
 -- the dial, and then the casts, as the acts have them
-pub reach_then : (lines : List JournalLineSeen) (s : Setting) (old mid new : Option Told) (core : CoreMeaning) (given dial : Option ℕ) (listed casts : List CastSeen) (offers closes : List ℕ) (R : History → Type 0) → given ≡ dial → listed ≡ casts
-    → ActsOn s old mid (Acting lines core given casts offers closes) (Acting lines core None casts offers closes) → ActsOn s mid new (Acting lines core None listed offers closes) R
-    → ActsOn s old new (Acting lines core dial casts offers closes) R
-reach_then lines s old mid new core given dial listed casts offers closes R dial_is casts_are dials reaches state start run =
-    reaches state start (subst (λ xs. Serves s start mid state (Acting lines core None xs offers closes)) (sym casts_are)
+pub reach_then : (lines : List JournalLineSeen) (s : Setting) (old mid new : Option Told) (page after : PageSeen) (core : CoreMeaning) (given dial : Option ℕ) (listed casts : List CastSeen) (offers closes : List ℕ) (R : History → Type 0)
+    → given ≡ dial → listed ≡ casts
+    → ActsOn s old mid (Acting lines core given casts offers closes) (Acting lines core None casts offers closes) → SendsOn s mid page new after (Acting lines core None listed offers closes) R
+    → SendsOn s old page new after (Acting lines core dial casts offers closes) R
+reach_then lines s old mid new page after core given dial listed casts offers closes R dial_is casts_are dials reaches front start run =
+    let state = front_state page front in
+    reaches front start (subst (λ xs. Serves s start mid state (Acting lines core None xs offers closes)) (sym casts_are)
     (dials state start (subst (λ d. Serves s start old state (Acting lines core d casts offers closes)) (sym dial_is) run)))

@@ -14,13 +14,17 @@ use Rattle.aprs_history.specs.Rounds.{AreFresh, is_whole, with_events, listens_a
 use Rattle.aprs_history.specs.Journal.{journal_of}
 use Rattle.aprs_history.specs.Acts.{due, listens_from}
 use Rattle.aprs_history.specs.Runs.{AppendsRun}
-use Rattle.aprs_conf.specs.Served.{served_conf, upload_number}
-use Rattle.http_submit.specs.Fronts.{FrontSeen, fresh_front}
+use Rattle.aprs_conf.specs.Served.{page_number, served_conf, upload_number}
+use Rattle.aprs_base.specs.declared.totals.Totals.{Totals}
+use Rattle.http_submit.specs.Fronts.{fresh_front}
+use Rattle.status_page.specs.PageFronts.{PageSeen, fresh_page}
 use Rattle.front_history.specs.Answers.{front_state}
-use Rattle.front_history.specs.Serving.{ActsOn, EndsOn, Opens}
-use Rattle.front_history.proofs.FrontLemmas.{appends_alone}
-use Rattle.aprsc_daemon.specs.Runs.{RunsFor, setting_named}
-use Rattle.aprsc_daemon.proofs.RunLemmas.{runs_opened, runs_served}
+use Rattle.front_history.specs.Serving.{ActsOn, EndsOn, GoesOn, Opens, Serves, ports_of}
+use Rattle.front_history.proofs.FrontLemmas.{appends_alone, no_ports}
+use Rattle.aprsc_daemon.specs.Fronts.{AreNew, state_of}
+use Rattle.aprsc_daemon.specs.Runs.{RunsFor, ports_named, setting_named}
+use Rattle.aprsc_daemon.specs.declared.fronts.Fronts.{Fronts}
+use Rattle.aprsc_daemon.proofs.RunLemmas.{opened_at, served_at}
 use Rattle.front_history.proofs.ServesLemmas.{serves_so}
 use Rattle.server_core.proofs.OfferLemmas.{numbered_short}
 use Rattle.server_core.specs.ActsSeen.{ActsSeen}
@@ -60,9 +64,23 @@ offers_listed lines s now core offers closes links closed offers_are closes_are 
 pub rests : (lines : List JournalLineSeen) (s : Setting) (now : Option Told) (core : CoreMeaning) → ActsOn s now now (Offering lines core [] []) (Resting lines core)
 rests lines s now core = serves_so s now (Offering lines core [] []) (Resting lines core) (λ more phase. record { stands = phase.stands; journal = phase.journal; none = phase.owing.owed; all = phase.owing.all; fresh = phase.owing.fresh })
 
-pub begins_round : (lines : List JournalLineSeen) (s : Setting) (now : Option Told) (core : CoreMeaning) → core.seen.stopped ≡ false → ActsOn s now now (Resting lines core) (Gathering lines core [])
-begins_round lines s now core going = serves_so s now (Resting lines core) (Gathering lines core []) (λ more phase.
+begins_gathering : (lines : List JournalLineSeen) (s : Setting) (now : Option Told) (core : CoreMeaning) → core.seen.stopped ≡ false → ActsOn s now now (Resting lines core) (Gathering lines core [])
+begins_gathering lines s now core going = serves_so s now (Resting lines core) (Gathering lines core []) (λ more phase.
     record { before = more; since = refl; resting = phase; going = sym phase.stands.stopped ∙ going; all = phase.all })
+
+-- a round begins once totals are published, by which no front stands otherwise
+pub begins_round : (lines : List JournalLineSeen) (s : Setting) (now : Option Told) (core : CoreMeaning) (fronts : Fronts) (page : PageSeen) (totals : Totals) → core.seen.stopped ≡ false → page ≡ record fronts.page { totals = totals }
+    → GoesOn s now (state_of fronts) now (front_state page fronts.http) (Resting lines core) (Gathering lines core [])
+begins_round lines s now core fronts page totals going is start run =
+    subst (λ p. Serves s start now (front_state p fronts.http) (Gathering lines core [])) (sym is) (begins_gathering lines s now core going (state_of fronts) start run)
+
+-- fronts keep their ports as acts are done
+pub acts_keep : (before after : Fronts) → after.http ≡ before.http → after.page.at ≡ before.page.at → ports_of (state_of after) ≡ ports_of (state_of before)
+acts_keep before after http_is at =
+    ap (λ page. record { page = page; upload = after.http.at }) at ∙ ap (λ http. record { page = before.page.at; upload = http.at }) http_is
+
+pub publishing_keeps : (fronts : Fronts) (page : PageSeen) (totals : Totals) → page ≡ record fronts.page { totals = totals } → ports_of (front_state page fronts.http) ≡ ports_of (state_of fronts)
+publishing_keeps fronts page totals is = ap {A = PageSeen} (λ p. record { page = p.at; upload = fronts.http.at }) is
 
 -- where the core stopped, the run is finished, and the core stands for it
 pub stopped_rests : {lines : List JournalLineSeen} (s : Setting) (core : CoreMeaning) (more : History) → setting_of core.conf ≡ s → core.seen.stopped ≡ true → Resting lines core more
@@ -105,25 +123,29 @@ few_listeners conf sound =
 
 -- ---- a run from its configuration on
 
+-- fronts that were made for the ports and the name of a configuration
+pub fresh_named : (conf : ConfSeen) (fronts : Fronts) (page upload : Option ℕ) (server : List ℕ) → page ≡ page_number conf → upload ≡ upload_number conf → server ≡ conf.server → AreNew (record { page = page; upload = upload }) server fronts
+    → AreNew (ports_named conf) conf.server fronts
+fresh_named conf fronts page upload server page_is upload_is server_is fresh =
+    (fresh.0 ∙ ap (λ at. fresh_page at server) page_is ∙ ap (fresh_page (page_number conf)) server_is, fresh.1 ∙ ap fresh_front upload_is)
+
 -- listeners were opened for the configuration that is served
-pub run_opened : (conf served : ConfSeen) (front : FrontSeen) (start now : Option Told) (P : Setting → History → Type 0) → served ≡ served_conf conf → front ≡ fresh_front (upload_number conf)
-    → Opens (setting_of served) front start now (P (setting_of served)) → RunsFor conf start now (P (setting_named conf))
-run_opened conf served front start now P is front_is opens =
-    runs_opened conf front start now (P (setting_named conf)) front_is (subst (λ k. Opens (setting_of k) front start now (P (setting_of k))) is opens)
+pub run_opened : (conf served : ConfSeen) (fronts : Fronts) (start now : Option Told) (P : Setting → History → Type 0) → served ≡ served_conf conf → AreNew (ports_named conf) conf.server fronts
+    → Opens (setting_of served) fronts.page fronts.http start now (P (setting_of served)) → RunsFor conf start now (P (setting_named conf))
+run_opened conf served fronts start now P is fresh opens =
+    opened_at (setting_named conf) (ports_named conf) fronts start now (P (setting_named conf)) fresh (subst (λ k. Opens (setting_of k) fronts.page fronts.http start now (P (setting_of k))) is opens)
 
 -- and it was served up to its end
-pub run_ended : (conf served : ConfSeen) (front after : FrontSeen) (start mid now : Option Told) (core : CoreMeaning) (Q : Setting → History → Type 0) → served ≡ served_conf conf → front ≡ fresh_front (upload_number conf)
-    → after ≡ front → core.conf ≡ served → Opens (setting_of served) front start mid (Resting [] core)
-    → ((s : Setting) → setting_of core.conf ≡ s → EndsOn s mid (front_state after) now (Resting [] core) (Q s)) → RunsFor conf start now (Q (setting_named conf))
-run_ended conf served front after start mid now core Q is front_is after_is conf_is opens ends =
+pub run_ended : (conf served : ConfSeen) (fronts after : Fronts) (start mid now : Option Told) (core : CoreMeaning) (Q : Setting → History → Type 0) → served ≡ served_conf conf → AreNew (ports_named conf) conf.server fronts
+    → after ≡ fronts → core.conf ≡ served → Opens (setting_of served) fronts.page fronts.http start mid (Resting [] core)
+    → ((s : Setting) → setting_of core.conf ≡ s → EndsOn s mid (state_of after) now (Resting [] core) (Q s)) → RunsFor conf start now (Q (setting_named conf))
+run_ended conf served fronts after start mid now core Q is fresh after_is conf_is opens ends =
     let s = setting_named conf in
-    runs_served conf front start mid now (Resting [] core) (Q s) front_is (subst (λ k. Opens (setting_of k) front start mid (Resting [] core)) is opens)
-    (subst (λ f. EndsOn s mid (front_state f) now (Resting [] core) (Q s)) after_is (ends s (ap setting_of (conf_is ∙ is))))
+    served_at s (ports_named conf) fronts start mid now (Resting [] core) (Q s) fresh (subst (λ k. Opens (setting_of k) fronts.page fronts.http start mid (Resting [] core)) is opens)
+    (subst (λ f. EndsOn s mid (state_of f) now (Resting [] core) (Q s)) after_is (ends s (ap setting_of (conf_is ∙ is))))
 
--- behind a front without a port
-pub run_alone : (s : Setting) (front after : FrontSeen) (start mid now : Option Told) (P Q : History → Type 0) → front ≡ fresh_front None → after ≡ front → Opens s front start mid P
-    → EndsOn s mid (front_state after) now P Q → AppendsRun s start now Q
-run_alone s front after start mid now P Q front_is after_is opens ends =
-    let at : front.at ≡ None = ap (λ f. f.at) front_is in
-    let last = subst (λ f. EndsOn s mid (front_state f) now P Q) after_is ends start (opens (front_is ∙ ap fresh_front (sym at))) in
-    appends_alone s start now Q (last.0, last.1 ∙ at, last.2)
+-- behind fronts without a port
+pub run_alone : (s : Setting) (fronts after : Fronts) (start mid now : Option Told) (P Q : History → Type 0) → AreNew no_ports s.server fronts → after ≡ fronts → Opens s fronts.page fronts.http start mid P
+    → EndsOn s mid (state_of after) now P Q → AppendsRun s start now Q
+run_alone s fronts after start mid now P Q fresh after_is opens ends =
+    appends_alone s start now Q (served_at s no_ports fronts start mid now P Q fresh opens (subst (λ f. EndsOn s mid (state_of f) now P Q) after_is ends))

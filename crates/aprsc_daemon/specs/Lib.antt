@@ -3,6 +3,8 @@ pub mod Causes
 pub mod Configuring
 pub mod Drill
 pub mod Failing
+pub mod Fronts
+pub mod Laws
 pub mod Loading
 pub mod Phases
 pub mod Runs

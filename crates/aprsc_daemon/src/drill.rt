@@ -6,14 +6,15 @@ ghost use Rattle.server_core.specs.Meaning.{setting_of};
 ghost use Rattle.aprsc_daemon.specs.Drill.{HasCounts, IsDriven, drill_setting};
 
 use crate::configuring::read_conf;
+use crate::fronts::Fronts;
 use crate::serving::{End, open, serve};
 use crate::words::DrillWords;
 use aprs_base::{
     Addr, Event, ListenSpec, MemWire, Memory, OpenGate, Sent, Totals, UplinkSpec, Wire, WireError,
+    copy_call,
 };
 use aprs_conf::Conf;
 use drill_plan::{Events, Plan, copy_events};
-use http_submit::HttpFront;
 use std::alloc::Global;
 use std::hash::RandomState;
 use std::marker::{Model, Sync};
@@ -145,15 +146,15 @@ pub(crate) fn drill<R: Threads + Sync + Wait>(
 {
     let conf = drill_conf(alloc)?;
     let mut wire = DrillWire::new(alloc, asked.plan)?;
-    let mut front = HttpFront::new(alloc, None)?;
-    let Ok(mut core) = open(alloc, conf, asked.workers, &mut front, &mut wire, hasher) else {
+    let mut fronts = Fronts::new(alloc, None, None, copy_call(&conf.server))?;
+    let Ok(mut core) = open(alloc, conf, asked.workers, &mut fronts, &mut wire, hasher) else {
         return Err(Memory);
     };
     let end = serve(
         rt,
         alloc,
         &mut core,
-        &mut front,
+        &mut fronts,
         &mut wire,
         &mut Vec::new(alloc),
         &OpenGate,

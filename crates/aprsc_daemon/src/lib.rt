@@ -3,7 +3,9 @@
 
 mod configuring;
 mod drill;
+mod fronts;
 mod journals;
+mod laws;
 mod program;
 mod real;
 mod saying;
@@ -12,6 +14,7 @@ mod words;
 
 pub use configuring::Trouble;
 pub use journals::{ErrorJournal, FileJournal, tell_all};
+pub use laws::runs_are_seen;
 pub use program::aprsc;
 pub use real::{RealFiles, RealSink};
 pub use saying::{bad_step, listen_failed, too_large, trouble, unread, usage, valid, write_all};

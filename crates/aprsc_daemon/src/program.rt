@@ -18,14 +18,14 @@ ghost use Rattle.aprsc_daemon.specs.Words.{NetWordsSeen, ServerWordsSeen, asked_
 
 use crate::configuring::{MOST_READ, Unfit, load};
 use crate::drill::drill;
+use crate::fronts::Fronts;
 use crate::saying::{
     bad_step, listen_failed, summary, too_large, trouble, unread, usage, valid, write_all,
 };
 use crate::serving::{End, ListenError, open, serve};
 use crate::words::{DrillWords, NetWords, Task, Words, WordsError, read_words};
-use aprs_base::{FileError, Files, Gate, Memory, Sink, SinkError, Slot, Wire};
+use aprs_base::{FileError, Files, Gate, Memory, Sink, SinkError, Slot, Wire, copy_call};
 use aprs_conf::Conf;
-use http_submit::HttpFront;
 use net_report::text_of;
 use net_script::ScriptError;
 use std::alloc::Global;
@@ -121,15 +121,16 @@ fn run_conf<R: Threads + Sync + Wait, W: Wire, S: Sink, G: Gate + Sync>(
         → ReadsWell words files files_after → Cause result (outside_of words files files_after
         (W.shown wire.old) (W.shown wire.new) (S.shown out.old) (S.shown out.new)) }
 {
-    let Ok(mut front) = HttpFront::new(alloc, conf.upload_number()) else {
+    let (page, upload) = (conf.page_number(), conf.upload_number());
+    let Ok(mut fronts) = Fronts::new(alloc, page, upload, copy_call(&conf.server)) else {
         return Status::NoMemory;
     };
     let Ok(served) = conf.served(alloc) else {
         return Status::NoMemory;
     };
-    match open(alloc, served, workers, &mut front, wire, hasher) {
+    match open(alloc, served, workers, &mut fronts, wire, hasher) {
         Ok(mut core) => {
-            let end = serve(rt, alloc, &mut core, &mut front, wire, journals, gate);
+            let end = serve(rt, alloc, &mut core, &mut fronts, wire, journals, gate);
             // What it keeps isn't taken apart: the process ends next.
             forget(core);
             ended(end)
@@ -266,8 +267,9 @@ fn run<R: Threads + Sync + Wait, F: Files, W: Wire, S: Sink, G: Gate + Sync>(
 /// Runs the server: the words are `-c FILE` and perhaps `-w N`, and the file holds the configuration. N is the most workers,
 /// 1 to 64, and 1 where it isn't given; each part of the links that they match goes through the gate. What the server sees of
 /// what happens on the wire is a run for this configuration, and the bytes that each link takes are a prefix of its defined
-/// text. Those who submit by HTTP get a reply and are closed; the server sees a datagram in the place of a whole request, and
-/// nothing of the replies. With `-y` beside them the configuration is read and nothing else. `hasher` is the key of the tables
+/// text. Those who submit by HTTP get a reply and are closed; the server sees a datagram in the place of a whole request. Those
+/// who ask for the status page get it, with each number as counted over what the server saw, and are closed. Of these replies
+/// the server sees nothing. With `-y` beside them the configuration is read and nothing else. `hasher` is the key of the tables
 /// in memory, on which no text depends.
 ///
 /// With `drill SEED LINES LINKS` and perhaps `-w N` in their place, the events of that drill are run over a wire of its own, and
@@ -292,7 +294,8 @@ pub fn aprsc<R: Threads + Sync + Wait, F: Files, W: Wire, S: Sink, G: Gate + Syn
     gate: &G,
 ) -> u8
     // Where the words ask for a run and the files tell what they hold, what the server saw of the happenings that the call
-    // appended is a run for the named configuration. All else of them are the replies that its front owed, and their closes.
+    // appended is a run for the named configuration. All else of them are the replies that its fronts owed, and their closes: a
+    // page tells the totals of the rounds that are finished, and the counts of all that the server saw.
     ensures run { (conf : ConfSeen) (told : List MemFile) → (F.shown files.old).told ≡ Some told
         → HasNamed Task.Serve (map string_bytes words.now) (F.shown files.old).told conf
         → RunsFor conf (W.shown wire.old).told (W.shown wire.new).told (Ended result (setting_named conf)) }

@@ -10,13 +10,13 @@ ghost use Rattle.link_queue.specs.Lines.{ended_line};
 ghost use Rattle.aprs_history.specs.History.{History, ends_round, is_stopped, trace_of};
 ghost use Rattle.aprs_history.specs.Headline.{HasFreshLinks};
 ghost use Rattle.aprs_history.specs.Rounds.{AreFresh, greatest_after, is_whole, with_events};
-ghost use Rattle.front_history.specs.Answers.{front_state};
-ghost use Rattle.front_history.specs.Serving.{ActsOn, EndsOn, GoesOn, Opens};
+ghost use Rattle.front_history.specs.Serving.{ActsOn, EndsOn, GoesOn, Opens, SendsOn, ports_of};
 ghost use Rattle.aprs_history.specs.Trace.{is_member};
 ghost use Rattle.server_core.specs.LinkSteps.{AreServed, Rises, has_number, numbers, pending_at};
 ghost use Rattle.server_core.specs.Meaning.{CoreMeaning, listeners, setting_of};
 ghost use Rattle.aprsc_daemon.specs.Causes.{OpensOnly};
 ghost use Rattle.aprsc_daemon.specs.Failing.{FailsNot, failed_by_opening, failed_by_serving};
+ghost use Rattle.aprsc_daemon.specs.Fronts.{state_of};
 ghost use Rattle.aprsc_daemon.specs.Phases.{Acting, AreOfRound, Brings, BringsUp, Broken, Counted, Finished, Gathering, Idling, Listening, Offering, Resting, Served, is_partial};
 ghost use Rattle.aprs_base.specs.Journals.{JournalLineSeen};
 ghost use Rattle.aprs_base.specs.Slots.{TakesLines};
@@ -25,11 +25,11 @@ ghost use Rattle.std.specs.List.{AllZip};
 ghost use Rattle.server_core.specs.Meaning.{AreActs, Stands};
 ghost use Rattle.server_core.specs.Steps.{SameRest};
 
+use crate::fronts::Fronts;
 use crate::journals::tell_all;
 use aprs_base::{Event, Gate, Line, ListenSpec, Memory, Sent, Slot, UplinkSpec, Wire, WireError};
 use aprs_conf::{Conf, PeerSpec};
 use arrayvec::ArrayVec;
-use http_submit::HttpFront;
 use server_core::{Acts, CastOut, Core, listeners};
 use std::alloc::Global;
 use std::hash::RandomState;
@@ -50,25 +50,25 @@ pub(crate) enum ListenError {
 
 /// Opens each listener, in rising number.
 pub(crate) fn listen_all<W: Wire>(
-    front: &mut HttpFront,
+    fronts: &mut Fronts,
     wire: &mut W,
     listens: &[ListenSpec],
 ) -> Result<(), ListenError>
     requires { length listens.now ≤ 17 }
-    ensures front { front.new ≡ front.old }
+    ensures same { fronts.new ≡ fronts.old }
     ensures run { (s : Setting) → s.listens ≡ listens.now
-        → OnOk result (Opens s front.old (W.shown wire.old).told (W.shown wire.new).told (Listening s (length listens.now))) }
+        → OnOk result (Opens s fronts.old.page fronts.old.http (W.shown wire.old).told (W.shown wire.new).told (Listening s (length listens.now))) }
     ensures failed { IfErr result (λ e. (n : ℕ) → e ≡ ListenError.Failed n
-        → (s : Setting) → s.listens ≡ listens.now → Opens s front.old (W.shown wire.old).told (W.shown wire.new).told (Listening s n)) }
+        → (s : Setting) → s.listens ≡ listens.now → Opens s fronts.old.page fronts.old.http (W.shown wire.old).told (W.shown wire.new).told (Listening s n)) }
     ensures within { IfErr result (λ e. (n : ℕ) → e ≡ ListenError.Failed n → n < length listens.now) }
     ensures err { (s : Setting) → s.listens ≡ listens.now
-        → OnErr result (Opens s front.old (W.shown wire.old).told (W.shown wire.new).told (λ more. HasFreshLinks more × (are_listens more ≡ true))) }
+        → OnErr result (Opens s fronts.old.page fronts.old.http (W.shown wire.old).told (W.shown wire.new).told (λ more. HasFreshLinks more × (are_listens more ≡ true))) }
     ensures listens { (W.shown wire.new).failed_listens ≡ failed_by_opening result (W.shown wire.old).failed_listens }
     ensures nexts { (W.shown wire.new).failed_nexts ≡ (W.shown wire.old).failed_nexts }
 {
     let mut n = 0;
     for spec in listens {
-        match front.listen(wire, n, spec) {
+        match fronts.page.listen(&mut fronts.http, wire, n, spec) {
             Ok(()) => n += 1,
             Err(WireError::Failed) => return Err(ListenError::Failed(n)),
             Err(WireError::Memory) => return Err(ListenError::Memory),
@@ -82,28 +82,28 @@ pub(crate) fn open<W: Wire>(
     alloc: Global,
     conf: Conf,
     workers: u32,
-    front: &mut HttpFront,
+    fronts: &mut Fronts,
     wire: &mut W,
     hasher: &RandomState,
 ) -> Result<Core, ListenError>
     requires sound { IsSound conf }
     requires some { 1 ≤ workers }
     requires most { workers ≤ 64 }
-    ensures front { front.new ≡ front.old }
-    ensures run { IfOk result (λ core. Opens (setting_of conf) front.old (W.shown wire.old).told (W.shown wire.new).told (Resting [] core)) }
+    ensures same { fronts.new ≡ fronts.old }
+    ensures run { IfOk result (λ core. Opens (setting_of conf) fronts.old.page fronts.old.http (W.shown wire.old).told (W.shown wire.new).told (Resting [] core)) }
     ensures conf { IfOk result (λ core. core.conf ≡ conf) }
     ensures fresh { IfOk result (λ core. (core.seen.greatest ≡ 0) × (core.seen.stopped ≡ false)) }
     ensures listen { IfErr result (λ e. (n : ℕ) → e ≡ ListenError.Failed n
-        → Opens (setting_of conf) front.old (W.shown wire.old).told (W.shown wire.new).told (OpensOnly n)) }
+        → Opens (setting_of conf) fronts.old.page fronts.old.http (W.shown wire.old).told (W.shown wire.new).told (OpensOnly n)) }
     ensures within { IfErr result (λ e. (n : ℕ) → e ≡ ListenError.Failed n → n < length (listeners conf)) }
-    ensures err { OnErr result (Opens (setting_of conf) front.old (W.shown wire.old).told (W.shown wire.new).told (λ more. HasFreshLinks more × (are_listens more ≡ true))) }
+    ensures err { OnErr result (Opens (setting_of conf) fronts.old.page fronts.old.http (W.shown wire.old).told (W.shown wire.new).told (λ more. HasFreshLinks more × (are_listens more ≡ true))) }
     ensures listens { (W.shown wire.new).failed_listens ≡ failed_by_opening result (W.shown wire.old).failed_listens }
     ensures nexts { (W.shown wire.new).failed_nexts ≡ (W.shown wire.old).failed_nexts }
 {
     let Ok(listens) = listeners(alloc, &conf) else {
         return Err(ListenError::Memory);
     };
-    listen_all(front, wire, listens.as_slice())?;
+    listen_all(fronts, wire, listens.as_slice())?;
     match Core::new(alloc, hasher, conf, workers) {
         Ok(core) => Ok(core),
         Err(Memory) => Err(ListenError::Memory),
@@ -119,30 +119,31 @@ fn is_last(before: usize, event: &Event) -> bool
 
 /// Takes the next event, and says whether the round is whole with it.
 fn take_next<W: Wire>(
-    front: &mut HttpFront,
+    fronts: &mut Fronts,
     wire: &mut W,
     events: &mut Vec<Event>,
 ) -> Result<bool, WireError>
     requires { is_partial 0 events.old.items ≡ true }
     ensures whole { IfOk result (λ whole. MatchBool whole (is_whole 0 events.new.items ≡ true) (is_partial 0 events.new.items ≡ true)) }
     ensures more { OnOk result (length events.new.items ≡ length events.old.items + 1) }
-    ensures brings { (at : Option ℕ) (start : Option Told) → at ≡ front.old.at → BringsUp at events.old.items start (W.shown wire.old).told
+    ensures brings { (at : Option ℕ) (start : Option Told) → at ≡ fronts.old.http.at → BringsUp at events.old.items start (W.shown wire.old).told
         → OnOk result (BringsUp at events.new.items start (W.shown wire.new).told) }
     ensures counted { (first : ℕ) → Counted first events.old.items (W.shown wire.old).links
         → OnOk result (Counted first events.new.items (W.shown wire.new).links) }
-    ensures run { (s : Setting) (lines : List JournalLineSeen) (core : CoreMeaning) → setting_of core.conf ≡ s
-        → OnOk result (GoesOn s (W.shown wire.old).told (front_state front.old) (W.shown wire.new).told (front_state front.new) (Gathering lines core events.old.items) (Gathering lines core events.new.items)) }
-    ensures idle { (s : Setting) (lines : List JournalLineSeen) (core : CoreMeaning) (first : ℕ) → setting_of core.conf ≡ s
+    ensures run { (s : Setting) (lines : List JournalLineSeen) (core : CoreMeaning) → setting_of core.conf ≡ s → fronts.old.page.totals ≡ core.seen.totals
+        → OnOk result (GoesOn s (W.shown wire.old).told (state_of fronts.old) (W.shown wire.new).told (state_of fronts.new) (Gathering lines core events.old.items) (Gathering lines core events.new.items)) }
+    ensures idle { (s : Setting) (lines : List JournalLineSeen) (core : CoreMeaning) (first : ℕ) → setting_of core.conf ≡ s → fronts.old.page.totals ≡ core.seen.totals
         → core.seen.greatest ≤ first → Counted first events.old.items (W.shown wire.old).links
-        → IsErrOf result WireError.Failed → EndsOn s (W.shown wire.old).told (front_state front.old) (W.shown wire.new).told (Gathering lines core events.old.items) (Idling s lines) }
-    ensures err { (s : Setting) (lines : List JournalLineSeen) (core : CoreMeaning) (first : ℕ) → setting_of core.conf ≡ s
+        → IsErrOf result WireError.Failed → EndsOn s (W.shown wire.old).told (state_of fronts.old) (W.shown wire.new).told (Gathering lines core events.old.items) (Idling s lines) }
+    ensures err { (s : Setting) (lines : List JournalLineSeen) (core : CoreMeaning) (first : ℕ) → setting_of core.conf ≡ s → fronts.old.page.totals ≡ core.seen.totals
         → core.seen.greatest ≤ first → Counted first events.old.items (W.shown wire.old).links
-        → OnErr result (EndsOn s (W.shown wire.old).told (front_state front.old) (W.shown wire.new).told (Gathering lines core events.old.items) (Broken s lines)) }
-    ensures port { OnOk result (front.new.at ≡ front.old.at) }
+        → OnErr result (EndsOn s (W.shown wire.old).told (state_of fronts.old) (W.shown wire.new).told (Gathering lines core events.old.items) (Broken s lines)) }
+    ensures totals { OnOk result (fronts.new.page.totals ≡ fronts.old.page.totals) }
+    ensures ports { OnOk result (ports_of (state_of fronts.new) ≡ ports_of (state_of fronts.old)) }
     ensures listens { (W.shown wire.new).failed_listens ≡ (W.shown wire.old).failed_listens }
     ensures nexts { (W.shown wire.new).failed_nexts ≡ failed_after result (W.shown wire.old).failed_nexts }
 {
-    let event = front.next(wire)?;
+    let event = fronts.page.next(&mut fronts.http, wire)?;
     let whole = is_last(events.as_slice().len(), &event);
     events.push(event)?;
     Ok(whole)
@@ -150,29 +151,29 @@ fn take_next<W: Wire>(
 
 /// Takes the events of one whole round.
 fn gather<W: Wire>(
-    front: &mut HttpFront,
+    fronts: &mut Fronts,
     wire: &mut W,
     events: &mut Vec<Event>,
 ) -> Result<(), WireError>
     requires { events.old.items ≡ [] }
     ensures whole { OnOk result (is_whole 0 events.new.items ≡ true) }
-    ensures brings { OnOk result (BringsUp front.old.at events.new.items (W.shown wire.old).told (W.shown wire.new).told) }
+    ensures brings { OnOk result (BringsUp fronts.old.http.at events.new.items (W.shown wire.old).told (W.shown wire.new).told) }
     ensures counted { OnOk result (Counted (W.shown wire.old).links events.new.items (W.shown wire.new).links) }
-    ensures run { (s : Setting) (lines : List JournalLineSeen) (core : CoreMeaning) → setting_of core.conf ≡ s
-        → OnOk result (GoesOn s (W.shown wire.old).told (front_state front.old) (W.shown wire.new).told (front_state front.new) (Gathering lines core []) (Gathering lines core events.new.items)) }
-    ensures idle { (s : Setting) (lines : List JournalLineSeen) (core : CoreMeaning) → setting_of core.conf ≡ s
+    ensures run { (s : Setting) (lines : List JournalLineSeen) (core : CoreMeaning) → setting_of core.conf ≡ s → fronts.old.page.totals ≡ core.seen.totals
+        → OnOk result (GoesOn s (W.shown wire.old).told (state_of fronts.old) (W.shown wire.new).told (state_of fronts.new) (Gathering lines core []) (Gathering lines core events.new.items)) }
+    ensures idle { (s : Setting) (lines : List JournalLineSeen) (core : CoreMeaning) → setting_of core.conf ≡ s → fronts.old.page.totals ≡ core.seen.totals
         → core.seen.greatest ≤ (W.shown wire.old).links
-        → IsErrOf result WireError.Failed → EndsOn s (W.shown wire.old).told (front_state front.old) (W.shown wire.new).told (Gathering lines core []) (Idling s lines) }
-    ensures err { (s : Setting) (lines : List JournalLineSeen) (core : CoreMeaning) → setting_of core.conf ≡ s
+        → IsErrOf result WireError.Failed → EndsOn s (W.shown wire.old).told (state_of fronts.old) (W.shown wire.new).told (Gathering lines core []) (Idling s lines) }
+    ensures err { (s : Setting) (lines : List JournalLineSeen) (core : CoreMeaning) → setting_of core.conf ≡ s → fronts.old.page.totals ≡ core.seen.totals
         → core.seen.greatest ≤ (W.shown wire.old).links
-        → OnErr result (EndsOn s (W.shown wire.old).told (front_state front.old) (W.shown wire.new).told (Gathering lines core []) (Broken s lines)) }
-    ensures port { OnOk result (front.new.at ≡ front.old.at) }
+        → OnErr result (EndsOn s (W.shown wire.old).told (state_of fronts.old) (W.shown wire.new).told (Gathering lines core []) (Broken s lines)) }
+    ensures ports { OnOk result (ports_of (state_of fronts.new) ≡ ports_of (state_of fronts.old)) }
     ensures listens { (W.shown wire.new).failed_listens ≡ (W.shown wire.old).failed_listens }
     ensures nexts { (W.shown wire.new).failed_nexts ≡ failed_after result (W.shown wire.old).failed_nexts }
 {
     let mut whole = false;
     while !whole {
-        whole = take_next(front, wire, events)?;
+        whole = take_next(fronts, wire, events)?;
     }
     Ok(())
 }
@@ -195,6 +196,7 @@ fn next_bytes<'a>(core: &'a Core, link: u32, buffer: &'a mut [u8]) -> &'a [u8]
 /// Offers a link its next bytes, and tells the core what became of them.
 fn send_one<W: Wire>(
     core: &mut Core,
+    fronts: &mut Fronts,
     wire: &mut W,
     link: u32,
     buffer: &mut [u8],
@@ -202,17 +204,20 @@ fn send_one<W: Wire>(
     requires served { has_number link core.old.seen.links ≡ true }
     requires room { length buffer.old ≡ 65536 }
     ensures run { (s : Setting) (lines : List JournalLineSeen) (offers closes : List ℕ) → setting_of core.old.conf ≡ s → is_member link offers ≡ false
-        → OnOk result (ActsOn s (W.shown wire.old).told (W.shown wire.new).told (Offering lines core.old (link ∷ offers) closes) (Offering lines core.new offers closes)) }
+        → OnOk result (SendsOn s (W.shown wire.old).told fronts.old.page (W.shown wire.new).told fronts.new.page (Offering lines core.old (link ∷ offers) closes) (Offering lines core.new offers closes)) }
+    ensures uncounted { OnErr result (fronts.new ≡ fronts.old) }
     ensures brings { OnOk result (Brings [] (W.shown wire.old).told (W.shown wire.new).told) }
     ensures err { OnErr result ((W.shown wire.new).told ≡ (W.shown wire.old).told) }
     ensures rest { SameRest core.old core.new }
     ensures numbers { numbers core.new.seen.links ≡ numbers core.old.seen.links }
+    ensures front { fronts.new.http ≡ fronts.old.http }
+    ensures port { fronts.new.page.at ≡ fronts.old.page.at }
     ensures failures { FailsNot (W.shown wire.old) (W.shown wire.new) }
     ensures links { (W.shown wire.new).links ≡ (W.shown wire.old).links }
 {
     let bytes = next_bytes(core, link, buffer);
     let offered = bytes.len();
-    match wire.send(link, bytes)? {
+    match fronts.page.send(&mut fronts.http, wire, link, bytes)? {
         Sent::Took(count) => core.took(link, offered, count),
         Sent::Gone => core.gone(link),
     }
@@ -222,6 +227,7 @@ fn send_one<W: Wire>(
 /// Makes each offer, in rising number.
 fn send_all<W: Wire>(
     core: &mut Core,
+    fronts: &mut Fronts,
     wire: &mut W,
     offers: &[u32],
     buffer: &mut [u8],
@@ -230,16 +236,18 @@ fn send_all<W: Wire>(
     requires rising { (high : ℕ) × Rises 0 offers.now high }
     requires room { length buffer.old ≡ 65536 }
     ensures run { (s : Setting) (lines : List JournalLineSeen) (closes : List ℕ) → setting_of core.old.conf ≡ s
-        → OnOk result (ActsOn s (W.shown wire.old).told (W.shown wire.new).told (Offering lines core.old offers.now closes) (Offering lines core.new [] closes)) }
+        → OnOk result (SendsOn s (W.shown wire.old).told fronts.old.page (W.shown wire.new).told fronts.new.page (Offering lines core.old offers.now closes) (Offering lines core.new [] closes)) }
     ensures err { (s : Setting) (lines : List JournalLineSeen) (closes : List ℕ) → setting_of core.old.conf ≡ s
-        → OnErr result (ActsOn s (W.shown wire.old).told (W.shown wire.new).told (Offering lines core.old offers.now closes) (Broken s lines)) }
+        → OnErr result (SendsOn s (W.shown wire.old).told fronts.old.page (W.shown wire.new).told fronts.new.page (Offering lines core.old offers.now closes) (Broken s lines)) }
     ensures brings { OnOk result (Brings [] (W.shown wire.old).told (W.shown wire.new).told) }
     ensures rest { SameRest core.old core.new }
+    ensures front { fronts.new.http ≡ fronts.old.http }
+    ensures port { fronts.new.page.at ≡ fronts.old.page.at }
     ensures failures { FailsNot (W.shown wire.old) (W.shown wire.new) }
     ensures links { (W.shown wire.new).links ≡ (W.shown wire.old).links }
 {
     for link in offers {
-        send_one(core, wire, *link, buffer)?;
+        send_one(core, fronts, wire, *link, buffer)?;
     }
     Ok(())
 }
@@ -291,53 +299,78 @@ fn datagram_of(line: &Line) -> ArrayVec<u8, 512>
 }
 
 /// Casts a line to its peer.
-fn cast_one<W: Wire>(wire: &mut W, peers: &[PeerSpec], cast: &CastOut) -> Result<(), Memory>
+fn cast_one<W: Wire>(
+    fronts: &mut Fronts,
+    wire: &mut W,
+    peers: &[PeerSpec],
+    cast: &CastOut,
+) -> Result<(), Memory>
     ensures run { (s : Setting) (lines : List JournalLineSeen) (core : CoreMeaning) (casts : List CastSeen) (offers closes : List ℕ)
         → setting_of core.conf ≡ s → core.conf.peers ≡ peers.now
-        → OnOk result (ActsOn s (W.shown wire.old).told (W.shown wire.new).told (Acting lines core None (cast.now ∷ casts) offers closes) (Acting lines core None casts offers closes)) }
+        → OnOk result (SendsOn s (W.shown wire.old).told fronts.old.page (W.shown wire.new).told fronts.new.page (Acting lines core None (cast.now ∷ casts) offers closes) (Acting lines core None casts offers closes)) }
     ensures err { OnErr result ((W.shown wire.new).told ≡ (W.shown wire.old).told) }
+    ensures uncounted { OnErr result (fronts.new ≡ fronts.old) }
     ensures brings { OnOk result (Brings [] (W.shown wire.old).told (W.shown wire.new).told) }
+    ensures front { fronts.new.http ≡ fronts.old.http }
+    ensures port { fronts.new.page.at ≡ fronts.old.page.at }
     ensures failures { FailsNot (W.shown wire.old) (W.shown wire.new) }
     ensures links { (W.shown wire.new).links ≡ (W.shown wire.old).links }
 {
     match peers.get(usize::from(cast.peer)) {
-        Some(peer) => wire.cast(cast.peer, peer.at, datagram_of(&cast.line).as_slice()),
+        Some(peer) => {
+            let bytes = datagram_of(&cast.line);
+            fronts.page.cast(&mut fronts.http, wire, cast.peer, peer.at, bytes.as_slice())
+        }
         None => Ok(()),
     }
 }
 
 /// Makes each cast, in order.
-fn cast_all<W: Wire>(wire: &mut W, peers: &[PeerSpec], casts: &[CastOut]) -> Result<(), Memory>
+fn cast_all<W: Wire>(
+    fronts: &mut Fronts,
+    wire: &mut W,
+    peers: &[PeerSpec],
+    casts: &[CastOut],
+) -> Result<(), Memory>
     ensures run { (s : Setting) (lines : List JournalLineSeen) (core : CoreMeaning) (offers closes : List ℕ)
         → setting_of core.conf ≡ s → core.conf.peers ≡ peers.now
-        → OnOk result (ActsOn s (W.shown wire.old).told (W.shown wire.new).told (Acting lines core None casts.now offers closes) (Offering lines core offers closes)) }
+        → OnOk result (SendsOn s (W.shown wire.old).told fronts.old.page (W.shown wire.new).told fronts.new.page (Acting lines core None casts.now offers closes) (Offering lines core offers closes)) }
     ensures err { (s : Setting) (lines : List JournalLineSeen) (core : CoreMeaning) (offers closes : List ℕ)
         → setting_of core.conf ≡ s → core.conf.peers ≡ peers.now
-        → OnErr result (ActsOn s (W.shown wire.old).told (W.shown wire.new).told (Acting lines core None casts.now offers closes) (Broken s lines)) }
+        → OnErr result (SendsOn s (W.shown wire.old).told fronts.old.page (W.shown wire.new).told fronts.new.page (Acting lines core None casts.now offers closes) (Broken s lines)) }
     ensures brings { OnOk result (Brings [] (W.shown wire.old).told (W.shown wire.new).told) }
+    ensures front { fronts.new.http ≡ fronts.old.http }
+    ensures port { fronts.new.page.at ≡ fronts.old.page.at }
     ensures failures { FailsNot (W.shown wire.old) (W.shown wire.new) }
     ensures links { (W.shown wire.new).links ≡ (W.shown wire.old).links }
 {
     for cast in casts {
-        cast_one(wire, peers, cast)?;
+        cast_one(fronts, wire, peers, cast)?;
     }
     Ok(())
 }
 
 /// Does what is due for other servers: the dial, and then the casts.
-fn reach_out<W: Wire>(wire: &mut W, conf: &Conf, acts: &Acts) -> Result<(), Memory>
+fn reach_out<W: Wire>(
+    fronts: &mut Fronts,
+    wire: &mut W,
+    conf: &Conf,
+    acts: &Acts,
+) -> Result<(), Memory>
     ensures run { (s : Setting) (lines : List JournalLineSeen) (core : CoreMeaning) → setting_of core.conf ≡ s → core.conf ≡ conf.now
-        → OnOk result (ActsOn s (W.shown wire.old).told (W.shown wire.new).told
+        → OnOk result (SendsOn s (W.shown wire.old).told fronts.old.page (W.shown wire.new).told fronts.new.page
         (Acting lines core acts.now.dial acts.now.casts acts.now.offers acts.now.closes) (Offering lines core acts.now.offers acts.now.closes)) }
     ensures err { (s : Setting) (lines : List JournalLineSeen) (core : CoreMeaning) → setting_of core.conf ≡ s → core.conf ≡ conf.now
-        → OnErr result (ActsOn s (W.shown wire.old).told (W.shown wire.new).told
+        → OnErr result (SendsOn s (W.shown wire.old).told fronts.old.page (W.shown wire.new).told fronts.new.page
         (Acting lines core acts.now.dial acts.now.casts acts.now.offers acts.now.closes) (Broken s lines)) }
     ensures brings { OnOk result (Brings [] (W.shown wire.old).told (W.shown wire.new).told) }
+    ensures front { fronts.new.http ≡ fronts.old.http }
+    ensures port { fronts.new.page.at ≡ fronts.old.page.at }
     ensures failures { FailsNot (W.shown wire.old) (W.shown wire.new) }
     ensures links { (W.shown wire.new).links ≡ (W.shown wire.old).links }
 {
     dial_due(wire, conf.uplinks.as_slice(), acts.dial)?;
-    cast_all(wire, conf.peers.as_slice(), acts.casts.as_slice())
+    cast_all(fronts, wire, conf.peers.as_slice(), acts.casts.as_slice())
 }
 
 /// The core takes one whole round of events, and the journals are told its lines.
@@ -375,6 +408,7 @@ fn act<R: Threads + Sync, W: Wire, G: Gate + Sync>(
     rt: &R,
     alloc: Global,
     core: &mut Core,
+    fronts: &mut Fronts,
     wire: &mut W,
     events: &[Event],
     journals: &mut Vec<Slot>,
@@ -387,18 +421,20 @@ fn act<R: Threads + Sync, W: Wire, G: Gate + Sync>(
     requires room { length buffer.old ≡ 65536 }
     ensures run { (told : List JournalLineSeen) × AllZip (TakesLines journal_shown told) journals.old.items journals.new.items
         × ((s : Setting) (lines : List JournalLineSeen) → setting_of core.old.conf ≡ s
-        → OnOk result (ActsOn s (W.shown wire.old).told (W.shown wire.new).told (Gathering lines core.old events.now) (Resting (lines ++ told) core.new))
-        × OnErr result (ActsOn s (W.shown wire.old).told (W.shown wire.new).told (Gathering lines core.old events.now) (Broken s (lines ++ told)))) }
+        → OnOk result (SendsOn s (W.shown wire.old).told fronts.old.page (W.shown wire.new).told fronts.new.page (Gathering lines core.old events.now) (Resting (lines ++ told) core.new))
+        × OnErr result (SendsOn s (W.shown wire.old).told fronts.old.page (W.shown wire.new).told fronts.new.page (Gathering lines core.old events.now) (Broken s (lines ++ told)))) }
     ensures brings { OnOk result (Brings [] (W.shown wire.old).told (W.shown wire.new).told) }
     ensures conf { OnOk result (core.new.conf ≡ core.old.conf) }
     ensures greatest { OnOk result (core.new.seen.greatest ≡ greatest_after events.now core.old.seen.greatest) }
     ensures done { IfOk result (λ done. done ≡ core.new.seen.stopped) }
+    ensures front { fronts.new.http ≡ fronts.old.http }
+    ensures port { fronts.new.page.at ≡ fronts.old.page.at }
     ensures failures { FailsNot (W.shown wire.old) (W.shown wire.new) }
     ensures links { (W.shown wire.new).links ≡ (W.shown wire.old).links }
 {
     let acts = tell_round(rt, alloc, core, events, journals, gate)?;
-    reach_out(wire, core.conf(), &acts)?;
-    send_all(core, wire, acts.offers.as_slice(), buffer)?;
+    reach_out(fronts, wire, core.conf(), &acts)?;
+    send_all(core, fronts, wire, acts.offers.as_slice(), buffer)?;
     close_all(wire, acts.closes.as_slice())?;
     Ok(acts.done)
 }
@@ -410,7 +446,7 @@ fn serve_round<R: Threads + Sync, W: Wire, G: Gate + Sync>(
     rt: &R,
     alloc: Global,
     core: &mut Core,
-    front: &mut HttpFront,
+    fronts: &mut Fronts,
     wire: &mut W,
     events: &mut Vec<Event>,
     journals: &mut Vec<Slot>,
@@ -422,24 +458,26 @@ fn serve_round<R: Threads + Sync, W: Wire, G: Gate + Sync>(
     requires room { length buffer.old ≡ 65536 }
     ensures run { (told : List JournalLineSeen) × AllZip (TakesLines journal_shown told) journals.old.items journals.new.items
         × ((s : Setting) (lines : List JournalLineSeen) → setting_of core.old.conf ≡ s
-        → OnOk result (GoesOn s (W.shown wire.old).told (front_state front.old) (W.shown wire.new).told (front_state front.new) (Resting lines core.old) (Resting (lines ++ told) core.new))
-        × OnErr result (EndsOn s (W.shown wire.old).told (front_state front.old) (W.shown wire.new).told (Resting lines core.old) (Broken s (lines ++ told)))
-        × (IsErrOf result WireError.Failed → EndsOn s (W.shown wire.old).told (front_state front.old) (W.shown wire.new).told (Resting lines core.old) (Idling s (lines ++ told)))) }
-    ensures port { OnOk result (front.new.at ≡ front.old.at) }
+        → OnOk result (GoesOn s (W.shown wire.old).told (state_of fronts.old) (W.shown wire.new).told (state_of fronts.new) (Resting lines core.old) (Resting (lines ++ told) core.new))
+        × OnErr result (EndsOn s (W.shown wire.old).told (state_of fronts.old) (W.shown wire.new).told (Resting lines core.old) (Broken s (lines ++ told)))
+        × (IsErrOf result WireError.Failed → EndsOn s (W.shown wire.old).told (state_of fronts.old) (W.shown wire.new).told (Resting lines core.old) (Idling s (lines ++ told)))) }
+    ensures ports { OnOk result (ports_of (state_of fronts.new) ≡ ports_of (state_of fronts.old)) }
     ensures whole { OnOk result (is_whole 0 events.new.items ≡ true) }
-    ensures brings { OnOk result (BringsUp front.old.at events.new.items (W.shown wire.old).told (W.shown wire.new).told) }
+    ensures brings { OnOk result (BringsUp fronts.old.http.at events.new.items (W.shown wire.old).told (W.shown wire.new).told) }
     ensures conf { OnOk result (core.new.conf ≡ core.old.conf) }
     ensures numbered { OnOk result (core.new.seen.greatest ≤ (W.shown wire.new).links) }
     ensures done { IfOk result (λ done. done ≡ core.new.seen.stopped) }
     ensures listens { (W.shown wire.new).failed_listens ≡ (W.shown wire.old).failed_listens }
     ensures nexts { (W.shown wire.new).failed_nexts ≡ failed_after result (W.shown wire.old).failed_nexts }
 {
+    fronts.page.publish(&core.totals());
     events.clear();
-    gather(front, wire, events)?;
+    gather(fronts, wire, events)?;
     match act(
         rt,
         alloc,
         core,
+        fronts,
         wire,
         events.as_slice(),
         journals,
@@ -466,7 +504,7 @@ pub(crate) fn serve<R: Threads + Sync + Wait, W: Wire, G: Gate + Sync>(
     rt: &R,
     alloc: Global,
     core: &mut Core,
-    front: &mut HttpFront,
+    fronts: &mut Fronts,
     wire: &mut W,
     journals: &mut Vec<Slot>,
     gate: &G,
@@ -475,9 +513,9 @@ pub(crate) fn serve<R: Threads + Sync + Wait, W: Wire, G: Gate + Sync>(
     requires numbered { core.old.seen.greatest ≤ (W.shown wire.old).links }
     ensures run { (told : List JournalLineSeen) × AllZip (TakesLines journal_shown told) journals.old.items journals.new.items
         × ((s : Setting) (lines : List JournalLineSeen) → setting_of core.old.conf ≡ s
-        → EndsOn s (W.shown wire.old).told (front_state front.old) (W.shown wire.new).told (Resting lines core.old) (Served s result (lines ++ told))) }
+        → EndsOn s (W.shown wire.old).told (state_of fronts.old) (W.shown wire.new).told (Resting lines core.old) (Served s result (lines ++ told))) }
     ensures stands { result ≡ End.Stopped → (s : Setting) (lines : List JournalLineSeen) → setting_of core.old.conf ≡ s
-        → EndsOn s (W.shown wire.old).told (front_state front.old) (W.shown wire.new).told (Resting lines core.old) (λ more. Finished s more × StandsFor s core.new.seen more) }
+        → EndsOn s (W.shown wire.old).told (state_of fronts.old) (W.shown wire.new).told (Resting lines core.old) (λ more. Finished s more × StandsFor s core.new.seen more) }
     ensures listens { (W.shown wire.new).failed_listens ≡ (W.shown wire.old).failed_listens }
     ensures nexts { (W.shown wire.new).failed_nexts ≡ failed_by_serving result (W.shown wire.old).failed_nexts }
 {
@@ -488,7 +526,7 @@ pub(crate) fn serve<R: Threads + Sync + Wait, W: Wire, G: Gate + Sync>(
             rt,
             alloc,
             core,
-            front,
+            fronts,
             wire,
             &mut events,
             journals,

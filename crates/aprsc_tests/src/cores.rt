@@ -65,6 +65,7 @@ fn conf_of<R: Abort>(rt: &R, alloc: Global, server: Call) -> Conf
         email: no_text(alloc),
         listens: Vec::from_array(alloc, listens).expect(rt, "memory"),
         upload: None,
+        page: None,
         uplinks: Vec::new(alloc),
         group: None,
         peers: Vec::new(alloc),

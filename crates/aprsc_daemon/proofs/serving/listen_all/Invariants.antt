@@ -9,5 +9,5 @@ abbrev pub invariant-loop-spec : goal.invariant-loop-spec
 invariant-loop-spec g l =
     (l.n ≡ l.spec-index)
     × FailsNot (g.W.Wire.shown l.initial.wire) (g.W.Wire.shown l.wire)
-    × (l.front ≡ l.initial.front)
-    × ((s : Setting) → s.listens ≡ l.listens → Opens s l.initial.front (g.W.Wire.shown l.initial.wire).told (g.W.Wire.shown l.wire).told (Listening s l.n))
+    × (l.fronts ≡ l.initial.fronts)
+    × ((s : Setting) → s.listens ≡ l.listens → Opens s l.initial.fronts.page l.initial.fronts.http (g.W.Wire.shown l.initial.wire).told (g.W.Wire.shown l.wire).told (Listening s l.n))

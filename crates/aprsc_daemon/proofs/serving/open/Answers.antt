@@ -23,7 +23,7 @@ returns-in_err-listen_all-clause-listen g c =
     let s = setting_of c.args.conf in
     let same : c.as_slice.result.now ≡ listeners c.args.conf = c.as_slice.ensures.value ∙ c.in-Ok.ensures in
     err_of _ c.from_residual.result error.0 c.in_err-listen_all.field-0.0 error.1 error.2 (λ n is.
-    opens_so s c.args.front.now (g.W.Wire.shown c.args.wire.now).told (g.W.Wire.shown c.listen_all.new.wire).told (g.W.Wire.shown c.listen_all.new.wire).told (Listening s n) (OpensOnly n) refl
+    opens_so s c.args.fronts.now (g.W.Wire.shown c.args.wire.now).told (g.W.Wire.shown c.listen_all.new.wire).told (g.W.Wire.shown c.listen_all.new.wire).told (Listening s n) (OpensOnly n) refl
     (λ more phase. (phase.count, phase.only)) (c.in_err-listen_all.ensures.failed n is s (sym same)))
 
 pub returns-in_err-listen_all-clause-within : goal.returns-in_err-listen_all-clause-within
@@ -37,7 +37,7 @@ pub returns-in-Ok-new-clause-run : goal.returns-in-Ok-new-clause-run
 returns-in-Ok-new-clause-run g c =
     let s = setting_of c.args.conf in
     let same : c.as_slice.result.now ≡ listeners c.args.conf = c.as_slice.ensures.value ∙ c.in-Ok.ensures in
-    opens_so s c.args.front.now (g.W.Wire.shown c.args.wire.now).told (g.W.Wire.shown c.listen_all.new.wire).told (g.W.Wire.shown c.listen_all.new.wire).told (Listening s (length c.as_slice.result.now)) (Resting [] c.in-Ok-new.core) refl
+    opens_so s c.args.fronts.now (g.W.Wire.shown c.args.wire.now).told (g.W.Wire.shown c.listen_all.new.wire).told (g.W.Wire.shown c.listen_all.new.wire).told (Listening s (length c.as_slice.result.now)) (Resting [] c.in-Ok-new.core) refl
     (λ more phase. listening_rests c.in-Ok-new.core c.args.conf more c.in-Ok-new.ensures.conf c.in-Ok-new.ensures.stands (subst (λ specs. Listening s (length specs) more) same phase))
     (c.in_ok-listen_all.ensures.run s (sym same))
 
@@ -45,5 +45,5 @@ pub returns-clause-err : goal.returns-clause-err
 returns-clause-err g c =
     let s = setting_of c.args.conf in
     let same : c.as_slice.result.now ≡ listeners c.args.conf = c.as_slice.ensures.value ∙ c.in-Ok.ensures in
-    opens_so s c.args.front.now (g.W.Wire.shown c.args.wire.now).told (g.W.Wire.shown c.listen_all.new.wire).told (g.W.Wire.shown c.listen_all.new.wire).told (Listening s (length c.as_slice.result.now)) (λ more. HasFreshLinks more × (are_listens more ≡ true)) refl (λ more phase. (phase.fresh, phase.only))
+    opens_so s c.args.fronts.now (g.W.Wire.shown c.args.wire.now).told (g.W.Wire.shown c.listen_all.new.wire).told (g.W.Wire.shown c.listen_all.new.wire).told (Listening s (length c.as_slice.result.now)) (λ more. HasFreshLinks more × (are_listens more ≡ true)) refl (λ more phase. (phase.fresh, phase.only))
     (c.in_ok-listen_all.ensures.run s (sym same))

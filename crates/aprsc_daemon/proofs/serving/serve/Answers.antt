@@ -1,6 +1,6 @@
 use Rattle.std.proofs.Common.{◌++◌, ◌∙◌, [], Err, ap, append-nil, append_assoc, refl, subst, sym}
 use Rattle.aprs_base.proofs.SlotLemmas.{each_takes-append, each_takes-none}
-use Rattle.front_history.specs.Answers.{front_state}
+use Rattle.aprsc_daemon.specs.Fronts.{state_of}
 use Rattle.front_history.specs.Serving.{Serves}
 use Rattle.front_history.proofs.ServesLemmas.{serves_so}
 use Rattle.aprs_history.specs.Stands.{StandsFor}
@@ -21,7 +21,7 @@ loop-init g c = (
   refl,
   [],
   each_takes-none (λ z. (goal.Journal-dyn g z).journal_shown z.1) c.args.journals.now.items,
-  λ s lines same start run. subst (λ all. Serves s start (g.W.Wire.shown c.args.wire.now).told (front_state c.args.front.now) (Resting all c.args.core.now)) (sym (append-nil lines)) run,
+  λ s lines same start run. subst (λ all. Serves s start (g.W.Wire.shown c.args.wire.now).told (state_of c.args.fronts.now) (Resting all c.args.core.now)) (sym (append-nil lines)) run,
 )
 
 pub loop-preserved : goal.loop-preserved
@@ -34,11 +34,11 @@ loop-preserved g c =
       sym c.in-Ok-false.ensures.done ∙ c.in-Ok-false.field-0-test,
       c.in-Ok-false.ensures.numbered,
       (c.serve_round.ensures.listens ∙ before.5.0, c.in-Ok-false.ensures.nexts ∙ before.5.1),
-      c.in-Ok-false.ensures.port ∙ before.6,
+      c.in-Ok-false.ensures.ports ∙ before.6,
       before.7 ++ now.0,
       each_takes-append (λ z. (goal.Journal-dyn g z).journal_shown z.1) before.7 now.0 _ _ _ before.8 now.1,
       λ s lines same start run.
-          subst (λ all. Serves s start (g.W.Wire.shown c.serve_round.new.wire).told (front_state c.serve_round.new.front) (Resting all c.serve_round.new.core)) (append_assoc lines before.7 now.0)
+          subst (λ all. Serves s start (g.W.Wire.shown c.serve_round.new.wire).told (state_of c.serve_round.new.fronts) (Resting all c.serve_round.new.core)) (append_assoc lines before.7 now.0)
           ((now.2 s (lines ++ before.7) (ap setting_of before.2 ∙ same)).0 start (before.9 s lines same start run)),
     )
 
@@ -51,11 +51,11 @@ returns-in-Ok-true-clause-run g c =
       λ s lines same start run.
           let all = (lines ++ before.7) ++ now.0 in
           let core = c.serve_round.new.core in (
-            (front_state c.serve_round.new.front),
-            c.in-Ok-true.ensures.port ∙ before.6,
-            subst (λ all. Serves s start (g.W.Wire.shown c.serve_round.new.wire).told (front_state c.serve_round.new.front) (Served s ended.Stopped all)) (append_assoc lines before.7 now.0)
+            (state_of c.serve_round.new.fronts),
+            c.in-Ok-true.ensures.ports ∙ before.6,
+            subst (λ all. Serves s start (g.W.Wire.shown c.serve_round.new.wire).told (state_of c.serve_round.new.fronts) (Served s ended.Stopped all)) (append_assoc lines before.7 now.0)
                 (serves_so s (g.W.Wire.shown c.serve_round.new.wire).told (Resting all core) (Served s ended.Stopped all)
-                (λ more. finishes all s core more (ap setting_of (c.in-Ok-true.ensures.conf ∙ before.2) ∙ same) (sym c.in-Ok-true.ensures.done ∙ c.in-Ok-true.field-0-test)) (front_state c.serve_round.new.front) start
+                (λ more. finishes all s core more (ap setting_of (c.in-Ok-true.ensures.conf ∙ before.2) ∙ same) (sym c.in-Ok-true.ensures.done ∙ c.in-Ok-true.field-0-test)) (state_of c.serve_round.new.fronts) start
                 ((now.2 s (lines ++ before.7) (ap setting_of before.2 ∙ same)).0 start (before.9 s lines same start run))),
           ),
     )
@@ -65,10 +65,10 @@ returns-in-Ok-true-clause-stands g c = λ stopped s lines same start run.
     let before = c.loop.invariant in
     let now = c.in-Ok-true.ensures.run in
     let core = c.serve_round.new.core in (
-      (front_state c.serve_round.new.front),
-      c.in-Ok-true.ensures.port ∙ before.6,
+      (state_of c.serve_round.new.fronts),
+      c.in-Ok-true.ensures.ports ∙ before.6,
       serves_so s (g.W.Wire.shown c.serve_round.new.wire).told (Resting ((lines ++ before.7) ++ now.0) core) (λ more. Finished s more × StandsFor s core.seen more)
-          (λ more. stopped_rests s core more (ap setting_of (c.in-Ok-true.ensures.conf ∙ before.2) ∙ same) (sym c.in-Ok-true.ensures.done ∙ c.in-Ok-true.field-0-test)) (front_state c.serve_round.new.front) start
+          (λ more. stopped_rests s core more (ap setting_of (c.in-Ok-true.ensures.conf ∙ before.2) ∙ same) (sym c.in-Ok-true.ensures.done ∙ c.in-Ok-true.field-0-test)) (state_of c.serve_round.new.fronts) start
           ((now.2 s (lines ++ before.7) (ap setting_of before.2 ∙ same)).0 start (before.9 s lines same start run)),
     )
 

@@ -3,8 +3,8 @@ use Rattle.std.specs.List.{AllZip}
 use Rattle.aprs_base.specs.Journals.{JournalLineSeen}
 use Rattle.aprs_base.specs.Slots.{TakesLines}
 use Rattle.aprs_history.specs.Setting.{Setting}
-use Rattle.front_history.specs.Answers.{front_state}
-use Rattle.front_history.specs.Serving.{GoesOn}
+use Rattle.front_history.specs.Serving.{GoesOn, ports_of}
+use Rattle.aprsc_daemon.specs.Fronts.{state_of}
 use Rattle.server_core.specs.Meaning.{setting_of}
 use Rattle.aprsc_daemon.specs.Failing.{FailsNot}
 use Rattle.aprsc_daemon.specs.Phases.{Resting}
@@ -18,8 +18,8 @@ invariant-loop g l =
     × (l.core.seen.stopped ≡ false)
     × (l.core.seen.greatest ≤ (g.W.Wire.shown l.wire).links)
     × FailsNot (g.W.Wire.shown l.initial.wire) (g.W.Wire.shown l.wire)
-    × (l.front.at ≡ l.initial.front.at)
+    × (ports_of (state_of l.fronts) ≡ ports_of (state_of l.initial.fronts))
     × (told : List JournalLineSeen)
     × AllZip (TakesLines (λ z. (goal.Journal-dyn g z).journal_shown z.1) told) l.initial.journals.items l.journals.items
     × ((s : Setting) (lines : List JournalLineSeen) → setting_of l.initial.core.conf ≡ s
-    → GoesOn s (g.W.Wire.shown l.initial.wire).told (front_state l.initial.front) (g.W.Wire.shown l.wire).told (front_state l.front) (Resting lines l.initial.core) (Resting (lines ++ told) l.core))
+    → GoesOn s (g.W.Wire.shown l.initial.wire).told (state_of l.initial.fronts) (g.W.Wire.shown l.wire).told (state_of l.fronts) (Resting lines l.initial.core) (Resting (lines ++ told) l.core))
