@@ -1,5 +1,5 @@
 -- What is cast to a peer are the packets that were submitted here.
-use Rattle.std.proofs.Common.{◌≡◌, ℕ, ◌+◌, ◌<◌, ◌≤◌, ◌==◌, Bool, true, false, List, [], ◌∷◌, ◌++◌, length, map, refl, sym, ap, ◌∙◌, arith, Option, Some, None, eq-eqb, append-nil, append_assoc, if◌then◌else◌, ⊎_elim}
+use Rattle.std.proofs.Common.{◌≡◌, ℕ, ◌+◌, ◌<◌, ◌≤◌, ◌==◌, Bool, true, false, List, [], ◌∷◌, ◌++◌, length, take, map, refl, sym, ap, ◌∙◌, arith, Option, Some, None, eq-eqb, append-nil, append_assoc, if◌then◌else◌, ⊎_elim}
 use Rattle.std.specs.Bool.{⊤}
 use Rattle.std.proofs.lemmas.List.{map-append}
 use Rattle.std.proofs.lemmas.Bool.{cases_Bool, eqb-true, true≢false}
@@ -15,8 +15,10 @@ use Rattle.aprs_history.specs.Setting.{Peer, Setting}
 use Rattle.aprs_history.specs.Trace.{Trace, RoundBegan, Said, closed_links}
 use Rattle.aprs_history.specs.Links.{is_submitted}
 use Rattle.aprs_history.specs.Dials.{cast_by, casts_of, casts_to, dial_of}
+use Rattle.aprs_history.specs.Downs.{DownSeen, down_of, whole_lines}
+use Rattle.aprs_history.specs.Texts.{untaken}
 use Rattle.aprs_history.specs.History.{History, ends_round, is_stopped, open_events, trace_of}
-use Rattle.aprs_history.specs.Acts.{Act, Listens, Casts, Closes, Fulfils, IsRun, MayCome, acts_after, but_first, cast_act, dials, due, listens_from, offer_to, offered_links}
+use Rattle.aprs_history.specs.Acts.{Act, Listens, Casts, SendsLine, Closes, Fulfils, IsRun, MayCome, acts_after, all_offers, but_first, cast_act, dials, due, listens_from, offered_links, offers_by, offers_to}
 use Rattle.aprs_history.specs.Casting.{SubmissionsAreCast, casts_to_peer, submitted_line, submitted_lines}
 use Rattle.aprs_history.proofs.RoundLemmas.{before_round, border_event}
 
@@ -77,9 +79,18 @@ module _ (peer : ℕ) where
       of false later = later
   lines_both (act ∷ xs) ys = lines_both xs ys
 
-  no_offers : (s : Setting) (t : Trace) (ks : List ℕ) → cast_lines peer (map (offer_to s t) ks) ≡ []
+  no_sends : (k : ℕ) (lines : List (List ℕ)) → cast_lines peer (map (SendsLine k) lines) ≡ []
+  no_sends k [] = refl
+  no_sends k (line ∷ lines) = no_sends k lines
+
+  no_offer : (down : Option DownSeen) (k : ℕ) (bytes : List ℕ) → cast_lines peer (offers_by down k bytes) ≡ []
+  no_offer None k bytes = refl
+  no_offer (Some down) k bytes = no_sends k (whole_lines bytes)
+
+  no_offers : (s : Setting) (t : Trace) (ks : List ℕ) → cast_lines peer (all_offers s t ks) ≡ []
   no_offers s t [] = refl
-  no_offers s t (k ∷ ks) = no_offers s t ks
+  no_offers s t (k ∷ ks) =
+      lines_both (offers_to s t k) (all_offers s t ks) ∙ ap (λ lines. lines ++ cast_lines peer (all_offers s t ks)) (no_offer (down_of s t k) k (take 65536 (untaken s t k))) ∙ no_offers s t ks
 
   no_closes : (ks : List ℕ) → cast_lines peer (map Closes ks) ≡ []
   no_closes [] = refl
@@ -96,7 +107,7 @@ module _ (peer : ℕ) where
   acts_cast : (s : Setting) (t : Trace) → cast_lines peer (acts_after s t) ≡ cast_lines peer (map cast_act (casts_of s t))
   acts_cast s t =
       let casts = map cast_act (casts_of s t) in
-      let offers = map (offer_to s t) (offered_links s t) in
+      let offers = all_offers s t (offered_links s t) in
       let closes = map Closes (closed_links t) in
       no_dials (dial_of s t) (casts ++ (offers ++ closes))
       ∙ lines_both casts (offers ++ closes)

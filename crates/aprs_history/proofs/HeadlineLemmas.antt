@@ -33,7 +33,7 @@ use Rattle.aprs_history.specs.History.{History, ends_round, greater_link, greate
 use Rattle.aprs_history.specs.Acts.{IsRun, but_first, due}
 use Rattle.aprs_history.specs.Headline.{HasEnded, is_round_start, HasFreshLinks, IsOfAnother, LinksTakePrefixes, NoneHearThemselves, ClosesHaveReasons, taken_bytes}
 use Rattle.aprs_history.proofs.EntryLemmas.{MayAdd, any_link, kept_after}
-use Rattle.aprs_history.proofs.DueLemmas.{OffersStand, closed_due, closes_stand, offers_after, offers_listens, offers_lower, offers_next, offers_same, offers_within, sent_due, serves}
+use Rattle.aprs_history.proofs.DueLemmas.{OffersStand, closed_due, closes_stand, offers_after, offers_listens, offers_next, sent_due, serves}
 use Rattle.aprs_history.proofs.NumberLemmas.{differs_above, member_placed}
 
 -- ---- bytes that are taken of a text
@@ -60,14 +60,14 @@ takes_next n m text =
     ∙ ap (λ bytes. take n (take (n + m) text) ++ bytes) (sym (drop-take n m text))
     ∙ take-append-drop n (take (n + m) text)
 
-takes_sent : (bytes given : List ℕ) (n m : ℕ) (lines : List (List ℕ)) → Takes bytes n lines → given ≡ take 65536 (drop n (text_bytes lines)) → m ≤ length given
+takes_sent : (bytes given : List ℕ) (n m : ℕ) (lines : List (List ℕ)) → Takes bytes n lines → given ≡ take (length given) (drop n (text_bytes lines)) → m ≤ length given
     → Takes (bytes ++ take m given) (n + m) lines
 takes_sent bytes given n m lines takes is some =
     let text = text_bytes lines in
-    let offered : length given ≡ min 65536 (length text - n) = ap length is ∙ length-take 65536 (drop n text) ∙ ap (min 65536) (length-drop n text) in
+    let offered : length given ≡ min (length given) (length text - n) = ap length is ∙ length-take (length given) (drop n text) ∙ ap (min (length given)) (length-drop n text) in
     let within = takes.1 in (
       ap (λ taken. taken ++ take m given) takes.0
-          ∙ ap (λ next. take n text ++ next) (ap (take m) is ∙ take-take m 65536 (drop n text) (omega arith))
+          ∙ ap (λ next. take n text ++ next) (ap (take m) is ∙ take-take m (length given) (drop n text) (omega arith))
           ∙ takes_next n m text,
       omega arith,
     )
@@ -131,7 +131,7 @@ none_by s h link u entry may none = none
 record Kept (s : Setting) (h : History) : Type 0 where
   takes : (link : ℕ) → Takes (taken_bytes h link) (taken_by (trace_of s h) link) (lines_of s (trace_of s h) link)
   none : (link : ℕ) → greatest_link h < link → HasNone link (trace_of s h)
-  offers : OffersStand s (trace_of s h) 0 (due s h) (greatest_link h)
+  offers : OffersStand (untaken s (trace_of s h)) 0 (due s h) (greatest_link h)
 
 is_new : (new : Option ℕ) (high link : ℕ) → IfSome new (λ k. high < k) → IfSome new (λ k. (link == k) ≡ false) ⊎ (high < link)
 is_new None high link fresh = inl tt
@@ -171,45 +171,29 @@ kept_event s h e run fresh kept = record {
   offers = offers_after s (trace_of s (did.Event e ∷ h)) (ends_round (open_events h) e) (greatest_link (did.Event e ∷ h)) (serves s (did.Event e ∷ h) run fresh).1;
 }
 
--- what a send leaves to each link above its own
-left_above : (s : Setting) (h : History) (to : ℕ) (bytes : List ℕ) (outcome : Sent) (link : ℕ) → to < link → untaken s (trace_of s (did.Sent to bytes outcome ∷ h)) link ≡ untaken s (trace_of s h) link
-unfolding trace_of
-left_above s h to bytes (sent.Took n) link above = rw (differs_above to link above) refl
-left_above s h to bytes sent.Gone link above = refl
-
-kept_offers : (s : Setting) (h : History) (to : ℕ) (bytes : List ℕ) (outcome : Sent) → IsRun s (did.Sent to bytes outcome ∷ h) → Kept s h
-    → OffersStand s (trace_of s (did.Sent to bytes outcome ∷ h)) 0 (due s (did.Sent to bytes outcome ∷ h)) (greatest_link h)
-unfolding due
-kept_offers s h to bytes outcome run kept =
-    let t = trace_of s h in
-    let u = trace_of s (did.Sent to bytes outcome ∷ h) in
-    let due' = sent_due s t (due s h) (is_stopped h) to bytes outcome (greatest_link h) run.1 kept.offers in
-    offers_lower s u 0 to (but_first (due s h)) (greatest_link h) (omega arith)
-    (offers_same s t u to to (but_first (due s h)) (greatest_link h) (left_above s h to bytes outcome) (omega arith) due'.2)
-
 takes_gone : (b : Bool) (bytes : List ℕ) (n : ℕ) (lines : List (List ℕ)) → Takes bytes n lines → Takes (if b then bytes ++ [] else bytes) n lines
 takes_gone true bytes n lines takes = subst (λ taken. Takes taken n lines) (sym (append-nil bytes)) takes
 takes_gone false bytes n lines takes = takes
 
 kept_sent : (s : Setting) (h : History) (to : ℕ) (bytes : List ℕ) (outcome : Sent) → IsRun s (did.Sent to bytes outcome ∷ h) → Kept s h → Kept s (did.Sent to bytes outcome ∷ h)
-unfolding trace_of
+unfolding trace_of due
 kept_sent s h to bytes (sent.Took n) run kept =
     let t = trace_of s h in
-    let due' = sent_due s t (due s h) (is_stopped h) to bytes (sent.Took n) (greatest_link h) run.1 kept.offers in
-    let within : to ≤ greatest_link h = offers_within s t to (but_first (due s h)) (greatest_link h) due'.2 in
+    let sends = sent_due s t (due s h) (is_stopped h) to bytes (sent.Took n) (greatest_link h) run.1 kept.offers in
+    let within = sends.within in
     record {
       takes = λ link. ⊎_elim
           (λ here. let same : link ≡ to = eqb-true link to here in
-          rw here (takes_sent (taken_bytes h link) bytes (taken_by t link) n (lines_of s t link) (kept.takes link) (due'.0 ∙ ap (λ k. take 65536 (untaken s t k)) (sym same)) due'.1))
+          rw here (takes_sent (taken_bytes h link) bytes (taken_by t link) n (lines_of s t link) (kept.takes link) (sends.next ∙ ap (λ k. take (length bytes) (untaken s t k)) (sym same)) sends.part))
           (λ other. rw other (kept.takes link))
           (cases_Bool (link == to));
       none = λ link above. rw (differs_above to link (omega arith)) (kept.none link above);
-      offers = kept_offers s h to bytes (sent.Took n) run kept;
+      offers = sends.later;
     }
 kept_sent s h to bytes sent.Gone run kept = record {
   takes = λ link. takes_gone (link == to) (taken_bytes h link) (taken_by (trace_of s h) link) (lines_of s (trace_of s h) link) (kept.takes link);
   none = kept.none;
-  offers = kept_offers s h to bytes sent.Gone run kept;
+  offers = (sent_due s (trace_of s h) (due s h) (is_stopped h) to bytes sent.Gone (greatest_link h) run.1 kept.offers).later;
 }
 
 kept : (s : Setting) (h : History) → IsRun s h → HasFreshLinks h → Kept s h
@@ -218,7 +202,8 @@ kept s [] run fresh = record { takes = λ link. takes_nothing []; none = λ link
 kept s (did.Event e ∷ h) run fresh = kept_event s h e run fresh (kept s h run.0 fresh.0)
 kept s (did.Sent link bytes outcome ∷ h) run fresh = kept_sent s h link bytes outcome run (kept s h run.0 fresh)
 kept s (happening ∷ h) run fresh =
-    let before = kept s h run.0 fresh in record { takes = before.takes; none = before.none; offers = offers_next s (trace_of s h) (due s h) (greatest_link h) before.offers }
+    let before = kept s h run.0 fresh in
+    record { takes = before.takes; none = before.none; offers = offers_next s (trace_of s h) happening (due s h) (is_stopped h) (greatest_link h) tt run.1 before.offers }
 
 pub links_take_prefixes : LinksTakePrefixes
 links_take_prefixes s h run fresh link =

@@ -14,6 +14,7 @@ use Rattle.aprs_position.specs.Either.{either_place}
 use Rattle.aprs_position.specs.Plain.{mark_after, plain_place, written_of}
 use Rattle.aprs_position.specs.Written.{finest, place_with}
 use Rattle.filter_eval.specs.Passes.{fits, passes_of}
+use Rattle.login_pass.specs.Downlinks.{downlink_of}
 use Rattle.login_pass.specs.Login.{login_of}
 use Rattle.login_pass.specs.Passcode.{passcode_of}
 use Rattle.login_pass.specs.declared.login_line.LoginFault.TheVariants as login_fault
@@ -476,7 +477,7 @@ cast_to_peer = refl
 
 -- where it listened, whom it dialled and to whom it cast are those of the setting
 abbrev told : Told
-told = told_after for_one (record { done = []; listened = []; dialled = []; cast_to = [] }) busy
+told = told_after for_one for_one (record { done = []; listened = []; dialled = []; cast_to = [] }) busy busy
 
 told_listens : told.listened ≡ for_one.listens
 unfolding network busy busy_round unjoined dialling first_tick listening
@@ -487,5 +488,5 @@ unfolding network busy busy_round unjoined dialling first_tick listening
 told_dials = refl
 
 told_casts : told.cast_to ≡ peer_at 9000 ∷ peer_at 9000 ∷ []
-unfolding network peer_at busy busy_round unjoined dialling first_tick listening
+unfolding trace_of network peer_at busy busy_round unjoined dialling first_tick listening client crlf parts_of text_of via_of head_of login_of passcode_of downlink_of process_of given_drops built_drops built_row rows body_of
 told_casts = refl

@@ -1,5 +1,5 @@
 -- What goes to other servers was submitted here.
-use Rattle.std.proofs.Common.{◌≡◌, ℕ, ◌+◌, ◌<◌, ◌≤◌, ◌%◌, ◌==◌, nat_lt, ◌&&◌, ◌||◌, Bool, true, false, not, List, [], ◌∷◌, ◌++◌, map, length, refl, sym, ap, ◌∙◌, subst, Option, Some, None, is_none, is_some, arith, Result, Ok, Err, if◌then◌else◌}
+use Rattle.std.proofs.Common.{◌≡◌, ℕ, ◌+◌, ◌<◌, ◌≤◌, ◌%◌, ◌==◌, nat_lt, ◌&&◌, ◌||◌, Bool, true, false, not, List, [], ◌∷◌, ◌++◌, map, length, take, refl, sym, ap, ◌∙◌, subst, append_assoc, Option, Some, None, is_none, is_some, arith, Result, Ok, Err, if◌then◌else◌}
 use Rattle.std.specs.Bool.{⊤}
 use Rattle.std.specs.List.{All}
 use Rattle.std.proofs.Math.Nat.{mod-lt}
@@ -46,9 +46,10 @@ use Rattle.aprs_history.specs.Scenes.{packet_of, scene_of, speaker_by, speaker_o
 use Rattle.aprs_history.specs.Sights.{filter_passes}
 use Rattle.aprs_history.specs.Messages.{is_asked}
 use Rattle.aprs_history.specs.Dials.{CastSeen, cast_by, casts_of, casts_to, dial_of, joined_by, uplinks_of}
-use Rattle.aprs_history.specs.Texts.{LineKind, Login, Relayed, Text, TextLine, added_by, comment_line, filter_reply, first_line, first_lines, is_dupe_of, is_shown, link_wants, login_filter_reply, login_reply, opening_wants, refusal_reply, refused_lines, relayed, reply_lines, reply_of, shown, shows_duplicates, text_to, wants}
+use Rattle.aprs_history.specs.Texts.{LineKind, Login, Relayed, Text, TextLine, added_by, comment_line, filter_reply, first_line, first_lines, is_dupe_of, is_shown, link_wants, login_filter_reply, login_reply, opening_wants, refusal_reply, refused_lines, relayed, reply_lines, reply_of, shown, shows_duplicates, text_to, untaken, wants}
+use Rattle.aprs_history.specs.Downs.{DownSeen, down_of, whole_lines}
 use Rattle.aprs_history.specs.History.{History, ends_round, is_stopped, open_events, trace_of}
-use Rattle.aprs_history.specs.Acts.{Act, Dials, Casts, Closes, MayCome, acts_after, but_first, cast_act, dials, due, listens_from, offer_to, offered_links}
+use Rattle.aprs_history.specs.Acts.{Act, Dials, Casts, SendsLine, Closes, MayCome, acts_after, all_offers, but_first, cast_act, dials, due, listens_from, offered_links, offers_by, offers_to}
 use Rattle.aprs_history.specs.Headline.{DialsAreOfUplinks, IsForPeer, IsForUplink, IsLineForUplink, PeersGetSubmissions, UplinksGetSubmissions, WasSubmitted, is_round_start}
 use Rattle.aprs_history.proofs.EntryLemmas.{IsJudged, MayAdd, any_link, kept_after}
 use Rattle.aprs_history.proofs.HeadlineLemmas.{if_all, line_alone, lines_all, run_before}
@@ -394,9 +395,19 @@ module _ (s : Setting) (t : Trace) where
   reach_closes [] = tt
   reach_closes (k ∷ ks) = reach_closes ks
 
-  reach_offers : (ks : List ℕ) (acts : List Act) → ReachStands s t acts → ReachStands s t (map (offer_to s t) ks ++ acts)
+  reach_lines : (k : ℕ) (lines : List (List ℕ)) (acts : List Act) → ReachStands s t acts → ReachStands s t (map (SendsLine k) lines ++ acts)
+  reach_lines k [] acts stand = stand
+  reach_lines k (line ∷ lines) acts stand = reach_lines k lines acts stand
+
+  reach_offer : (down : Option DownSeen) (k : ℕ) (bytes : List ℕ) (acts : List Act) → ReachStands s t acts → ReachStands s t (offers_by down k bytes ++ acts)
+  reach_offer None k bytes acts stand = stand
+  reach_offer (Some down) k bytes acts stand = reach_lines k (whole_lines bytes) acts stand
+
+  reach_offers : (ks : List ℕ) (acts : List Act) → ReachStands s t acts → ReachStands s t (all_offers s t ks ++ acts)
   reach_offers [] acts stand = stand
-  reach_offers (k ∷ ks) acts stand = reach_offers ks acts stand
+  reach_offers (k ∷ ks) acts stand =
+      subst (ReachStands s t) (sym (append_assoc (offers_to s t k) (all_offers s t ks) acts))
+      (reach_offer (down_of s t k) k (take 65536 (untaken s t k)) (all_offers s t ks ++ acts) (reach_offers ks acts stand))
 
   reach_casts : (casts : List CastSeen) (acts : List Act) → AreForPeers (length s.peers) t casts → ReachStands s t acts → ReachStands s t (map cast_act casts ++ acts)
   reach_casts [] acts all stand = stand
@@ -408,7 +419,7 @@ module _ (s : Setting) (t : Trace) where
 
   reach_after : (ends : Bool) → ReachStands s t (if ends then acts_after s t else [])
   reach_after true =
-      let offers = map (offer_to s t) (offered_links s t) ++ map Closes (closed_links t) in
+      let offers = all_offers s t (offered_links s t) ++ map Closes (closed_links t) in
       reach_dials (dial_of s t) (map cast_act (casts_of s t) ++ offers) (dial_within s t)
       (reach_casts (casts_of s t) offers (for_peers s t) (reach_offers (offered_links s t) (map Closes (closed_links t)) (reach_closes (closed_links t))))
   reach_after false = tt

@@ -34,6 +34,7 @@ server_on listens = record {
   server = codes "T2TEST";
   code = 8385;
   listens = listens;
+  downs = [];
   uplinks = [];
   peers = [];
   up_timeout = 15;

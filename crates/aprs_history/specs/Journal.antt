@@ -25,7 +25,7 @@ use Rattle.aprs_history.specs.declared.verdicts.Refusal.TheVariants as refusal
 use Rattle.aprs_history.specs.declared.verdicts.Session.{Session}
 use Rattle.aprs_history.specs.declared.verdicts.Verdict.{Verdict}
 use Rattle.aprs_history.specs.declared.verdicts.Verdict.TheVariants.{Refused, LoggedIn, Filtered}
-use Rattle.aprs_history.specs.Setting.{Setting}
+use Rattle.aprs_history.specs.Setting.{Setting, serving_listens}
 use Rattle.aprs_history.specs.Trace.{Trace, Entry, Door, AtListener, ByUplink, RoundBegan, Opened, Said, Ended, Unjoined, moment_of}
 use Rattle.aprs_history.specs.Dials.{uplinks_of}
 use Rattle.aprs_history.specs.History.{History, ends_round, open_events, trace_of}
@@ -159,7 +159,7 @@ unjoined_lines dialled moment uplink = if is_dialled uplink dialled then unjoine
 
 -- the number of the peer group's listener, which is the last
 abbrev pub group_of : Setting → ℕ
-group_of setting = length setting.listens - 1
+group_of setting = serving_listens setting - 1
 
 -- the lines of an entry, after those before it
 abbrev pub entry_lines : Setting → Entry → (earlier : Trace) → List JournalLineSeen

@@ -4,6 +4,7 @@ pub mod Arriving
 pub mod Casting
 pub mod Counts
 pub mod Dates
+pub mod Downs
 pub mod Ending
 pub mod Headline
 pub mod History

@@ -8,7 +8,8 @@ use Rattle.aprs_base.specs.declared.packets.ListenSpec.{ListenSpec}
 use Rattle.aprs_base.specs.declared.events.Happening.{Happening}
 use Rattle.aprs_base.specs.declared.events.Happening.TheVariants as did
 use Rattle.aprs_history.specs.Setting.{Peer, Setting}
-use Rattle.aprs_history.specs.History.{History}
+use Rattle.aprs_history.specs.Downs.{DownSeen, down_of}
+use Rattle.aprs_history.specs.History.{History, trace_of}
 use Rattle.aprs_history.specs.Acts.{IsRun}
 
 -- how many listeners were opened
@@ -27,7 +28,7 @@ abbrev pub list_of : {X : Type 0} → Option X → List X
 list_of None = []
 list_of (Some x) = x ∷ []
 
--- where the server listened, whom it dialled and to whom it cast, as the setting has it
+-- where the server listened and whom it dialled, as the setting has it
 abbrev pub listened_by : Setting → Happening → List ListenSpec
 listened_by setting (did.Listen n) = list_of (slice_get setting.listens n)
 listened_by setting x = []
@@ -39,23 +40,31 @@ dialled_by setting x = []
 abbrev pub address_of : Peer → Addr
 address_of peer = peer.at
 
-abbrev pub cast_by : Setting → Happening → List Addr
-cast_by setting (did.Cast peer bytes) = list_of (option_map address_of (slice_get setting.peers peer))
-cast_by setting x = []
+abbrev pub down_address : DownSeen → Addr
+down_address down = down.to
 
--- what is told once this has happened too
-abbrev pub told_more : Setting → Happening → Told → Told
-told_more setting x told = record {
-  done = told.done ++ x ∷ [];
-  listened = told.listened ++ listened_by setting x;
-  dialled = told.dialled ++ dialled_by setting x;
-  cast_to = told.cast_to ++ cast_by setting x;
+-- to a peer, or, with what is sent to a downlink, to that
+abbrev pub cast_by : Setting → Happening → (earlier : History) → List Addr
+cast_by setting (did.Cast peer bytes) earlier = list_of (option_map address_of (slice_get setting.peers peer))
+cast_by setting (did.Sent link bytes outcome) earlier = list_of (option_map down_address (down_of setting (trace_of setting earlier) link))
+cast_by setting x earlier = []
+
+-- a list with what each happening adds to it, the oldest first
+abbrev pub with_each : {X : Type 0} → (Happening → History → List X) → List X → History → List X
+with_each adds start [] = start
+with_each adds start (x ∷ earlier) = with_each adds start earlier ++ adds x earlier
+
+-- what is told once all of this happened too, where the wire was asked by the first setting. Whom was cast to goes by what the
+-- server saw of it, for which the lines that were cast to downlinks are sent to these.
+abbrev pub told_after : (asked setting : Setting) → Told → (more seen : History) → Told
+told_after asked setting told more seen = record {
+  done = with_each (λ x earlier. x ∷ []) told.done more;
+  listened = with_each (λ x earlier. listened_by asked x) told.listened more;
+  dialled = with_each (λ x earlier. dialled_by asked x) told.dialled more;
+  cast_to = with_each (cast_by setting) told.cast_to seen;
 }
 
-abbrev pub told_after : Setting → Told → History → Told
-told_after setting told [] = told
-told_after setting told (x ∷ earlier) = told_more setting x (told_after setting told earlier)
-
+-- a server without downlinks sees all that happens
 abbrev pub AppendsRun : Setting → Option Told → Option Told → (History → Type 0) → Type 0
 AppendsRun setting None new P = new ≡ None
-AppendsRun setting (Some old) new P = (more : History) × (new ≡ Some (told_after setting old more)) × IsRun setting more × P more
+AppendsRun setting (Some old) new P = (more : History) × (new ≡ Some (told_after setting setting old more more)) × IsRun setting more × P more

@@ -20,6 +20,7 @@ use Rattle.aprs_history.specs.Links.{Opening, is_client, opening_of, last_heard,
 use Rattle.aprs_history.specs.Scenes.{accepted_lately, accepted_of}
 use Rattle.uplinks_peers.specs.Uplinks.{UplinksSeen}
 use Rattle.aprs_history.specs.Dials.{CastSeen, casts_of, dial_of, uplinks_of}
+use Rattle.aprs_history.specs.Downs.{DownSeen, down_of, downs_in}
 use Rattle.aprs_history.specs.Sights.{friends_of, own_place}
 use Rattle.aprs_history.specs.Messages.{heard_of, promise_of}
 use Rattle.link_queue.specs.Lines.{Queued, queued, text_bytes}
@@ -33,6 +34,7 @@ pub record LinkSeen : Type 0 where
   pub last : ℕ
   pub held : Held
   pub session : Option Session
+  pub down : Option DownSeen
   pub filter : List TermSeen
   pub friends : List (Option Seen)
   pub mine : Option Seen
@@ -60,6 +62,8 @@ pub record CoreSeen : Type 0 where
   pub stations : StationsSeen
   pub heard : HeardSeen
   pub greatest : ℕ
+  -- how many links became downlinks
+  pub downs : ℕ
   pub stopped : Bool
   -- what it has counted
   pub totals : Totals
@@ -71,7 +75,7 @@ friends_kept over friends = if over then [] else friends
 abbrev pub place_kept : Bool → Option Seen → Option Seen
 place_kept over place = if over then None else place
 
--- what there is to keep of a link: its opening, its last bytes' moment, the rest of its bytes, its login, its filter with where
+-- what there is to keep of a link: its opening, its last bytes' moment, the rest of its bytes, its login, the downlink that it is, its filter with where
 -- the calls that it names were last seen, where its own login was, the lines that it hasn't wholly taken, and whether it is
 -- overfull, is blocked or was found gone
 unfoldable pub link_seen : Setting → Trace → ℕ → LinkSeen
@@ -81,6 +85,7 @@ link_seen setting trace link = record {
   last = last_heard trace link;
   held = held_after (brought_by trace link);
   session = session_of trace link;
+  down = down_of setting trace link;
   filter = filter_of trace link;
   friends = friends_kept (text_to setting trace link).over (friends_of trace link);
   mine = place_kept (text_to setting trace link).over (own_place trace link);
@@ -138,6 +143,7 @@ pub record Follows (setting : Setting) (core : CoreSeen) (trace : Trace) : Type 
   pub links : core.links ≡ map (link_seen setting trace) (served_links trace)
   pub tables : Keeps setting core.window core.stations core.heard trace
   pub took : TookNoMore setting trace
+  pub downs : core.downs ≡ downs_in setting trace
   pub totals : core.totals ≡ totals_of setting trace
 
 -- a core stands for a history whose rounds are finished
