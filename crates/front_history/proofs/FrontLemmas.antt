@@ -14,7 +14,7 @@ use Rattle.aprs_base.specs.declared.events.Sent.TheVariants as sent
 use Rattle.aprs_base.specs.declared.packets.ListenSpec.{ListenSpec}
 use Rattle.aprs_history.specs.Setting.{Setting}
 use Rattle.aprs_history.specs.History.{History}
-use Rattle.aprs_history.specs.Acts.{Act, IsRun, due}
+use Rattle.aprs_history.specs.Acts.{Act, due}
 use Rattle.aprs_history.specs.Runs.{AppendsRun, told_after}
 use Rattle.http_submit.specs.Fronts.{FrontSeen, Hears, Turns, TurnsAt, TurnsBy, listened_as, paid_front}
 use Rattle.http_submit.specs.Pools.{WaitingSeen, is_link}
@@ -27,7 +27,9 @@ use Rattle.status_page.specs.Paying.{Pays as PaysPages}
 use Rattle.http_submit.specs.declared.pool.Owed.{Owed}
 use Rattle.front_history.specs.Answers.{Answers, Duty, FrontState, FulfilsDuty, FulfilsFirst, FulfilsNext, Hands, Steps, acts_for, duties_for, front_state, noted, open_page, paid, published, wired, wired_for, wired_from}
 use Rattle.front_history.specs.Serving.{EndsOn, GoesOn, Ports, Serves, ServesAt, ports_of}
+use Rattle.front_history.specs.Wired.{on_wire}
 use Rattle.front_history.proofs.ServesLemmas.{IsAct, IsIdle, Tells, event_comes, front_acts, paid_at, ports_noted, tells_done}
+use Rattle.front_history.proofs.WiredLemmas.{all_shown}
 
 -- ---- replies
 
@@ -50,8 +52,8 @@ page_does : (page : PageSeen) (front : FrontSeen) (link status : ℕ) (duties : 
     → Does page.totals (owing page front (Duty.Reply (record { link = link; status = status }) ∷ Duty.Close link ∷ duties) owed)
     (did.Sent link (reply_by page status) outcome ∷ closed_after link outcome) (owing page front duties owed)
 page_does page front link status duties owed (sent.Took n) part =
-    (tt, (refl, refl, part), λ t. tells_done t (did.Sent link (reply_by page status) (sent.Took n)) refl refl refl, (tt, refl, λ t. tells_done t (did.Closed link) refl refl refl, refl))
-page_does page front link status duties owed sent.Gone part = (tt, (refl, refl, part), λ t. tells_done t (did.Sent link (reply_by page status) sent.Gone) refl refl refl, refl)
+    (tt, (refl, refl, part), λ t. tells_done t (did.Sent link (reply_by page status) (sent.Took n)) refl refl, (tt, refl, λ t. tells_done t (did.Closed link) refl refl, refl))
+page_does page front link status duties owed sent.Gone part = (tt, (refl, refl, part), λ t. tells_done t (did.Sent link (reply_by page status) sent.Gone) refl refl, refl)
 
 pages_do : (page : PageSeen) (front : FrontSeen) (first : List Owed) (owed : List Owed) (done : List Happening) → PaysPages page first done
     → Does page.totals (owing page front (duties_for first) owed) done (owing page front [] owed)
@@ -69,8 +71,8 @@ pages_do page front (one ∷ more) owed done pays =
 post_does : (page : PageSeen) (front : FrontSeen) (link status : ℕ) (owed : List Owed) (outcome : Sent) → IsOutcome (reply_of status) outcome
     → Does page.totals (owing page front [] (record { link = link; status = status } ∷ owed)) (did.Sent link (reply_of status) outcome ∷ closed_after link outcome) (owing page front [] owed)
 post_does page front link status owed (sent.Took n) part =
-    (tt, (refl, refl, part), λ t. tells_done t (did.Sent link (reply_of status) (sent.Took n)) refl refl refl, (tt, refl, λ t. tells_done t (did.Closed link) refl refl refl, refl))
-post_does page front link status owed sent.Gone part = (tt, (refl, refl, part), λ t. tells_done t (did.Sent link (reply_of status) sent.Gone) refl refl refl, refl)
+    (tt, (refl, refl, part), λ t. tells_done t (did.Sent link (reply_of status) (sent.Took n)) refl refl, (tt, refl, λ t. tells_done t (did.Closed link) refl refl, refl))
+post_does page front link status owed sent.Gone part = (tt, (refl, refl, part), λ t. tells_done t (did.Sent link (reply_of status) sent.Gone) refl refl, refl)
 
 posts_do : (page : PageSeen) (front : FrontSeen) (owed : List Owed) (done : List Happening) → PaysPosts owed done → Does page.totals (owing page front [] owed) done (owing page front [] [])
 posts_do page front [] done pays = subst (λ xs. Does page.totals (owing page front [] []) xs (owing page front [] [])) (sym pays) refl
@@ -181,7 +183,7 @@ turn_taken s old new page page_after before after up P Q turn step =
     event_comes s page.totals (option_map (with_all done) turn.between) (option_map (with_all more) turn.between) e up last (record page_after { totals = no_totals }) after P Q
     (ap (λ u. record { page = page.at; upload = u }) (turns_keep (paid_front before) e after up http_turn.turns) ∙ ap (λ v. record { page = v; upload = after.at }) (page_keeps (paid_page page) up page_after turn.turns))
     refl refl http_turn.turns (page_opens page up page_after turn.turns)
-    (λ t. tells_done t (did.Event e) refl refl refl) (ap (λ xs. option_map (with_all xs) turn.between) paying.2 ∙ all_with done (did.Event e) turn.between) step start paid_all) in
+    (λ t. tells_done t (did.Event e) refl refl) (ap (λ xs. option_map (with_all xs) turn.between) paying.2 ∙ all_with done (did.Event e) turn.between) step start paid_all) in
     goes_both s old first turn.between mid new (front_state page_after after) P P Q pages posts
 
 -- the wire failed once all that was owed was paid, or memory was wanting on the way
@@ -249,9 +251,9 @@ unwired s = ap (λ listens. record s { listens = listens }) (unwired_from 0 s.li
 abbrev pub no_ports : Ports
 no_ports = record { page = None; upload = None }
 
--- what the server sees is what happens, and nothing is owed
-pub record IsUnseen (more seen : History) (state : FrontState) : Type 0 where
-  pub seen_is : seen ≡ more
+-- what happens is what the wire shows of the server, and nothing is owed
+pub record IsUnseen (s : Setting) (more seen : History) (state : FrontState) : Type 0 where
+  pub shown : more ≡ on_wire s seen
   pub duties : state.duties ≡ []
   pub acts : state.acts ≡ []
   pub page_owed : state.page.pool.owed ≡ []
@@ -262,13 +264,13 @@ unpaged : (v : Option ℕ) (before : PageSeen) (e : Event) (after : PageSeen) �
 unpaged None before e after none turns = turns
 unpaged (Some v) before e after none turns = absurd (none-some v (sym none))
 
-passed : (e : Event) (s : Setting) (before state : FrontState) (earlier rest seen : History) → ports_of before ≡ no_ports → IsUnseen earlier rest before → Hands s e before state rest seen → IsUnseen (did.Event e ∷ earlier) seen state
+passed : (e : Event) (s : Setting) (before state : FrontState) (earlier rest seen : History) → ports_of before ≡ no_ports → IsUnseen s earlier rest before → Hands s e before state rest seen → IsUnseen s (did.Event e ∷ earlier) seen state
 passed e s before state earlier rest seen at was hands =
     let turns = subst (λ port. TurnsBy port before.front e hands.after hands.up) (ap (λ ports. ports.upload) at) hands.turns in
     let after_is : hands.after ≡ before.front = turns.0 in
     let page_is : hands.page_after.pool ≡ before.page.pool = unpaged before.page.at before.page hands.up hands.page_after (ap (λ ports. ports.page) at) hands.page_turns.pool in
     record {
-      seen_is = hands.seen_is ∙ ap (λ up. did.Event up ∷ rest) turns.1 ∙ ap (λ h. did.Event e ∷ h) was.seen_is;
+      shown = ap (λ h. did.Event e ∷ h) was.shown ∙ ap (λ up. did.Event up ∷ on_wire s rest) (sym turns.1) ∙ ap (on_wire s) (sym hands.seen_is);
       duties = ap (λ st. st.duties) hands.state_is ∙ ap (λ p. duties_for p.owed) page_is ∙ ap duties_for was.page_owed;
       acts = ap (λ st. st.acts) hands.state_is ∙ ap (λ f. acts_for f.pool.owed) after_is ∙ ap acts_for was.owed;
       page_owed = ap (λ st. st.page.pool.owed) hands.state_is;
@@ -287,21 +289,21 @@ noted_owes (did.Closed link) state = (refl, refl, refl, refl)
 owes_none : (page : PageSeen) (duties : List Duty) (acts : List Act) (x : Happening) → duties ≡ [] → acts ≡ [] → FulfilsDuty page duties acts x → ⊥
 owes_none page duties acts x none no_acts fulfils = subst (λ xs. FulfilsFirst xs x) no_acts (subst (λ ds. FulfilsDuty page ds acts x) none fulfils)
 
-stepped : (s : Setting) (acts : List Act) (x : Happening) (before state : FrontState) (earlier rest seen : History) → IsUnseen earlier rest before → Steps s acts x before state rest seen → IsUnseen (x ∷ earlier) seen state
+stepped : (s : Setting) (acts : List Act) (x : Happening) (before state : FrontState) (earlier rest seen : History) → IsUnseen s earlier rest before → Steps s acts x before state rest seen → IsUnseen s (x ∷ earlier) seen state
 stepped s [] x before state earlier rest seen was steps = absurd (owes_none (record before.page { totals = published s rest }) before.duties before.acts x was.duties was.acts steps.1)
 stepped s (act ∷ acts) x before state earlier rest seen was steps =
     let same = noted_owes x before in
     record {
-      seen_is = steps.1 ∙ ap (λ h. x ∷ h) was.seen_is;
-      duties = ap (λ st. st.duties) steps.0 ∙ same.0 ∙ was.duties;
-      acts = ap (λ st. st.acts) steps.0 ∙ same.1 ∙ was.acts;
-      page_owed = ap (λ st. st.page.pool.owed) steps.0 ∙ same.2 ∙ was.page_owed;
-      owed = ap (λ st. st.front.pool.owed) steps.0 ∙ ap (λ f. f.pool.owed) same.3 ∙ was.owed;
+      shown = ap (λ h. x ∷ h) was.shown ∙ ap (λ z. z ∷ on_wire s rest) steps.1 ∙ ap (on_wire s) (sym steps.3);
+      duties = ap (λ st. st.duties) steps.2 ∙ same.0 ∙ was.duties;
+      acts = ap (λ st. st.acts) steps.2 ∙ same.1 ∙ was.acts;
+      page_owed = ap (λ st. st.page.pool.owed) steps.2 ∙ same.2 ∙ was.page_owed;
+      owed = ap (λ st. st.front.pool.owed) steps.2 ∙ ap (λ f. f.pool.owed) same.3 ∙ was.owed;
     }
 
 pub steps_keep : (s : Setting) (acts : List Act) (x : Happening) (before state : FrontState) (rest seen : History) → Steps s acts x before state rest seen → ports_of before ≡ ports_of state
 steps_keep s [] x before state rest seen steps = sym (ap ports_of steps.2 ∙ paid_at x before)
-steps_keep s (act ∷ acts) x before state rest seen steps = sym (ap ports_of steps.0 ∙ ports_noted x before)
+steps_keep s (act ∷ acts) x before state rest seen steps = sym (ap ports_of steps.2 ∙ ports_noted x before)
 
 -- fronts keep their ports
 pub hands_keep : (s : Setting) (e : Event) (before state : FrontState) (rest seen : History) → Hands s e before state rest seen → ports_of before ≡ ports_of state
@@ -310,9 +312,9 @@ hands_keep s e before state rest seen hands =
     ∙ ap (λ v. record { page = v; upload = hands.after.at }) (page_keeps before.page hands.up hands.page_after hands.page_turns)
     ∙ ap ports_of (sym hands.state_is)
 
-pub unseen : (s : Setting) (more seen : History) (state : FrontState) → ports_of state ≡ no_ports → Answers s more state seen → IsUnseen more seen state
+pub unseen : (s : Setting) (more seen : History) (state : FrontState) → ports_of state ≡ no_ports → Answers s more state seen → IsUnseen s more seen state
 unseen s [] seen state none answers = record {
-  seen_is = answers.1;
+  shown = ap (on_wire s) (sym answers.1);
   duties = ap (λ st. st.duties) answers.0;
   acts = ap (λ st. st.acts) answers.0;
   page_owed = ap (λ st. st.page.pool.owed) answers.0;
@@ -326,16 +328,17 @@ unseen s (x ∷ earlier) seen state none answers =
     let at : ports_of answers.0 ≡ no_ports = steps_keep s (due s answers.1) x answers.0 state answers.1 seen answers.3 ∙ none in
     stepped s (due s answers.1) x answers.0 state earlier answers.1 seen (unseen s earlier answers.1 answers.0 at answers.2) answers.3
 
--- what is served behind them is a run of what happened
-pub appends_alone : (s : Setting) (start now : Option Told) (P : History → Type 0) → ServesAt s no_ports start now P → AppendsRun s start now P
-appends_alone s None now P serves = serves.2
-appends_alone s (Some old) now P serves =
+-- what is served behind them is a run of what happened, where no line is cast to a link
+pub appends_alone : (s : Setting) (start now : Option Told) (P : History → Type 0) → s.downs ≡ [] → ServesAt s no_ports start now P → AppendsRun s start now P
+appends_alone s None now P none serves = serves.2
+appends_alone s (Some old) now P none serves =
     let state = serves.0 in
     let run = serves.2 in
-    let more = run.0 in
-    let same = (unseen s more run.1 state serves.1 run.3).seen_is in (
-      more,
-      run.2 ∙ ap (λ ports. Some (told_after (wired ports.upload (wired ports.page s)) old more)) serves.1 ∙ ap (λ t. Some (told_after (wired None t) old more)) (unwired s) ∙ ap (λ t. Some (told_after t old more)) (unwired s),
-      subst (IsRun s) same run.4,
-      subst P same run.5,
+    let seen = run.1 in
+    let same = (unseen s run.0 seen state serves.1 run.3).shown ∙ all_shown s none seen in (
+      seen,
+      run.2 ∙ ap (λ ports. Some (told_after (wired ports.upload (wired ports.page s)) s old run.0 seen)) serves.1 ∙ ap (λ t. Some (told_after (wired None t) s old run.0 seen)) (unwired s)
+          ∙ ap (λ t. Some (told_after t s old run.0 seen)) (unwired s) ∙ ap (λ more. Some (told_after s s old more seen)) same,
+      run.4,
+      run.5,
     )

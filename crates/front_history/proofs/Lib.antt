@@ -1,4 +1,5 @@
 pub mod CountedLemmas
+pub mod DownRows
 pub mod FrontLemmas
 pub mod OneViewLemmas
 pub mod OtherLemmas
@@ -11,3 +12,4 @@ pub mod StrangerLemmas
 pub mod TurnLemmas
 pub mod ViewLemmas
 pub mod WaitingLemmas
+pub mod WiredLemmas

@@ -1,5 +1,5 @@
 -- The acts that are due are of no link that was opened where datagrams come.
-use Rattle.std.proofs.Common.{◌≡◌, ℕ, ◌+◌, ◌≤◌, ◌<◌, ◌==◌, ◌&&◌, max, Bool, true, false, List, [], ◌∷◌, ◌++◌, map, refl, sym, ap, ◌∙◌, subst, arith, eq-eqb, Option, Some, None, if◌then◌else◌, ◌⊎◌, inl, inr}
+use Rattle.std.proofs.Common.{◌≡◌, ℕ, ◌+◌, ◌≤◌, ◌<◌, ◌==◌, ◌&&◌, max, take, Bool, true, false, List, [], ◌∷◌, ◌++◌, map, refl, sym, ap, ◌∙◌, subst, append_assoc, arith, eq-eqb, Option, Some, None, if◌then◌else◌, ◌⊎◌, inl, inr}
 use Rattle.std.specs.Prelude.{⊤, IfSome, is_some}
 use Rattle.std.specs.List.{AllByRecursion as Each}
 use Rattle.std.proofs.lemmas.Bool.{and_parts, cases_Bool, eqb-true, false_from_ne_true, or_parts, true≢false}
@@ -12,8 +12,10 @@ use Rattle.aprs_base.specs.declared.events.Happening.TheVariants as did
 use Rattle.aprs_history.specs.Setting.{Setting, kind_at}
 use Rattle.aprs_history.specs.Trace.{Trace, closed_links, is_member, live_links, served_links, stopped_links}
 use Rattle.aprs_history.specs.Dials.{CastSeen, casts_of, dial_of}
+use Rattle.aprs_history.specs.Downs.{DownSeen, down_of, whole_lines}
+use Rattle.aprs_history.specs.Texts.{untaken}
 use Rattle.aprs_history.specs.History.{History, ends_round, greatest_link, is_stopped, open_events, trace_of}
-use Rattle.aprs_history.specs.Acts.{Act, Closes, Offers, IsRun, MayCome, acts_after, but_first, cast_act, dials, due, is_offered, listens_from, offer_to, offered_links}
+use Rattle.aprs_history.specs.Acts.{Act, Closes, Offers, SendsLine, IsRun, MayCome, acts_after, all_offers, but_first, cast_act, dials, due, is_offered, listens_from, offered_links, offers_by, offers_to}
 use Rattle.aprs_history.specs.Headline.{HasFreshLinks}
 use Rattle.aprs_history.proofs.NumberLemmas.{differs_above}
 use Rattle.http_submit.specs.Fronts.{is_at}
@@ -25,6 +27,7 @@ use Rattle.front_history.proofs.StrangerLemmas.{AreStrange, Without, none_append
 -- an act isn't of that link
 abbrev pub IsOther : ℕ → Act → Type 0
 IsOther k (Offers link bytes) = (link == k) ≡ false
+IsOther k (SendsLine link line) = (link == k) ≡ false
 IsOther k (Closes link) = (link == k) ≡ false
 IsOther k act = ⊤
 
@@ -47,9 +50,21 @@ module _ (k : ℕ) where
   others_closes [] out = tt
   others_closes (link ∷ links) out = let parts = or_parts (link == k) (is_member k links) out in (parts.0, others_closes links parts.1)
 
-  others_offers : (s : Setting) (t : Trace) (ks : List ℕ) (acts : List Act) → is_member k ks ≡ false → Each (IsOther k) acts → Each (IsOther k) (map (offer_to s t) ks ++ acts)
+  others_lines : (link : ℕ) → (link == k) ≡ false → (lines : List (List ℕ)) (acts : List Act) → Each (IsOther k) acts → Each (IsOther k) (map (SendsLine link) lines ++ acts)
+  others_lines link other [] acts others = others
+  others_lines link other (line ∷ lines) acts others = (other, others_lines link other lines acts others)
+
+  others_by : (down : Option DownSeen) (link : ℕ) (bytes : List ℕ) (acts : List Act) → (link == k) ≡ false → Each (IsOther k) acts → Each (IsOther k) (offers_by down link bytes ++ acts)
+  others_by None link bytes acts other others = (other, others)
+  others_by (Some down) link bytes acts other others = others_lines link other (whole_lines bytes) acts others
+
+  others_offers : (s : Setting) (t : Trace) (ks : List ℕ) (acts : List Act) → is_member k ks ≡ false → Each (IsOther k) acts → Each (IsOther k) (all_offers s t ks ++ acts)
   others_offers s t [] acts out others = others
-  others_offers s t (link ∷ links) acts out others = let parts = or_parts (link == k) (is_member k links) out in (parts.0, others_offers s t links acts parts.1 others)
+  others_offers s t (link ∷ links) acts out others =
+      let parts = or_parts (link == k) (is_member k links) out in
+      let here = take 65536 (untaken s t link) in
+      subst (Each (IsOther k)) (sym (append_assoc (offers_to s t link) (all_offers s t links) acts))
+      (others_by (down_of s t link) link here (all_offers s t links ++ acts) parts.0 (others_offers s t links acts parts.1 others))
 
   others_casts : (casts : List CastSeen) (acts : List Act) → Each (IsOther k) acts → Each (IsOther k) (map cast_act casts ++ acts)
   others_casts [] acts others = others
@@ -64,7 +79,7 @@ module _ (k : ℕ) where
   others_after s t true out =
       let closes = map Closes (closed_links t) in
       let none : is_member k (offered_links s t) ≡ false = none_filtered (is_offered s t) k (served_links t) (none_appended k (stopped_links t) (live_links t) out.stopped out.live) in
-      let offers = map (offer_to s t) (offered_links s t) ++ closes in
+      let offers = all_offers s t (offered_links s t) ++ closes in
       others_dials (dial_of s t) (map cast_act (casts_of s t) ++ offers) (others_casts (casts_of s t) offers (others_offers s t (offered_links s t) closes none (others_closes (closed_links t) out.closed)))
 
   pub others_due : (s : Setting) (h : History) → AreStrange k s h → Each (IsOther k) (due s h)
@@ -79,6 +94,7 @@ module _ (k : ℕ) where
   others_come [] stopped (did.Closed closed) others may = absurd may.1
   others_come [] stopped x others may = tt
   others_come (Offers link bytes ∷ acts) stopped (did.Sent to given outcome) others may = ap (λ n. n == k) may.0 ∙ others.0
+  others_come (SendsLine link line ∷ acts) stopped (did.Sent to given outcome) others may = ap (λ n. n == k) may.0 ∙ others.0
   others_come (act ∷ acts) stopped (did.Sent to given outcome) others may = absurd may
   others_come (Closes link ∷ acts) stopped (did.Closed closed) others may = ap (λ n. n == k) may ∙ others.0
   others_come (act ∷ acts) stopped (did.Closed closed) others may = absurd may

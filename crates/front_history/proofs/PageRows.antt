@@ -13,17 +13,21 @@ use Rattle.q_construct.specs.Rule.{process_of, given_drops, built_drops, built_r
 use Rattle.tnc2_line.specs.Packet.{parts_of, text_of, via_of, head_of}
 use Rattle.aprs_history.specs.Setting.{Setting}
 use Rattle.aprs_history.specs.History.{History, trace_of}
-use Rattle.aprs_history.specs.Acts.{due}
+use Rattle.aprs_history.specs.Acts.{IsRun, due}
 use Rattle.aprs_history.specs.Counts.{totals_of}
 use Rattle.aprs_history.proofs.EndingRows.{at_moment}
 use Rattle.aprs_history.proofs.JournalRows.{opens, says}
 use Rattle.aprs_history.proofs.Rows.{client, crlf, listen, server_on}
+use Rattle.status_page.specs.Counting.{counts_after, no_counts}
 use Rattle.status_page.specs.Gets.{IsGet}
 use Rattle.status_page.specs.declared.requests.Get.TheVariants as get
 use Rattle.status_page.specs.Page.{page_reply, page_text}
-use Rattle.front_history.specs.Replies.{GetStatus, IsClosedNext, IsGetPart, IsNotDue, IsPageReply, NoneIsDue, PagesArePaid, SettlesNone, page_of, waiting_links}
+use Rattle.front_history.specs.Replies.{GetStatus, IsClosedNext, IsGetPart, IsNotDue, IsPageReply, NoneIsDue, PagesArePaid, SettlesNone, moment_in, page_of, waiting_links}
+use Rattle.front_history.specs.Answers.{published}
 use Rattle.front_history.specs.Serving.{Ports}
 use Rattle.front_history.specs.Views.{IsView, is_waiting, request_of}
+use Rattle.front_history.specs.Wired.{on_wire}
+use Rattle.front_history.proofs.WiredLemmas.{all_shown}
 
 -- clients come to listener 0; the port for the page is listener 1
 unfoldable setting : Setting
@@ -65,9 +69,17 @@ reply = codes "HTTP/1.1 200 OK\r\nContent-Type: application/json\r\nContent-Leng
 unfoldable replied : History
 replied = did.Closed 3 ∷ did.Sent 3 reply (sent.Took 250) ∷ asked
 
-page_told : page_of setting asked ≡ page
+-- no line is cast to a link, and the wire shows all as it is
+asked_is_shown : on_wire setting asked ≡ asked
+unfolding setting
+asked_is_shown = all_shown setting refl asked
+
+counts_told : page_text (counts_after no_counts asked) setting.server (moment_in asked) (published setting asked) ≡ page
 unfolding page_text page asked served request setting totals_of trace_of client crlf digits parts_of text_of via_of head_of login_of passcode_of process_of given_drops built_drops built_row rows body_of
-page_told = refl
+counts_told = refl
+
+page_told : page_of setting asked ≡ page
+page_told = ap (λ h. page_text (counts_after no_counts h) setting.server (moment_in asked) (published setting asked)) asked_is_shown ∙ counts_told
 
 reply_is : page_reply page ≡ reply
 unfolding page_reply reply page digits
@@ -77,6 +89,11 @@ reply_is = refl
 nothing_due : due setting asked ≡ []
 unfolding due asked served request setting trace_of client crlf parts_of text_of via_of head_of login_of passcode_of process_of given_drops built_drops built_row rows body_of
 nothing_due = refl
+
+-- all that the server saw is a run
+asked_is_run : IsRun setting asked
+unfolding due asked served request setting trace_of client crlf parts_of text_of via_of head_of login_of passcode_of process_of given_drops built_drops built_row rows body_of
+asked_is_run = (((((((((((((tt, refl), refl), (refl, tt)), (refl, tt)), (refl, tt)), (refl, tt)), (refl, tt)), (refl, tt)), (refl, tt)), (refl, refl, omega arith)), (refl, refl, omega arith)), (refl, tt)), (refl, tt))
 
 -- all of that is seen
 asked_is_seen : IsView ports asked asked
@@ -90,6 +107,10 @@ asked_is_seen =
     let view_said : IsView ports said said = (_, (_, (began, view_began, (_, refl, refl)), (_, refl, refl)), (_, refl, refl)) in
     let view_taken : IsView ports served served = (_, (_, (said, view_said, (_, refl, refl)), refl), refl) in
     (opens 1 3 ∷ served, (served, view_taken, (_, refl, refl)), (_, refl, refl))
+
+-- as the wire shows it
+view_of_run : IsView ports asked (on_wire setting asked)
+view_of_run = subst (IsView ports asked) (sym asked_is_shown) asked_is_seen
 
 -- the reply and the close aren't
 reply_is_unseen : IsView ports replied asked
@@ -162,7 +183,7 @@ unfolding replied asked
 asker_is_paid whole =
     let opened : PagesArePaid setting ports (opens 1 3 ∷ served) = (served_is_paid, early_alone served none_wait taken_alone, quiet) in
     let events : PagesArePaid setting ports asked = (opened, early_opened, tt) in (
-      (events, λ opened. record { status = 200; waits = refl; settled = (refl, (get.Whole, subst (λ xs. IsGet xs get.Whole) (sym came_whole) whole, refl)); lowest = lowest; is = (asked, asked_is_seen, sym (ap page_reply page_told ∙ reply_is)) }, tt),
+      (events, λ opened. record { status = 200; waits = refl; settled = (refl, (get.Whole, subst (λ xs. IsGet xs get.Whole) (sym came_whole) whole, refl)); lowest = lowest; is = (asked, asked_is_run, view_of_run, sym (ap page_reply page_told ∙ reply_is)) }, tt),
       λ opened. refl,
       λ opened. refl,
     )

@@ -9,7 +9,7 @@ use Rattle.aprs_base.specs.declared.events.Sent.TheVariants as sent
 use Rattle.aprs_base.specs.declared.events.Happening.{Happening}
 use Rattle.aprs_base.specs.declared.events.Happening.TheVariants as did
 use Rattle.aprs_history.specs.Setting.{Setting}
-use Rattle.aprs_history.specs.History.{History, greater_link, greatest_link}
+use Rattle.aprs_history.specs.History.{History, greater_link, greatest_link, trace_of}
 use Rattle.aprs_history.specs.Acts.{Act, Closes, IsRun, due}
 use Rattle.aprs_history.specs.Headline.{HasFreshLinks}
 use Rattle.http_submit.specs.Fronts.{TurnsBy}
@@ -20,6 +20,7 @@ use Rattle.front_history.specs.Answers.{Answers, Duty, FrontState, FulfilsDuty, 
 use Rattle.front_history.specs.Replies.{GetStatus, IsGetPart, IsPageReply, IsPostPart, IsPostReply, LinksArePaid, PageLinksArePaid, PostStatus, moment_in}
 use Rattle.front_history.specs.Serving.{Ports, ports_of}
 use Rattle.front_history.specs.Views.{HavePorts, IsNotTo, IsSeenAs, IsView, ServersSeeAll, ServersSeeViews, Views, is_theirs, opened_at, opened_from}
+use Rattle.front_history.specs.Wired.{on_wire, wired_as}
 use Rattle.front_history.proofs.CountedLemmas.{Counted, counted, page_is}
 use Rattle.front_history.proofs.FrontLemmas.{hands_keep, steps_keep, unseen}
 use Rattle.front_history.proofs.TurnLemmas.{IsAlike, SameOpenings, alike, front_moment, get_apart, opened_once, page_goes, post_apart, post_goes, same_link, same_moment, same_openings, seen_as}
@@ -27,6 +28,7 @@ use Rattle.front_history.proofs.OtherLemmas.{each_not_to}
 use Rattle.front_history.proofs.ServesLemmas.{IsAct}
 use Rattle.front_history.proofs.PortLemmas.{PortStands, closing_after, port_beside, port_closes, port_goes, port_replies}
 use Rattle.front_history.proofs.WaitingLemmas.{IsFresh, act_fresh, act_greatest, act_moment, act_opens, fresh_act, none_settled}
+use Rattle.front_history.proofs.WiredLemmas.{act_shown, not_to_shown}
 
 -- ---- the acts that are left: perhaps a close, and then replies
 
@@ -86,16 +88,16 @@ module _ (s : Setting) (ports : Ports) (have : HavePorts s ports) where
   -- ---- what is seen
 
   record Shows (h seen : History) : Type 0 where
-    pub view : IsView ports h seen
+    pub view : IsView ports h (on_wire s seen)
     pub fresh : HasFreshLinks h
     pub openings : SameOpenings seen h
     pub greatest : greatest_link seen ≡ greatest_link h
     pub moment : moment_in seen ≡ moment_in h
 
   -- what is sent to links of a front isn't
-  shows_front : (x : Happening) → IsAct x → (h seen : History) → Views ports x h seen seen → Shows h seen → Shows (x ∷ h) seen
+  shows_front : (x : Happening) → IsAct x → (h seen : History) → Views ports x h (on_wire s seen) (on_wire s seen) → Shows h seen → Shows (x ∷ h) seen
   shows_front x act h seen views was = record {
-    view = (seen, was.view, views);
+    view = (on_wire s seen, was.view, views);
     fresh = fresh_act x act h was.fresh;
     openings = λ port k. was.openings port k ∙ sym (act_opens port x act h k);
     greatest = was.greatest ∙ sym (act_greatest x act h);
@@ -109,13 +111,13 @@ module _ (s : Setting) (ports : Ports) (have : HavePorts s ports) where
   views_server (did.Closed link) act h rest page upload = ap (λ b. if b then rest else did.Closed link ∷ rest) (sym (neither (opened_at ports.page h link) (opened_at ports.upload h link) page upload))
   views_server x act h rest page upload = refl
 
-  shows_server : (x : Happening) → IsAct x → (h rest : History) → IsNotTo ports.page h x → IsNotTo ports.upload h x → Shows h rest → Shows (x ∷ h) (x ∷ rest)
-  shows_server x act h rest page upload was = record {
-    view = (rest, was.view, views_server x act h rest page upload);
+  shows_server : (x y : Happening) → IsAct x → IsAct y → (h rest : History) → x ≡ wired_as s (trace_of s rest) y → IsNotTo ports.page h x → IsNotTo ports.upload h x → Shows h rest → Shows (x ∷ h) (y ∷ rest)
+  shows_server x y act did_act h rest shown page upload was = record {
+    view = (on_wire s rest, was.view, subst (λ z. Views ports x h (on_wire s rest) (z ∷ on_wire s rest)) shown (views_server x act h (on_wire s rest) page upload));
     fresh = fresh_act x act h was.fresh;
-    openings = λ port k. act_opens port x act rest k ∙ was.openings port k ∙ sym (act_opens port x act h k);
-    greatest = act_greatest x act rest ∙ was.greatest ∙ sym (act_greatest x act h);
-    moment = act_moment x act rest ∙ was.moment ∙ sym (act_moment x act h);
+    openings = λ port k. act_opens port y did_act rest k ∙ was.openings port k ∙ sym (act_opens port x act h k);
+    greatest = act_greatest y did_act rest ∙ was.greatest ∙ sym (act_greatest x act h);
+    moment = act_moment y did_act rest ∙ was.moment ∙ sym (act_moment x act h);
   }
 
   shows_event : (e up : Event) (h rest : History) → IsFresh h e → IsSeenAs ports.upload h e up → Shows h rest → Shows (did.Event e ∷ h) (did.Event up ∷ rest)
@@ -123,7 +125,7 @@ module _ (s : Setting) (ports : Ports) (have : HavePorts s ports) where
       let like = alike ports.upload h e up seen in
       let link = same_link ports.upload h e up like in
       record {
-        view = (rest, was.view, (up, seen, refl));
+        view = (on_wire s rest, was.view, (up, seen, refl));
         fresh = (was.fresh, fresh);
         openings = same_openings ports.upload rest h e up like was.openings;
         greatest = ap (λ o. greater_link o (greatest_link rest)) link ∙ ap (greater_link (new_link e)) was.greatest;
@@ -138,6 +140,10 @@ module _ (s : Setting) (ports : Ports) (have : HavePorts s ports) where
   not_to_seen port (did.Listen n) h rest same other = tt
   not_to_seen port (did.Dialled uplink) h rest same other = tt
   not_to_seen port (did.Cast peer bytes) h rest same other = tt
+
+  -- nor is it shown to them
+  none_shown : (port : Option ℕ) (x y : Happening) (h rest : History) → SameOpenings rest h → x ≡ wired_as s (trace_of s rest) y → IsNotTo port (y ∷ rest) y → IsNotTo port h x
+  none_shown port x y h rest same shown other = subst (IsNotTo port h) (sym shown) (not_to_shown port h s (trace_of s rest) y (not_to_seen port y h rest same other))
 
   -- a link of one front is none of the other
   not_upload : (h : History) (k : ℕ) → HasFreshLinks h → opened_at ports.page h k ≡ true → opened_at ports.upload h k ≡ false
@@ -174,7 +180,7 @@ module _ (s : Setting) (ports : Ports) (have : HavePorts s ports) where
   moment_kept (Some n) x act h now is = is ∙ sym (act_moment x act h)
 
   -- the front for the page has done it
-  page_done : (x : Happening) → IsAct x → (h rest : History) (before : FrontState) (page_closing now_closing : Option ℕ) (page_owing now_owing owing : List Owed) → due s rest ≡ [] → Views ports x h rest rest → IsNotTo ports.upload h x
+  page_done : (x : Happening) → IsAct x → (h rest : History) (before : FrontState) (page_closing now_closing : Option ℕ) (page_owing now_owing owing : List Owed) → due s rest ≡ [] → Views ports x h (on_wire s rest) (on_wire s rest) → IsNotTo ports.upload h x
       → Stands h rest before page_closing page_owing None owing → PageStands (x ∷ h) before.page.pool now_closing now_owing → duties_left x before.duties ≡ closings_of now_closing ++ duties_for now_owing
       → Stands (x ∷ h) rest (record before { duties = duties_left x before.duties }) now_closing now_owing None owing
   page_done x act h rest before page_closing now_closing page_owing now_owing owing idle_now views other was page left = record {
@@ -193,7 +199,7 @@ module _ (s : Setting) (ports : Ports) (have : HavePorts s ports) where
       alone (Some k) = idle_now
 
   -- the front for packets has
-  post_done : (x : Happening) → IsAct x → (h rest : History) (before : FrontState) (closing now_closing : Option ℕ) (owing now_owing : List Owed) → due s rest ≡ [] → Views ports x h rest rest → IsNotTo ports.page h x
+  post_done : (x : Happening) → IsAct x → (h rest : History) (before : FrontState) (closing now_closing : Option ℕ) (owing now_owing : List Owed) → due s rest ≡ [] → Views ports x h (on_wire s rest) (on_wire s rest) → IsNotTo ports.page h x
       → Stands h rest before None [] closing owing → PostStands (x ∷ h) before.front.pool now_closing now_owing → acts_left x before.acts ≡ closes_of now_closing ++ acts_for now_owing
       → Stands (x ∷ h) rest (record before { acts = acts_left x before.acts }) None [] now_closing now_owing
   post_done x act h rest before closing now_closing owing now_owing idle_now views other was post left = record {
@@ -221,52 +227,52 @@ module _ (s : Setting) (ports : Ports) (have : HavePorts s ports) where
   post_left to bytes (sent.Took n) first owing = refl
   post_left to bytes sent.Gone first owing = refl
 
-  front_acts_by : (x : Happening) → IsAct x → (h rest : History) (before : FrontState) (page_closing : Option ℕ) (page_owing : List Owed) (closing : Option ℕ) (owing : List Owed) → due s rest ≡ [] → Counted s rest before.page
+  front_acts_by : (x : Happening) → IsAct x → (h rest : History) (before : FrontState) (page_closing : Option ℕ) (page_owing : List Owed) (closing : Option ℕ) (owing : List Owed) → due s rest ≡ [] → IsRun s rest → Counted s rest before.page
       → Stands h rest before page_closing page_owing closing owing → FulfilsDuty (record before.page { totals = published s rest }) (closings_of page_closing ++ duties_for page_owing) (closes_of closing ++ acts_for owing) x
       → Known (x ∷ h) rest (paid_by x (closings_of page_closing ++ duties_for page_owing) before)
-  front_acts_by (did.Closed closed) act h rest before (Some k) page_owing None owing idle_now counted_now was fulfils =
+  front_acts_by (did.Closed closed) act h rest before (Some k) page_owing None owing idle_now run counted_now was fulfils =
       let opened : opened_at ports.page h closed ≡ true = ap (opened_at ports.page h) fulfils ∙ was.page.took.0 in (
         None,
         page_owing,
         None,
         owing,
         page_done (did.Closed closed) tt h rest before (Some k) None page_owing page_owing owing idle_now
-            (closed_unseen h rest closed (or_left (opened_at ports.page h closed) (opened_at ports.upload h closed) opened))
+            (closed_unseen h (on_wire s rest) closed (or_left (opened_at ports.page h closed) (opened_at ports.upload h closed) opened))
             (not_upload h closed was.shows.fresh opened) was
             (port_closes ports.page GetStatus IsGetPart get_apart (IsPageReply s ports) h before.page.pool k closed page_owing fulfils was.page)
             (ap (duties_left (did.Closed closed)) was.duties),
       )
-  front_acts_by x act h rest before (Some k) page_owing None owing idle_now counted_now was fulfils = absurd fulfils
-  front_acts_by x act h rest before (Some k) page_owing (Some j) owing idle_now counted_now was fulfils = absurd (not_empty _ _ (sym was.duties ∙ was.alone.1))
-  front_acts_by (did.Sent to bytes outcome) act h rest before None (first ∷ page_owing) None owing idle_now counted_now was fulfils =
+  front_acts_by x act h rest before (Some k) page_owing None owing idle_now run counted_now was fulfils = absurd fulfils
+  front_acts_by x act h rest before (Some k) page_owing (Some j) owing idle_now run counted_now was fulfils = absurd (not_empty _ _ (sym was.duties ∙ was.alone.1))
+  front_acts_by (did.Sent to bytes outcome) act h rest before None (first ∷ page_owing) None owing idle_now run counted_now was fulfils =
       let opened : opened_at ports.page h to ≡ true = ap (opened_at ports.page h) fulfils.0 ∙ was.page.pooled.owed.0.0 in
-      let text : IsPageReply s ports h first.status bytes = (rest, was.shows.view, fulfils.1 ∙ page_is s rest before.page first.status counted_now) in (
+      let text : IsPageReply s ports h first.status bytes = (rest, run, was.shows.view, fulfils.1 ∙ page_is s rest before.page first.status counted_now) in (
         closing_after outcome first.link,
         page_owing,
         None,
         owing,
         page_done (did.Sent to bytes outcome) tt h rest before None _ (first ∷ page_owing) page_owing owing idle_now
-            (sent_unseen h rest to bytes outcome (or_left (opened_at ports.page h to) (opened_at ports.upload h to) opened))
+            (sent_unseen h (on_wire s rest) to bytes outcome (or_left (opened_at ports.page h to) (opened_at ports.upload h to) opened))
             (not_upload h to was.shows.fresh opened) was
             (port_replies ports.page GetStatus IsGetPart get_apart (IsPageReply s ports) h before.page.pool first page_owing to bytes outcome fulfils.0 text was.page)
             (ap (duties_left (did.Sent to bytes outcome)) was.duties ∙ page_left to bytes outcome first page_owing),
       )
-  front_acts_by x act h rest before None (first ∷ page_owing) None owing idle_now counted_now was fulfils = absurd fulfils
-  front_acts_by x act h rest before None (first ∷ page_owing) (Some j) owing idle_now counted_now was fulfils = absurd (not_empty _ _ (sym was.duties ∙ was.alone.1))
-  front_acts_by (did.Closed closed) act h rest before None [] (Some k) owing idle_now counted_now was fulfils =
+  front_acts_by x act h rest before None (first ∷ page_owing) None owing idle_now run counted_now was fulfils = absurd fulfils
+  front_acts_by x act h rest before None (first ∷ page_owing) (Some j) owing idle_now run counted_now was fulfils = absurd (not_empty _ _ (sym was.duties ∙ was.alone.1))
+  front_acts_by (did.Closed closed) act h rest before None [] (Some k) owing idle_now run counted_now was fulfils =
       let opened : opened_at ports.upload h closed ≡ true = ap (opened_at ports.upload h) fulfils ∙ was.post.took.0 in (
         None,
         [],
         None,
         owing,
         post_done (did.Closed closed) tt h rest before (Some k) None owing owing idle_now
-            (closed_unseen h rest closed (or_right (opened_at ports.page h closed) (opened_at ports.upload h closed) opened))
+            (closed_unseen h (on_wire s rest) closed (or_right (opened_at ports.page h closed) (opened_at ports.upload h closed) opened))
             (not_page h closed was.shows.fresh opened) was
             (port_closes ports.upload PostStatus IsPostPart post_apart (IsPostReply ports) h before.front.pool k closed owing fulfils was.post)
             (ap (acts_left (did.Closed closed)) was.acts),
       )
-  front_acts_by x act h rest before None [] (Some k) owing idle_now counted_now was fulfils = absurd fulfils
-  front_acts_by (did.Sent to bytes outcome) act h rest before None [] None (first ∷ owing) idle_now counted_now was fulfils =
+  front_acts_by x act h rest before None [] (Some k) owing idle_now run counted_now was fulfils = absurd fulfils
+  front_acts_by (did.Sent to bytes outcome) act h rest before None [] None (first ∷ owing) idle_now run counted_now was fulfils =
       let opened : opened_at ports.upload h to ≡ true = ap (opened_at ports.upload h) fulfils.0 ∙ was.post.pooled.owed.0.0 in
       let text : IsPostReply ports h first.status bytes = (fulfils.1, none_settled ports.page GetStatus IsGetPart get_apart h was.page.waiting was.page.pooled) in (
         None,
@@ -274,19 +280,19 @@ module _ (s : Setting) (ports : Ports) (have : HavePorts s ports) where
         closing_after outcome first.link,
         owing,
         post_done (did.Sent to bytes outcome) tt h rest before None _ (first ∷ owing) owing idle_now
-            (sent_unseen h rest to bytes outcome (or_right (opened_at ports.page h to) (opened_at ports.upload h to) opened))
+            (sent_unseen h (on_wire s rest) to bytes outcome (or_right (opened_at ports.page h to) (opened_at ports.upload h to) opened))
             (not_page h to was.shows.fresh opened) was
             (port_replies ports.upload PostStatus IsPostPart post_apart (IsPostReply ports) h before.front.pool first owing to bytes outcome fulfils.0 text was.post)
             (ap (acts_left (did.Sent to bytes outcome)) was.acts ∙ post_left to bytes outcome first owing),
       )
-  front_acts_by x act h rest before None [] None (first ∷ owing) idle_now counted_now was fulfils = absurd fulfils
-  front_acts_by x act h rest before None [] None [] idle_now counted_now was fulfils = absurd fulfils
+  front_acts_by x act h rest before None [] None (first ∷ owing) idle_now run counted_now was fulfils = absurd fulfils
+  front_acts_by x act h rest before None [] None [] idle_now run counted_now was fulfils = absurd fulfils
 
   -- the server does one of its own, and neither front has anything to close
-  server_acts : (x : Happening) → IsAct x → (h rest : History) (before : FrontState) (page_owing owing : List Owed) → IsNotTo ports.page h x → IsNotTo ports.upload h x → Stands h rest before None page_owing None owing
-      → Stands (x ∷ h) (x ∷ rest) (noted x before) None page_owing None owing
-  server_acts x act h rest before page_owing owing page upload was = record {
-    shows = shows_server x act h rest page upload was.shows;
+  server_acts : (x y : Happening) → IsAct x → IsAct y → (h rest : History) (before : FrontState) (page_owing owing : List Owed) → x ≡ wired_as s (trace_of s rest) y → IsNotTo ports.page h x → IsNotTo ports.upload h x
+      → Stands h rest before None page_owing None owing → Stands (x ∷ h) (y ∷ rest) (noted x before) None page_owing None owing
+  server_acts x y act did_act h rest before page_owing owing shown page upload was = record {
+    shows = shows_server x y act did_act h rest shown page upload was.shows;
     page = subst (λ pool. PageStands (x ∷ h) pool None page_owing) (sym (noting_pool x before.page)) (port_beside ports.page GetStatus IsGetPart get_apart (IsPageReply s ports) x act h before.page.pool page_owing page was.page);
     post = port_beside ports.upload PostStatus IsPostPart post_apart (IsPostReply ports) x act h before.front.pool owing upload was.post;
     duties = was.duties;
@@ -296,9 +302,9 @@ module _ (s : Setting) (ports : Ports) (have : HavePorts s ports) where
     moment = moment_kept ports.upload x act h before.front.moment was.moment;
   }
 
-  server_acts_by : (x : Happening) → IsAct x → (h rest : History) (before : FrontState) (first : Act) (acts : List Act) → due s rest ≡ first ∷ acts → IsRun s (x ∷ rest) → HasFreshLinks (x ∷ rest) → Known h rest before
-      → Known (x ∷ h) (x ∷ rest) (noted x before)
-  server_acts_by x act h rest before first acts is run fresh was =
+  server_acts_by : (x y : Happening) → IsAct x → IsAct y → (h rest : History) (before : FrontState) (first : Act) (acts : List Act) → due s rest ≡ first ∷ acts → x ≡ wired_as s (trace_of s rest) y → IsRun s (y ∷ rest)
+      → HasFreshLinks (y ∷ rest) → Known h rest before → Known (x ∷ h) (y ∷ rest) (noted x before)
+  server_acts_by x y act did_act h rest before first acts is shown run fresh was =
       let page_closing = was.0 in
       let page_owing = was.1 in
       let closing = was.2 in
@@ -308,9 +314,9 @@ module _ (s : Setting) (ports : Ports) (have : HavePorts s ports) where
       let none : closing ≡ None = none_closing ((due s rest ≡ []) × (before.duties ≡ [])) closing (due s rest) first acts is (λ both. both.0) all.alone in
       let open_now : Stands h rest before None page_owing None owing =
       subst (λ c. Stands h rest before None page_owing c owing) none (subst (λ c. Stands h rest before c page_owing closing owing) page_none all) in
-      let page = not_to_seen ports.page x h rest all.shows.openings (each_not_to s (x ∷ rest) ports.page have.page run fresh).0 in
-      let upload = not_to_seen ports.upload x h rest all.shows.openings (each_not_to s (x ∷ rest) ports.upload have.upload run fresh).0 in
-      (None, page_owing, None, owing, server_acts x act h rest before page_owing owing page upload open_now)
+      let page = none_shown ports.page x y h rest all.shows.openings shown (each_not_to s (y ∷ rest) ports.page have.page run fresh).0 in
+      let upload = none_shown ports.upload x y h rest all.shows.openings shown (each_not_to s (y ∷ rest) ports.upload have.upload run fresh).0 in
+      (None, page_owing, None, owing, server_acts x y act did_act h rest before page_owing owing shown page upload open_now)
 
   -- one happening more that is no event
   acted : (acts : List Act) (x : Happening) → IsAct x → (h rest seen : History) (before state : FrontState) → due s rest ≡ acts → Counted s rest before.page → (IsRun s rest → HasFreshLinks rest → Known h rest before)
@@ -319,14 +325,16 @@ module _ (s : Setting) (ports : Ports) (have : HavePorts s ports) where
       let was = known (subst (IsRun s) steps.3 run) (subst HasFreshLinks steps.3 fresh) in
       let all = was.4 in
       let fulfils = subst (λ xs. FulfilsDuty (record before.page { totals = published s rest }) before.duties xs x) all.acts steps.1 in
-      let does = front_acts_by x act h rest before was.0 was.1 was.2 was.3 idle_now counted_now all
+      let does = front_acts_by x act h rest before was.0 was.1 was.2 was.3 idle_now (subst (IsRun s) steps.3 run) counted_now all
       (subst (λ ds. FulfilsDuty (record before.page { totals = published s rest }) ds (closes_of was.2 ++ acts_for was.3) x) all.duties fulfils) in
       subst (λ st. Known (x ∷ h) seen st) (sym (steps.2 ∙ ap (λ ds. paid_by x ds before) all.duties)) (subst (λ hs. Known (x ∷ h) hs (paid_by x (closings_of was.0 ++ duties_for was.1) before)) (sym steps.3) does)
   acted (first ∷ acts) x act h rest seen before state is counted_now known run fresh steps =
-      let run_x = subst (IsRun s) steps.1 run in
-      let fresh_x = subst HasFreshLinks steps.1 fresh in
-      let was = known run_x.0 (act_fresh x act rest fresh_x) in
-      subst (λ st. Known (x ∷ h) seen st) (sym steps.0) (subst (λ hs. Known (x ∷ h) hs (noted x before)) (sym steps.1) (server_acts_by x act h rest before first acts is run_x fresh_x was))
+      let y = steps.0 in
+      let did_act = act_shown s (trace_of s rest) x y act steps.1 in
+      let run_y = subst (IsRun s) steps.3 run in
+      let fresh_y = subst HasFreshLinks steps.3 fresh in
+      let was = known run_y.0 (act_fresh y did_act rest fresh_y) in
+      subst (λ st. Known (x ∷ h) seen st) (sym steps.2) (subst (λ hs. Known (x ∷ h) hs (noted x before)) (sym steps.3) (server_acts_by x y act did_act h rest before first acts is steps.1 run_y fresh_y was))
 
   -- an event comes
   came : (e : Event) (h rest seen : History) (before state : FrontState) → ports_of before ≡ ports → (IsRun s rest → HasFreshLinks rest → Known h rest before) → Counted s seen state.page → IsRun s seen → HasFreshLinks seen
@@ -380,7 +388,7 @@ module _ (s : Setting) (ports : Ports) (have : HavePorts s ports) where
     [],
     record {
       shows = record {
-        view = answers.1;
+        view = ap (on_wire s) answers.1;
         fresh = tt;
         openings = λ port k. ap (λ hs. opened_from port hs k) answers.1;
         greatest = ap greatest_link answers.1;
@@ -421,4 +429,4 @@ pub page_links_are_paid : PageLinksArePaid
 page_links_are_paid s more seen state ports answers at have run fresh = (known s ports have more seen state answers at run fresh).4.page.paid
 
 pub servers_see_all : ServersSeeAll
-servers_see_all s more seen state answers none = (unseen s more seen state none answers).seen_is
+servers_see_all s more seen state answers none = (unseen s more seen state none answers).shown

@@ -14,6 +14,7 @@ use Rattle.aprs_history.specs.Acts.{Act, Closes, Offers, Fulfils, but_first, due
 use Rattle.http_submit.specs.Fronts.{FrontSeen, Turns, fresh_front, listened_as, paid_front}
 use Rattle.http_submit.specs.Owing.{reply_of}
 use Rattle.http_submit.specs.declared.pool.Owed.{Owed}
+use Rattle.front_history.specs.Wired.{wired_as}
 use Rattle.status_page.specs.PageFronts.{PageSeen, PageTurns, counting, fresh_page, no_totals, paid_page, reply_by}
 
 -- ---- what is owed
@@ -90,7 +91,7 @@ FulfilsDuty page (duty ∷ duties) acts x = Fulfils (act_of page duty) x
 abbrev pub FulfilsNext : Totals → FrontState → Happening → Type 0
 FulfilsNext totals state x = FulfilsDuty (record state.page { totals = totals }) state.duties state.acts x
 
--- what the server sends is counted
+-- what the server sends is counted, as the wire shows it
 abbrev pub noting : Happening → PageSeen → PageSeen
 noting (did.Sent link bytes outcome) page = counting (did.Sent link bytes outcome) page
 noting (did.Cast peer bytes) page = counting (did.Cast peer bytes) page
@@ -111,10 +112,10 @@ published s seen = totals_of s (trace_of s (finished seen))
 
 -- ---- what happens, and what the server sees
 
--- one happening more that is no event: the server's, where an act of its own is due, and else that of a front
+-- one happening more that is no event: the server's, where an act of its own is due, as the wire shows it, and else that of a front
 abbrev pub Steps : Setting → List Act → Happening → (before state : FrontState) → (rest seen : History) → Type 0
 Steps s [] x before state rest seen = (is_stopped rest ≡ false) × FulfilsNext (published s rest) before x × (state ≡ paid x before) × (seen ≡ rest)
-Steps s (act ∷ acts) x before state rest seen = (state ≡ noted x before) × (seen ≡ x ∷ rest)
+Steps s (act ∷ acts) x before state rest seen = (y : Happening) × (x ≡ wired_as s (trace_of s rest) y) × (state ≡ noted x before) × (seen ≡ y ∷ rest)
 
 -- an event comes where neither the server nor a front has anything to do: the front for packets turns by it, and hands one up,
 -- by which the front for the page turns

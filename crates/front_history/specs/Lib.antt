@@ -2,3 +2,4 @@ pub mod Answers
 pub mod Replies
 pub mod Serving
 pub mod Views
+pub mod Wired

@@ -23,6 +23,7 @@ use Rattle.status_page.specs.declared.requests.Get.TheVariants as get
 use Rattle.front_history.specs.Answers.{Answers, FrontState, published}
 use Rattle.front_history.specs.Serving.{Ports, ports_of}
 use Rattle.front_history.specs.Views.{HavePorts, IsView, is_waiting, opened_at, request_of}
+use Rattle.front_history.specs.Wired.{on_wire}
 
 -- ---- moments, in seconds
 
@@ -149,17 +150,17 @@ GetStatus request status = (get : Get) × IsGet request get × StatusOfGet get r
 abbrev pub IsGetPart : List ℕ → Type 0
 IsGetPart request = IsGet request get.More × (length request < most_bytes)
 
--- the page after what the server saw: its numbers are counts over that, and the moment
+-- the page after what the server saw: its numbers are counts over that, as the wire shows it, and the moment
 abbrev pub page_of : Setting → History → List ℕ
-page_of setting seen = page_text (counts_after no_counts seen) setting.server (moment_in seen) (published setting seen)
+page_of setting seen = page_text (counts_after no_counts (on_wire setting seen)) setting.server (moment_in seen) (published setting seen)
 
 -- the reply of a status then: with the page for 200
 abbrev pub page_reply_of : Setting → History → ℕ → List ℕ
 page_reply_of setting seen status = if status == 200 then page_reply (page_of setting seen) else reply_of status
 
--- a page tells the view of what happened up to then
+-- a page tells a run of the server, which the wire shows as the view of what happened up to then
 abbrev pub IsPageReply : Setting → Ports → History → ℕ → List ℕ → Type 0
-IsPageReply setting ports earlier status bytes = (seen : History) × IsView ports earlier seen × (bytes ≡ page_reply_of setting seen status)
+IsPageReply setting ports earlier status bytes = (seen : History) × IsRun setting seen × IsView ports earlier (on_wire setting seen) × (bytes ≡ page_reply_of setting seen status)
 
 -- replies to those who asked for the page come first
 abbrev pub IsPostReply : Ports → History → ℕ → List ℕ → Type 0

@@ -13,7 +13,7 @@ use Rattle.front_history.specs.Answers.{Answers, FrontState, front_state, wired_
 abbrev pub Serves : Setting → Option Told → Option Told → FrontState → (History → Type 0) → Type 0
 Serves s None now state P = now ≡ None
 Serves s (Some old) now state P =
-    (more : History) × (seen : History) × (now ≡ Some (told_after (wired_for state s) old more)) × Answers s more state seen × IsRun s seen × P seen
+    (more : History) × (seen : History) × (now ≡ Some (told_after (wired_for state s) s old more seen)) × Answers s more state seen × IsRun s seen × P seen
 
 -- the numbers of the listeners whose links are those of a front
 pub record Ports : Type 0 where

@@ -1,5 +1,5 @@
--- What a server sees of a history behind its fronts: all but what was sent to links of their ports and their closes, and a
--- datagram where a request that hands packets in came whole.
+-- What is seen of a history behind the fronts of a server: all but what was sent to links of their ports and their closes, and a
+-- datagram where a request that hands packets in came whole. So the wire would show it, were there no fronts.
 use Rattle.std.specs.Prelude.{◌≡◌, ℕ, ◌==◌, ◌&&◌, ◌||◌, not, Bool, true, false, is_some, if◌then◌else◌, List, [], ◌∷◌, ◌++◌, take, drop, Option, Some, None, IfSome, ⊤}
 use Rattle.std.specs.List.{All}
 use Rattle.aprs_base.specs.declared.events.Event.{Event}
@@ -19,6 +19,7 @@ use Rattle.http_submit.specs.declared.requests.Post.{Post}
 use Rattle.http_submit.specs.declared.requests.Post.TheVariants.{Whole}
 use Rattle.front_history.specs.Answers.{Answers, FrontState}
 use Rattle.front_history.specs.Serving.{Ports, ports_of}
+use Rattle.front_history.specs.Wired.{on_wire}
 
 -- ---- the links of a front's port, where it has one
 
@@ -99,18 +100,18 @@ pub record HavePorts (setting : Setting) (ports : Ports) : Type 0 where
   pub upload : IfSome ports.upload (λ n. kind_at setting n ≡ Some kind.Submit)
   pub apart : (n : ℕ) → ports.page ≡ Some n → ports.upload ≡ Some n → ⊥
 
--- a server that runs behind such fronts sees the view of what happens
+-- what a server that runs behind such fronts sees is shown by the wire as the view of what happens
 abbrev pub ServersSeeViews : Type 0
 ServersSeeViews = (setting : Setting) (more seen : History) (state : FrontState) (ports : Ports) → Answers setting more state seen → ports_of state ≡ ports
-    → HavePorts setting ports → IsRun setting seen → HasFreshLinks seen → IsView ports more seen
+    → HavePorts setting ports → IsRun setting seen → HasFreshLinks seen → IsView ports more (on_wire setting seen)
 
 -- a history has one view
 abbrev pub ViewsAreOne : Type 0
 ViewsAreOne = (ports : Ports) (history one other : History) → IsView ports history one → IsView ports history other → one ≡ other
 
--- behind fronts without ports it sees all that happens
+-- behind fronts without ports it is shown as all that happens
 abbrev pub ServersSeeAll : Type 0
-ServersSeeAll = (setting : Setting) (more seen : History) (state : FrontState) → Answers setting more state seen → ports_of state ≡ record { page = None; upload = None } → seen ≡ more
+ServersSeeAll = (setting : Setting) (more seen : History) (state : FrontState) → Answers setting more state seen → ports_of state ≡ record { page = None; upload = None } → more ≡ on_wire setting seen
 
 -- a happening isn't one that is sent to a link of that port, or its close
 abbrev pub IsNotTo : Option ℕ → History → Happening → Type 0

@@ -7,8 +7,8 @@ use http_submit::requests_are_read_one_way;
 /// A server that runs behind fronts sees what happens on the wire, in order, but for the links that were opened at the fronts'
 /// ports: what is sent to such a link and its close aren't seen, and the bytes that make the request of a link of the port for
 /// packets whole, while the link waits for its reply, are seen as one datagram to that port, from the link's address, with the body
-/// of the request. Behind fronts without ports all is seen. The server itself sends nothing to a link that is opened where datagrams
-/// come, and closes none.
+/// of the request. A line that the server sends to a downlink happens as a datagram that is cast there. Behind fronts without ports
+/// all is seen. The server itself sends nothing to a link that is opened where datagrams come, and closes none.
 pub fn servers_see_views()
     ensures views { ServersSeeViews }
     ensures all { ServersSeeAll }
@@ -26,7 +26,7 @@ pub fn links_get_one_reply()
 
 /// A link of the port for the page is sent one reply at most, by the same rules: 503, 408, or the status of its request for the page.
 /// For 200 it is sent the page, and each number of that is its count over what the server saw up to then: the view of all that
-/// happened. The totals are those at the end of the last round that is finished.
+/// happened, in which each line for a downlink is a datagram. The totals are those at the end of the last round that is finished.
 pub fn pages_tell_counts()
     ensures { PageLinksArePaid }
 {}

@@ -19,7 +19,7 @@ pub struct Counts {
     pub datagrams: u64,
     /// Bytes that links took.
     pub taken: u64,
-    /// Datagrams that were cast to peers.
+    /// Datagrams that were cast to peers, and to links that have their lines so.
     pub casts: u64,
 }
 
