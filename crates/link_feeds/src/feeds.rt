@@ -311,6 +311,15 @@ impl Feeds {
         self.states[place].queue.pending()
     }
 
+    /// Whether the link at that place has taken each line wholly that it has begun to take. What came must have been matched.
+    pub fn at_line_start(&self, place: usize) -> bool
+        requires settled { self.now.waiting ≡ 0 }
+        requires within { place < length self.now.links }
+        ensures { (link : FeedSeen) → slice_get self.now.links place ≡ Some link → result ≡ (link.queue.offset == 0) }
+    {
+        self.states[place].queue.at_line_start()
+    }
+
     /// The link at that place took the first `n` bytes. What came must have been matched.
     pub fn taken(&mut self, place: usize, n: usize)
         requires settled { self.old.waiting ≡ 0 }

@@ -1,6 +1,7 @@
 -- What comes to the links that are served, and what it leaves of them.
 use Rattle.std.proofs.Common.{◌≡◌, ℕ, ◌^◌, ◌<◌, ◌+◌, ◌-◌, Bool, true, false, List, [], ◌∷◌, ◌++◌, length, map, min, filter, get_or, slice_get, slice_set, refl, sym, ap, ◌∙◌, subst, arith, Option, Some, None, Result, Ok, Err, OnOk, OnErr, ⊎_elim, zero, suc, not, ◌||◌, ◌&&◌, cond, if◌then◌else◌}
 use Rattle.std.specs.Bool.{⊤}
+use Rattle.std.specs.Option.{option_or}
 use Rattle.std.specs.List.{All, list_any, position}
 use Rattle.std.proofs.Math.Seq.{map-set_same}
 use Rattle.std.proofs.Math.Bool.{and-false}
@@ -10,6 +11,7 @@ use Rattle.std.proofs.lemmas.Option.{get_or_from_slice_get, slice_get-get_or}
 use Rattle.aprs_base.specs.PacketSeen.{PacketSeen}
 use Rattle.aprs_base.specs.declared.packets.Source.{Source}
 use Rattle.aprs_history.specs.declared.verdicts.Session.{Session}
+use Rattle.aprs_history.specs.Downs.{DownSeen}
 use Rattle.aprs_history.specs.Links.{Opening, is_client_of}
 use Rattle.aprs_history.specs.Stands.{LinkSeen}
 use Rattle.aprs_history.specs.Trace.{is_from}
@@ -24,14 +26,14 @@ use Rattle.worker_match.specs.Seen.{FeedSeen, ItemSeen, Came, ToldAll}
 use Rattle.worker_match.specs.Walk.{after}
 use Rattle.served_links.specs.Fed.{AllMatch, Matches, feed_of, joined, joined_all, new_half, offer_of, opening_feed, refused_of, shows_kept}
 use Rattle.served_links.specs.Halves.{AreHalves, AtRest, IsEmptied, ServedSeen, served_seen, waiting_after, more}
-use Rattle.served_links.specs.Links.{Rises, has_that, here, is_at, is_here, is_none_of, is_whole, named_of, number_of, numbers, pending_at, pending_of, when_left}
+use Rattle.served_links.specs.Links.{Rises, has_that, here, is_at, is_here, is_none_of, is_whole, named_of, number_of, numbers, pending_at, pending_of, picked_at, when_left}
 use Rattle.served_links.specs.Changes.{at_link, at_moment, has_room, is_asked_at, is_shown_at, takes_packet, takes_shown, with_date, with_packet, with_shown, with_text}
 use Rattle.served_links.specs.declared.link.SourcePlace.{SourcePlace}
 use Rattle.served_links.specs.declared.served.Served.TheInside.{Inside}
 use Rattle.aprs_history.proofs.NumberLemmas.{rises_higher}
 use Rattle.served_links.proofs.AskedLemmas.{listed_at}
 use Rattle.served_links.proofs.FedLemmas.{date_same, date_uncounted, heard_counted, heard_same, shown_counted, shown_same, told_matches, told_same, told_uncounted}
-use Rattle.served_links.proofs.HereLemmas.{here_filter, here_left, none_left_here, here_push, here_stepped, joined_here, joined_whole, swept_joined, swept_match, match_here, named_all, named_at, named_set, present, same_whole}
+use Rattle.served_links.proofs.HereLemmas.{here_filter, here_left, none_left_here, here_push, here_stepped, joined_here, joined_whole, swept_joined, swept_match, match_here, named_all, named_at, named_set, picked_missing, picked_there, present, same_whole}
 use Rattle.served_links.proofs.LinkLemmas.{position_none, changed_by, changed_nowhere, picked_found, picked_none, position_some, rises_filter, rises_push, rises_at}
 use Rattle.served_links.proofs.ServedLemmas.{any_same, any_half, as_many, counted_all, counted_match, joined_at, joined_left, joined_push, match_at, match_left, match_push, match_set, capped_put, none_put, none_put_of, numbers_same, position_same, put_changed, put_kept, put_left, put_push, put_set, rises_same, state_at, state_set, states_changed, states_match, halves_changed, halves_match}
 
@@ -471,9 +473,9 @@ changed_nobody number step hs now feeds are none view named =
     ∙ ap (map (at_link number step)) view
 
 -- a link that has logged in
-pub login_matches : (h : LinkSeen) (s : FeedSeen) (session : Session) (feed : Feed) (call : List ℕ) (mine : Option Seen) → Matches h s → feed ≡ opening_feed h.opening (Some session) → call ≡ session.call
-    → Matches (record h { session = Some session }) (with_login feed call mine s)
-login_matches h s session feed call mine m fed named =
+pub login_matches : (h : LinkSeen) (s : FeedSeen) (session : Session) (feed : Feed) (call : List ℕ) (mine : Option Seen) → (down : Option DownSeen) → Matches h s → feed ≡ opening_feed h.opening (Some session) → call ≡ session.call
+    → Matches (record h { session = Some session; down = option_or down h.down }) (with_login feed call mine s)
+login_matches h s session feed call mine down m fed named =
     record { link = m.link; inbound = m.inbound; alive = m.alive; limit = m.limit; feed = fed; me = ap (λ c. Some c) named; many = m.many }
 
 -- one that has another filter
@@ -519,6 +521,42 @@ pub pending_nowhere : (number : ℕ) (hs : List LinkSeen) (feeds : FeedsSeen) �
 pending_nowhere number hs feeds are none whole now view =
     ap (pending_at number) (sym view ∙ joined_whole hs feeds.links are.match whole)
     ∙ picked_none pending_of [] number (joined_all hs feeds.links) (none ∙ sym (position_same (has_that number) (λ h s. refl) hs feeds.links are.match))
+
+-- a link that hasn't left, found among the sessions that are kept
+pub within_here : (number place : ℕ) (hs searched : List LinkSeen) → searched ≡ hs → Some place ≡ position (is_at number) searched → place < length hs
+within_here number place hs searched same found = (position_some (is_at number) hs place (found ∙ ap (position (is_at number)) same)).0
+
+-- what is picked of it
+pub record IsThere {X : Type 0} (pick : LinkSeen → X) (none : X) (number place : ℕ) (feeds : FeedsSeen) (now : List LinkSeen) : Type 0 where
+  pub half : LinkSeen
+  pub state : FeedSeen
+  pub there : slice_get feeds.links place ≡ Some state
+  pub picked : pick (joined half state) ≡ picked_at pick none number now
+
+module _ {X : Type 0} (pick : LinkSeen → X) (none : X) (number : ℕ) where
+  pub here_there : (place : ℕ) (inside : Inside) (searched : List LinkSeen) {now : ServedSeen} → served_seen inside.sessions inside.feeds inside.queued inside.rests ≡ now
+      → AreHalves inside.sessions inside.feeds → searched ≡ inside.sessions → Some place ≡ position (is_at number) searched → IsThere pick none number place inside.feeds now.links
+  here_there place inside searched {now} view are same found =
+      let hs = inside.sessions in
+      let ss = inside.feeds.links in
+      let within = within_here number place hs searched same found in
+      let fed = state_at ss place (within_feeds place hs inside.feeds are within) in
+      let half = half_at hs place within in
+      let there = found ∙ ap (position (is_at number)) same ∙ sym (position_same (is_at number) (λ h s. refl) hs ss are.match) in
+      record {
+        half = half.0;
+        state = fed.0;
+        there = fed.1;
+        picked = sym (picked_there pick none number (joined_all hs ss) place (joined half.0 fed.0) there (joined_at hs ss place half.0 fed.0 are.match within half.1 fed.2)) ∙ ap (picked_at pick none number) (ap links_of view);
+      }
+
+  pub here_nowhere : (inside : Inside) (searched : List LinkSeen) {now : ServedSeen} → served_seen inside.sessions inside.feeds inside.queued inside.rests ≡ now
+      → AreHalves inside.sessions inside.feeds → searched ≡ inside.sessions → None ≡ position (is_at number) searched → picked_at pick none number now.links ≡ none
+  here_nowhere inside searched {now} view are same missing =
+      let hs = inside.sessions in
+      let ss = inside.feeds.links in
+      let nowhere = missing ∙ ap (position (is_at number)) same ∙ sym (position_same (is_at number) (λ h s. refl) hs ss are.match) in
+      ap (picked_at pick none number) (sym (ap links_of view)) ∙ picked_missing pick none number (joined_all hs ss) nowhere
 
 -- ---- an accepted packet comes
 

@@ -1,5 +1,6 @@
 -- What each thing that comes changes of a link.
 use Rattle.std.specs.Prelude.{ℕ, ◌==◌, Bool, true, false, nat_lt, List, [], ◌∷◌, length, map, not, ◌&&◌, ◌||◌, is_some, Option, Some, None, if◌then◌else◌}
+use Rattle.std.specs.Option.{option_or}
 use Rattle.aprs_base.specs.PacketSeen.{PacketSeen}
 use Rattle.aprs_base.specs.Held.{Held}
 use Rattle.filter_lang.specs.Terms.{TermSeen}
@@ -8,6 +9,7 @@ use Rattle.filter_eval.specs.declared.seen.Seen.{Seen}
 use Rattle.station_table.specs.Stations.{seen_in}
 use Rattle.heard_routing.specs.Heard.{is_among}
 use Rattle.aprs_history.specs.declared.verdicts.Session.{Session}
+use Rattle.aprs_history.specs.Downs.{DownSeen}
 use Rattle.aprs_history.specs.Stands.{LinkSeen, friends_kept, place_kept}
 use Rattle.aprs_history.specs.Trace.{is_from}
 use Rattle.aprs_history.specs.Links.{Opening, is_client_link}
@@ -47,8 +49,9 @@ with_text line link =
     else if length link.queue.lines == most_waiting then record link { over = true; friends = []; mine = None }
     else record link { queue = with_line link.queue line }
 
-abbrev pub with_session : Session → Option Seen → List ℕ → LinkSeen → LinkSeen
-with_session session mine reply link = with_text reply (record link { session = Some session; mine = place_kept link.over mine })
+-- it has logged in, and may have become a downlink
+abbrev pub with_session : Session → Option DownSeen → Option Seen → List ℕ → LinkSeen → LinkSeen
+with_session session down mine reply link = with_text reply (record link { session = Some session; down = option_or down link.down; mine = place_kept link.over mine })
 
 abbrev pub with_filter : List TermSeen → List (Option Seen) → List ℕ → LinkSeen → LinkSeen
 with_filter terms friends reply link = with_text reply (record link { filter = terms; friends = friends_kept link.over friends })

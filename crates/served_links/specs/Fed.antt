@@ -8,6 +8,7 @@ use Rattle.aprs_base.specs.declared.packets.PortKind.TheVariants as port
 use Rattle.aprs_history.specs.declared.verdicts.LinkKind.{LinkKind}
 use Rattle.aprs_history.specs.declared.verdicts.LinkKind.TheVariants.{Client, Uplink}
 use Rattle.aprs_history.specs.declared.verdicts.Session.{Session}
+use Rattle.aprs_history.specs.Downs.{DownSeen}
 use Rattle.aprs_history.specs.Links.{Opening, is_client_link}
 use Rattle.aprs_history.specs.Stands.{LinkSeen, friends_kept, place_kept}
 use Rattle.aprs_history.specs.Texts.{most_waiting, shows_duplicates}
@@ -18,13 +19,14 @@ use Rattle.worker_match.specs.Walk.{terms_of}
 use Rattle.served_links.specs.declared.link.SourcePlace.{SourcePlace}
 
 -- what is kept of a session is seen as a link that is fed nothing
-abbrev pub unfed : (link : ℕ) (opening : Option Opening) (last : ℕ) (held : Held) (session : Option Session) (blocked gone : Bool) → LinkSeen
-unfed link opening last held session blocked gone = record {
+abbrev pub unfed : (link : ℕ) (opening : Option Opening) (last : ℕ) (held : Held) (session : Option Session) (down : Option DownSeen) (blocked gone : Bool) → LinkSeen
+unfed link opening last held session down blocked gone = record {
   link = link;
   opening = opening;
   last = last;
   held = held;
   session = session;
+  down = down;
   filter = [];
   friends = [];
   mine = None;
@@ -93,7 +95,7 @@ refused_of packet = record { packet = packet; dupe = true; submitted = false; kn
 
 -- a link that has just been opened, beside what it is fed
 abbrev pub new_half : ℕ → Opening → LinkSeen
-new_half number opening = unfed number (Some opening) opening.moment (held_after []) None false false
+new_half number opening = unfed number (Some opening) opening.moment (held_after []) None None false false
 
 -- whether it is shown the duplicates that others are refused
 abbrev pub shows_kept : LinkSeen → Bool

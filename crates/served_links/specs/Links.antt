@@ -4,6 +4,8 @@ use Rattle.std.specs.List.{list_all, list_any, flat_map}
 use Rattle.aprs_base.specs.Bytes.{is_station}
 use Rattle.aprs_base.specs.Held.{Held}
 use Rattle.aprs_history.specs.declared.verdicts.Session.{Session}
+use Rattle.aprs_history.specs.declared.verdicts.LinkKind.{LinkKind}
+use Rattle.aprs_history.specs.Downs.{DownSeen}
 use Rattle.aprs_history.specs.Stands.{LinkSeen}
 use Rattle.aprs_history.specs.Trace.{is_member}
 pub use Rattle.aprs_history.specs.Trace.{Rises}
@@ -13,6 +15,7 @@ use Rattle.aprs_history.specs.Verdicts.{Speaker, Visitor}
 use Rattle.aprs_base.specs.declared.packets.PortKind.TheVariants as port
 use Rattle.aprs_base.specs.declared.packets.Source.{Source}
 use Rattle.aprs_base.specs.declared.packets.Source.TheVariants as source
+use Rattle.aprs_base.specs.declared.texts.Addr.{Addr}
 use Rattle.served_links.specs.declared.link.Timeouts.{Timeouts}
 use Rattle.served_links.specs.Pending.{pending_bytes}
 
@@ -69,6 +72,31 @@ pending_at number links = picked_at pending_of [] number links
 abbrev pub held_at : ℕ → List LinkSeen → Option Held
 held_at number links = picked_at held_kept None number links
 
+-- how it was opened
+abbrev pub opening_kept : LinkSeen → Option Opening
+opening_kept link = link.opening
+
+-- what it is to the server, and where it came from
+abbrev pub kind_and_from : Opening → LinkKind × Addr
+kind_and_from opening = (opening.kind, opening.from)
+
+abbrev pub opening_at : ℕ → List LinkSeen → Option Opening
+opening_at number links = picked_at opening_kept None number links
+
+-- the downlink that it is
+abbrev pub down_kept : LinkSeen → Option DownSeen
+down_kept link = link.down
+
+abbrev pub down_at : ℕ → List LinkSeen → Option DownSeen
+down_at number links = picked_at down_kept None number links
+
+-- it has taken each line wholly that it has begun to take
+abbrev pub starts_line : LinkSeen → Bool
+starts_line link = link.queue.offset == 0
+
+abbrev pub starts_line_at : ℕ → List LinkSeen → Bool
+starts_line_at number links = picked_at starts_line true number links
+
 -- a link that was found gone
 abbrev pub is_lost : LinkSeen → Bool
 is_lost link = link.gone
@@ -76,9 +104,9 @@ is_lost link = link.gone
 abbrev pub is_lost_here : LinkSeen → Bool
 is_lost_here link = is_here link && is_lost link
 
--- it isn't blocked, and has bytes to take
+-- it isn't blocked, or is a downlink, and has bytes to take
 abbrev pub is_ready : LinkSeen → Bool
-is_ready link = not link.blocked && nat_lt 0 (length (pending_bytes link.queue))
+is_ready link = (is_some link.down || not link.blocked) && nat_lt 0 (length (pending_bytes link.queue))
 
 -- a line didn't fit
 abbrev pub is_overfull : LinkSeen → Bool

@@ -11,7 +11,7 @@ mod served;
 mod sessions;
 mod telling;
 
-pub use link::{SourcePlace, Timeouts, has_member, is_from};
+pub use link::{Down, SourcePlace, Timeouts, has_member, is_from};
 pub use logins::Logins;
 pub use messages::is_message;
 pub use served::Served;

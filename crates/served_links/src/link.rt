@@ -1,5 +1,6 @@
 //! What is kept of a link and its session.
-ghost use Rattle.std.specs.Prelude.{◌≡◌, ◌++◌, IsTrue, List, ℕ, OnErr, OnOk, Some, nat_lt};
+ghost use Rattle.std.specs.Prelude.{◌≡◌, ◌++◌, ◌||◌, IsTrue, List, ℕ, OnErr, OnOk, Some, is_some, nat_lt, not, option_map};
+ghost use Rattle.std.specs.Option.{option_or};
 ghost use Rattle.std.specs.List.Sorted.{IsStrictlyIncreasing};
 ghost use Rattle.aprs_base.specs.Bytes.{is_station};
 ghost use Rattle.aprs_base.specs.Cuts.{cuts_by};
@@ -10,7 +11,7 @@ ghost use Rattle.aprs_history.specs.Texts.{shows_duplicates};
 ghost use Rattle.aprs_history.specs.Trace.{is_from, is_member};
 ghost use Rattle.line_verdict.specs.Voices.{HasStation, voice_of};
 ghost use Rattle.served_links.specs.Fed.{new_half, opening_feed};
-ghost use Rattle.served_links.specs.Links.{client_kept, is_here, is_late_here, is_late_link, is_login, is_lost_here, is_nameless_link, is_none_of, login_here, number_of, list_of, speaker_kept, timeout_for, when_left};
+ghost use Rattle.served_links.specs.Links.{client_kept, is_here, is_late_here, is_late_link, is_login, is_lost_here, is_nameless_link, is_none_of, kind_and_from, login_here, number_of, list_of, speaker_kept, timeout_for, when_left};
 ghost use Rattle.served_links.specs.Changes.{is_asked_at, when_gone, with_bytes, with_room};
 ghost use Rattle.served_links.specs.EndLines.{late_reason_kept};
 
@@ -43,6 +44,23 @@ pub struct Timeouts {
     pub uplink: u32,
 }
 
+/// A downlink: its number, and where its lines are cast to.
+#[derive(Clone, Copy)]
+pub struct Down {
+    pub number: u16,
+    pub to: Addr,
+}
+
+impl Model for Down {
+    ghost use Rattle.aprs_history.specs.Downs.{DownSeen};
+
+    ghost Value = { DownSeen };
+
+    ghost view = { λ d. record { number = d.number; to = d.to } };
+
+    ghost inverse = { λ d. record { number = d.number; to = d.to } };
+}
+
 /// What is kept of a link's session, seen as a link that is fed nothing. What it is fed is kept beside it.
 #[derive(Drop)]
 pub struct LinkSession {
@@ -55,6 +73,8 @@ pub struct LinkSession {
     last: u64,
     cutter: Cutter,
     session: Option<Session>,
+    /// Where its lines are cast to, where it is a downlink.
+    down: Option<Down>,
     blocked: bool,
     gone: bool,
 }
@@ -67,7 +87,7 @@ impl Model for LinkSession {
 
     ghost Value = { LinkSeen };
 
-    ghost view = { λ l. unfed l.number (option_map (λ kind. record { kind = kind; from = l.from; moment = l.opened }) l.kind) l.last l.cutter l.session l.blocked l.gone };
+    ghost view = { λ l. unfed l.number (option_map (λ kind. record { kind = kind; from = l.from; moment = l.opened }) l.kind) l.last l.cutter l.session l.down l.blocked l.gone };
 
     ghost invariant = { λ l. IsTrue (is_login l.session) };
 }
@@ -85,6 +105,7 @@ impl LinkSession {
             last: moment,
             cutter: Cutter::new(),
             session: None,
+            down: None,
             blocked: false,
             gone: false,
         }
@@ -115,13 +136,14 @@ impl LinkSession {
         self.cutter.clone().unwrap()
     }
 
-    /// The link has logged in: what it is fed from then on.
-    pub fn log_in(&mut self, session: Session) -> Feed
+    /// The link has logged in, and may have become a downlink: what it is fed from then on.
+    pub fn log_in(&mut self, session: Session, down: Option<Down>) -> Feed
         requires { IsTrue (is_station session.call) }
-        ensures exact { self.new ≡ record self.old { session = Some session } }
+        ensures exact { self.new ≡ record self.old { session = Some session; down = option_or down self.old.down } }
         ensures feed { result ≡ opening_feed self.old.opening (Some session) }
     {
         self.session = Some(session);
+        self.down = down.or(self.down);
         match self.kind {
             Some(kind) => feed_of(kind, &self.session),
             None => Feed::Nothing,
@@ -306,11 +328,28 @@ impl LinkSession {
         self.is_here() && self.gone
     }
 
-    /// Whether it has no room for more bytes.
-    pub fn is_blocked(&self) -> bool
-        ensures { result ≡ self.now.blocked }
+    /// Whether bytes may be given to it: a downlink is never blocked.
+    pub fn is_open(&self) -> bool
+        ensures { result ≡ (is_some self.now.down || not self.now.blocked) }
     {
-        self.blocked
+        self.down.is_some() || !self.blocked
+    }
+
+    /// The downlink that it is.
+    pub fn down(&self) -> Option<Down>
+        ensures { result ≡ self.now.down }
+    {
+        self.down
+    }
+
+    /// What it is to the server, and where it came from, where it hasn't left.
+    pub fn opened_by(&self) -> Option<(LinkKind, Addr)>
+        ensures { result ≡ option_map kind_and_from self.now.opening }
+    {
+        match self.kind {
+            Some(kind) => Some((kind, self.from)),
+            None => None,
+        }
     }
 }
 

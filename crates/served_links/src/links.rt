@@ -1,5 +1,5 @@
 //! What is kept of links' sessions, in the order of the links' numbers: what is looked for in it, and done at one place.
-ghost use Rattle.std.specs.Prelude.{◌≡◌, ◌++◌, ◌^◌, ℕ, [], IfOk, IsTrue, List, None, OnErr, OnOk, Some, filter, map, position};
+ghost use Rattle.std.specs.Prelude.{◌≡◌, ◌++◌, ◌^◌, ℕ, [], IfOk, IsTrue, List, None, OnErr, OnOk, Some, filter, map, option_map, position};
 ghost use Rattle.std.specs.Arc.{arc_value};
 ghost use Rattle.std.specs.List.{list_any};
 ghost use Rattle.std.specs.List.Sorted.{IsStrictlyIncreasing};
@@ -8,7 +8,7 @@ ghost use Rattle.aprs_base.specs.Held.{held_after};
 ghost use Rattle.aprs_history.specs.Stands.{LinkSeen};
 ghost use Rattle.line_verdict.specs.Voices.{HasStation, voice_of};
 ghost use Rattle.served_links.specs.Fed.{AllMatch, offer_of, shows_kept};
-ghost use Rattle.served_links.specs.Links.{Rises, client_at, clients_in, filters_at, has_number, has_that, held_at, here, is_at, is_late_here, is_lost_here, is_none_of, login_here, named_of, numbers, speaker_at, submitted_from};
+ghost use Rattle.served_links.specs.Links.{Rises, client_at, clients_in, down_at, filters_at, has_number, has_that, held_at, here, is_at, is_late_here, is_lost_here, is_none_of, kind_and_from, login_here, named_of, numbers, opening_at, speaker_at, submitted_from};
 ghost use Rattle.served_links.specs.Changes.{at_link, is_asked_at, when_gone, with_bytes, with_room};
 ghost use Rattle.uplinks_peers.specs.Sides.{is_passed_on};
 ghost use Rattle.uplinks_peers.specs.declared.sides.Side.TheVariants as side;
@@ -16,9 +16,10 @@ ghost use Rattle.worker_match.specs.Items.{item_seen};
 ghost use Rattle.worker_match.specs.Seen.{FeedSeen, Came};
 ghost use Rattle.worker_match.specs.Walk.{IsOrdered};
 
-use crate::link::{LinkSession, SourcePlace, Timeouts};
+use crate::link::{Down, LinkSession, SourcePlace, Timeouts};
 use crate::messages::is_message;
-use aprs_base::{Cut, Cutter, Memory, Packet, Shared, Source};
+use aprs_base::{Addr, Cut, Cutter, Memory, Packet, Shared, Source};
+use aprs_history::LinkKind;
 use line_verdict::Voice;
 use std::alloc::Global;
 use uplinks_peers::{Side, goes_to};
@@ -220,6 +221,28 @@ pub(crate) fn voice_at(links: &[LinkSession], number: u32) -> Voice
     match place_here(links, number) {
         Some(place) => links[place].voice(),
         None => Voice::Nameless { filters: false },
+    }
+}
+
+/// What that link is to the server, and where it came from.
+pub(crate) fn opened_by(links: &[LinkSession], number: u32) -> Option<(LinkKind, Addr)>
+    requires { Rises 0 (numbers links.now) (2 ^ 32) }
+    ensures { result ≡ option_map kind_and_from (opening_at number (here links.now)) }
+{
+    match place_here(links, number) {
+        Some(place) => links[place].opened_by(),
+        None => None,
+    }
+}
+
+/// The downlink that this link is.
+pub(crate) fn down_at(links: &[LinkSession], number: u32) -> Option<Down>
+    requires { Rises 0 (numbers links.now) (2 ^ 32) }
+    ensures { result ≡ down_at number (here links.now) }
+{
+    match place_here(links, number) {
+        Some(place) => links[place].down(),
+        None => None,
     }
 }
 

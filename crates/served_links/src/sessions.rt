@@ -1,5 +1,6 @@
 //! What is kept of all sessions, in the order of the links' numbers.
 ghost use Rattle.std.specs.Prelude.{◌≡◌, ◌∷◌, ◌++◌, ◌^◌, ◌<◌, ℕ, [], IfOk, IsTrue, List, None, OnErr, OnOk, Some, false, filter, length, map, nat_lt, slice_get, slice_set, true};
+ghost use Rattle.std.specs.Option.{option_or};
 ghost use Rattle.aprs_base.specs.Bytes.{is_station};
 ghost use Rattle.aprs_base.specs.Cuts.{cuts_by};
 ghost use Rattle.aprs_base.specs.Held.{held_after};
@@ -12,7 +13,7 @@ ghost use Rattle.worker_match.specs.Seen.{FeedSeen};
 
 use crate::counts::{Counts, count_of, lower, lower_these, raise};
 use crate::kinds::is_inbound;
-use crate::link::LinkSession;
+use crate::link::{Down, LinkSession};
 use crate::links::{bring, count_clients, drop_these, give_room, lose, sweep};
 use aprs_base::{Addr, Call, Cut, Memory};
 use aprs_history::{LinkKind, Session};
@@ -171,18 +172,23 @@ impl Sessions {
         bring(alloc, &mut self.links, number, moment, bytes)
     }
 
-    /// The link at that place has logged in: what it is fed from then on. `Memory` changes nothing.
-    pub fn log_in(&mut self, place: usize, session: Session) -> Result<Feed, Memory>
+    /// The link at that place has logged in, and may have become a downlink: what it is fed from then on. `Memory` changes nothing.
+    pub fn log_in(
+        &mut self,
+        place: usize,
+        session: Session,
+        down: Option<Down>,
+    ) -> Result<Feed, Memory>
         requires station { IsTrue (is_station session.call) }
         requires within { place < length self.old }
-        ensures session { (link : LinkSeen) → slice_get self.old place ≡ Some link → OnOk result (self.new ≡ slice_set self.old place (record link { session = Some session })) }
+        ensures session { (link : LinkSeen) → slice_get self.old place ≡ Some link → OnOk result (self.new ≡ slice_set self.old place (record link { session = Some session; down = option_or down link.down })) }
         ensures feed { (link : LinkSeen) → slice_get self.old place ≡ Some link → IfOk result (λ feed. feed ≡ opening_feed link.opening (Some session)) }
         ensures err { OnErr result (self.new ≡ self.old) }
     {
         let link = &self.links[place];
         raise(&mut self.counts, link.login_by(&session))?;
         lower(&mut self.counts, link.verified_call());
-        Ok(self.links[place].log_in(session))
+        Ok(self.links[place].log_in(session, down))
     }
 
     /// The link at that place took that many of the bytes that it was offered.

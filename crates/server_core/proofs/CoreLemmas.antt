@@ -7,6 +7,7 @@ use Rattle.std.proofs.lemmas.List.{length-map}
 use Rattle.aprs_base.specs.Held.{held_after}
 use Rattle.aprs_base.specs.declared.texts.Addr.{Addr}
 use Rattle.aprs_base.specs.declared.cutting.Cut.{Cut}
+use Rattle.aprs_base.specs.declared.cutting.Cut.TheVariants as cut
 use Rattle.aprs_base.specs.declared.packets.Parts.{Parts}
 use Rattle.aprs_base.specs.declared.packets.PortKind.TheVariants as port
 use Rattle.aprs_base.specs.declared.packets.Source.{Source}
@@ -18,10 +19,14 @@ use Rattle.uplinks_peers.specs.Uplinks.{acts_at, uplinks_after}
 use Rattle.aprs_history.specs.Dials.{uplinks_of}
 use Rattle.aprs_history.specs.declared.verdicts.LinkKind.TheVariants.{Uplink}
 use Rattle.aprs_history.specs.declared.verdicts.Verdict.{Verdict}
-use Rattle.aprs_history.specs.declared.verdicts.Verdict.TheVariants.{PassedOver, LoggedIn}
+use Rattle.aprs_history.specs.declared.verdicts.Verdict.TheVariants.{PassedOver, Refused, LoggedIn, Filtered, Accepted}
 use Rattle.aprs_history.specs.Setting.{Setting, kind_at}
 use Rattle.aprs_history.specs.Scenes.{datagram_scene, logins_of, others_of, scene_of, speaker_of, verified_login, accepted_of}
-use Rattle.aprs_history.specs.Verdicts.{Visitor, is_duplicate}
+use Rattle.aprs_history.specs.Verdicts.{Visitor, filter_command, is_duplicate}
+use Rattle.line_verdict.specs.Voices.{comment_verdict, filtered}
+use Rattle.line_verdict.specs.declared.voices.Voice.{Voice}
+use Rattle.line_verdict.specs.declared.voices.Voice.TheVariants as voice
+use Rattle.login_pass.specs.Downlinks.{downlink_of}
 use Rattle.aprs_history.specs.declared.verdicts.Admission.{Admission}
 use Rattle.aprs_history.specs.declared.verdicts.Admission.TheVariants.{NoPort, NotAsked, Served, TurnedAway}
 use Rattle.aprs_history.specs.Trace.{Trace, AtListener, ByUplink, Dated, Looked, Unjoined, RoundBegan, Ticked, Opened, Brought, Said, Roomed, Ended, is_live, is_member, is_other, live_links, moment_of, placed_all, stopped_links}
@@ -39,7 +44,7 @@ use Rattle.server_core.specs.Meaning.{CoreMeaning, setting_of, timeouts_of}
 use Rattle.served_links.specs.Halves.{IsEmptied, ServedSeen}
 use Rattle.served_links.proofs.ServedSteps.{emptied_rises}
 use Rattle.server_core.specs.Kept.{IsKept}
-use Rattle.server_core.specs.Steps.{SameRest, Walks, carried_at, scene_at, with_verdict}
+use Rattle.server_core.specs.Steps.{SameRest, Walks, carried_at, scene_at, with_port, with_verdict}
 use Rattle.served_links.proofs.LinkLemmas.{changed_none, rises_at, rises_filter, rises_push}
 use Rattle.aprs_history.proofs.NumberLemmas.{rises_higher}
 use Rattle.server_core.proofs.FollowLemmas.{picked_missing, picked_seen}
@@ -211,9 +216,28 @@ module _ (core : CoreMeaning) (t : Trace) (walks : Walks core t) where
   }
 
 -- a line that was said
-pub walks_said : (core : CoreMeaning) (t : Trace) → Walks core t → (from : Source) (cut : Cut) (verdict : Verdict) → IsSaidBy t from → Walks (with_verdict from verdict core) (Said from cut verdict ∷ t)
+pub walks_said : (core : CoreMeaning) (t : Trace) → Walks core t → (from : Source) (cut : Cut) (verdict : Verdict) → IsSaidBy t from → Walks (with_verdict from cut verdict core) (Said from cut verdict ∷ t)
 walks_said core t walks from cut verdict by =
     record { follows = follows_said (setting_of core.conf) core.seen t walks.follows walks.going walks.lasts from cut verdict by; going = walks.going; lasts = walks.lasts }
+
+-- only a login asks for a port
+pub with_asked : (from : Source) (line : List ℕ) (verdict : Verdict) (core : CoreMeaning) → with_port from (downlink_of line) verdict core ≡ with_verdict from (cut.Line line) verdict core
+with_asked from line (LoggedIn session answer) core = refl
+with_asked from line PassedOver core = refl
+with_asked from line (Refused why) core = refl
+with_asked from line (Filtered answer) core = refl
+with_asked from line (Accepted parts text) core = refl
+
+filtered_quiet : (from : Source) (line : List ℕ) (filters : Bool) (command : Option (List ℕ)) (core : CoreMeaning) → with_port from None (filtered filters command) core ≡ with_verdict from (cut.Line line) (filtered filters command) core
+filtered_quiet from line filters None core = refl
+filtered_quiet from line filters (Some text) core = refl
+
+-- a comment asks for none
+pub comment_quiet : (from : Source) (line : List ℕ) (who : Voice) (core : CoreMeaning) → with_port from None (comment_verdict who line) core ≡ with_verdict from (cut.Line line) (comment_verdict who line) core
+comment_quiet from line (voice.Nameless filters) core = refl
+comment_quiet from line voice.Reader core = filtered_quiet from line false (filter_command line) core
+comment_quiet from line (voice.Client filters origin) core = filtered_quiet from line filters (filter_command line) core
+comment_quiet from line (voice.Carrier origin) core = refl
 
 pub said_by : (t : Trace) (from : Source) → IsDatagram from → IsSaidBy t from
 said_by t (source.Link number) datagram = absurd datagram
@@ -228,11 +252,11 @@ relayed_as s listener first more cuts peer call origin found t are from is =
     ∙ ap (λ (f : Option (ℕ × List ℕ)). relay s listener first more f t) (sym is)
 
 -- what a verdict leaves as it is
-pub rest_kept : (core : CoreMeaning) (from : Source) (verdict : Verdict) → SameRest core (with_verdict from verdict core)
-rest_kept core from PassedOver = record { conf = refl; greatest = refl; stopped = refl }
-rest_kept core from (LoggedIn session None) = record { conf = refl; greatest = refl; stopped = refl }
-rest_kept core from (LoggedIn session (Some answer)) = record { conf = refl; greatest = refl; stopped = refl }
-rest_kept core from verdict = record { conf = refl; greatest = refl; stopped = refl }
+pub rest_kept : (core : CoreMeaning) (from : Source) (cut : Cut) (verdict : Verdict) → SameRest core (with_verdict from cut verdict core)
+rest_kept core from cut PassedOver = record { conf = refl; greatest = refl; stopped = refl }
+rest_kept core from cut (LoggedIn session None) = record { conf = refl; greatest = refl; stopped = refl }
+rest_kept core from cut (LoggedIn session (Some answer)) = record { conf = refl; greatest = refl; stopped = refl }
+rest_kept core from cut verdict = record { conf = refl; greatest = refl; stopped = refl }
 
 -- a link comes, by whichever door
 module _ (core : CoreMeaning) (t : Trace) (walks : Walks core t) (k : ℕ) (from : Addr) (rising : Rises 0 (numbers core.seen.links) core.seen.greatest) (above : core.seen.greatest < k) where
@@ -240,16 +264,16 @@ module _ (core : CoreMeaning) (t : Trace) (walks : Walks core t) (k : ℕ) (from
       → Walks (record core { seen = admitted_in (setting_of core.conf) outcome k from core.seen }) (Opened (AtListener listener) outcome k from ∷ t)
   walks_admitted listener NoPort =
       let follows = follows_unserved (setting_of core.conf) core.seen t walks.follows (AtListener listener) k core.seen.greatest from rising above in
-      record { follows = record { moment = follows.moment; reach = follows.reach; turned = follows.turned; closing = follows.closing; links = follows.links; tables = follows.tables; took = follows.took; totals = follows.totals }; going = walks.going; lasts = walks.lasts }
+      record { follows = record { moment = follows.moment; reach = follows.reach; turned = follows.turned; closing = follows.closing; links = follows.links; tables = follows.tables; took = follows.took; downs = follows.downs; totals = follows.totals }; going = walks.going; lasts = walks.lasts }
   walks_admitted listener TurnedAway =
       let follows = follows_turned_away (setting_of core.conf) core.seen t walks.follows (AtListener listener) k core.seen.greatest from rising above in
-      record { follows = record { moment = follows.moment; reach = follows.reach; turned = follows.turned; closing = follows.closing; links = follows.links; tables = follows.tables; took = follows.took; totals = follows.totals }; going = walks.going; lasts = walks.lasts }
+      record { follows = record { moment = follows.moment; reach = follows.reach; turned = follows.turned; closing = follows.closing; links = follows.links; tables = follows.tables; took = follows.took; downs = follows.downs; totals = follows.totals }; going = walks.going; lasts = walks.lasts }
   walks_admitted listener NotAsked =
       let follows = follows_unasked (setting_of core.conf) core.seen t walks.follows (AtListener listener) k core.seen.greatest from rising above in
-      record { follows = record { moment = follows.moment; reach = follows.reach; turned = follows.turned; closing = follows.closing; links = follows.links; tables = follows.tables; took = follows.took; totals = follows.totals }; going = walks.going; lasts = walks.lasts }
+      record { follows = record { moment = follows.moment; reach = follows.reach; turned = follows.turned; closing = follows.closing; links = follows.links; tables = follows.tables; took = follows.took; downs = follows.downs; totals = follows.totals }; going = walks.going; lasts = walks.lasts }
   walks_admitted listener (Served kind) =
       let follows = follows_opened (setting_of core.conf) core.seen t walks.follows (AtListener listener) kind k core.seen.greatest from rising above in
-      record { follows = record { moment = follows.moment; reach = follows.reach; turned = follows.turned; closing = follows.closing; links = follows.links; tables = follows.tables; took = follows.took; totals = follows.totals }; going = walks.going; lasts = walks.lasts }
+      record { follows = record { moment = follows.moment; reach = follows.reach; turned = follows.turned; closing = follows.closing; links = follows.links; tables = follows.tables; took = follows.took; downs = follows.downs; totals = follows.totals }; going = walks.going; lasts = walks.lasts }
 
   pub walks_opened : (listener : ℕ) (outcome : Admission) → outcome ≡ admitted core.conf.max_clients (clients_in core.seen.links) (kind_at (setting_of core.conf) listener)
       → Walks (record core { seen = admitted_in (setting_of core.conf) outcome k from core.seen }) (Opened (AtListener listener) (admission (setting_of core.conf) t listener) k from ∷ t)
@@ -265,10 +289,10 @@ module _ (core : CoreMeaning) (t : Trace) (walks : Walks core t) (k : ℕ) (from
       → Walks (record core { seen = admitted_in (setting_of core.conf) (joined_outcome uplink asked) k from (joined_core uplink) }) (Opened (ByUplink uplink) (joined_outcome uplink asked) k from ∷ t)
   walks_by uplink true =
       let follows = follows_opened (setting_of core.conf) core.seen t walks.follows (ByUplink uplink) (Uplink uplink) k core.seen.greatest from rising above in
-      record { follows = record { moment = follows.moment; reach = follows.reach; turned = follows.turned; closing = follows.closing; links = follows.links; tables = follows.tables; took = follows.took; totals = follows.totals }; going = walks.going; lasts = walks.lasts }
+      record { follows = record { moment = follows.moment; reach = follows.reach; turned = follows.turned; closing = follows.closing; links = follows.links; tables = follows.tables; took = follows.took; downs = follows.downs; totals = follows.totals }; going = walks.going; lasts = walks.lasts }
   walks_by uplink false =
       let follows = follows_unasked (setting_of core.conf) core.seen t walks.follows (ByUplink uplink) k core.seen.greatest from rising above in
-      record { follows = record { moment = follows.moment; reach = follows.reach; turned = follows.turned; closing = follows.closing; links = follows.links; tables = follows.tables; took = follows.took; totals = follows.totals }; going = walks.going; lasts = walks.lasts }
+      record { follows = record { moment = follows.moment; reach = follows.reach; turned = follows.turned; closing = follows.closing; links = follows.links; tables = follows.tables; took = follows.took; downs = follows.downs; totals = follows.totals }; going = walks.going; lasts = walks.lasts }
 
   pub walks_joined : (uplink : ℕ) (asked : Bool) → asked ≡ (acts_at (up.Joined uplink k) core.seen.moment core.seen.reach.uplinks).login
       → Walks (record core { seen = admitted_in (setting_of core.conf) (joined_outcome uplink asked) k from (joined_core uplink) }) (Opened (ByUplink uplink) (joined_admission (setting_of core.conf) t uplink k) k from ∷ t)
@@ -317,6 +341,7 @@ walks_no_end core t walks number links heard reach dead new forgotten reached =
         links = follows.links;
         tables = record { window = follows.tables.window; stations = follows.tables.stations; heard = remembers_no_end core.seen.heard t number dead follows.tables.heard };
         took = follows.took;
+        downs = follows.downs;
         totals = follows.totals;
       };
       going = walks.going;

@@ -15,16 +15,22 @@ use Rattle.aprs_history.specs.declared.verdicts.FilterAnswer.{FilterAnswer}
 use Rattle.aprs_history.specs.declared.verdicts.FilterAnswer.TheVariants.{Active, Denied}
 use Rattle.aprs_base.specs.Held.{held_after}
 use Rattle.aprs_base.specs.declared.texts.Addr.{Addr}
+use Rattle.std.specs.Option.{option_or}
 use Rattle.aprs_base.specs.declared.cutting.Cut.{Cut}
+use Rattle.aprs_base.specs.declared.cutting.Cut.TheVariants as cut
+use Rattle.aprs_base.specs.declared.packets.PortKind.{PortKind}
 use Rattle.aprs_base.specs.declared.packets.Parts.{Parts}
 use Rattle.aprs_base.specs.declared.packets.Source.{Source}
+use Rattle.aprs_base.specs.declared.packets.Source.TheVariants as source
 use Rattle.aprs_history.specs.declared.verdicts.Session.{Session}
 use Rattle.aprs_history.specs.declared.verdicts.LinkKind.{LinkKind}
 use Rattle.aprs_history.specs.declared.verdicts.LinkKind.TheVariants.{Client, Uplink}
 use Rattle.aprs_history.specs.declared.verdicts.Refusal.{Refusal}
 use Rattle.aprs_history.specs.declared.verdicts.Refusal.TheVariants as refusal
+use Rattle.aprs_history.specs.declared.verdicts.Verdict.{Verdict}
 use Rattle.aprs_history.specs.declared.verdicts.Verdict.TheVariants.{PassedOver, Refused, LoggedIn, Filtered, Accepted}
 use Rattle.aprs_history.specs.Dates.{comment_text}
+use Rattle.aprs_history.specs.Downs.{DownSeen, asked_addr, asked_port, down_by, down_of, downs_in, is_at_line_start, link_down, may_be_down, most_downs, one_if, source_down}
 use Rattle.aprs_history.specs.Setting.{Setting}
 use Rattle.aprs_history.specs.Scenes.{accepted_of, packet_of}
 use Rattle.heard_routing.specs.Heard.{is_among}
@@ -41,7 +47,7 @@ use Rattle.served_links.specs.Pending.{with_line, pending_bytes}
 use Rattle.served_links.specs.declared.link.SourcePlace.{SourcePlace}
 use Rattle.served_links.specs.Changes.{is_shown_at, passes_packet, wants_packet, at_link, at_moment, with_room, when_gone, with_taken, with_bytes, with_text, with_session, with_date, with_packet, with_places, with_shown, new_link_seen}
 use Rattle.served_links.specs.Links.{picked_at}
-use Rattle.server_core.specs.LinkSteps.{with_answer}
+use Rattle.server_core.specs.LinkSteps.{new_down, with_answer}
 use Rattle.server_core.proofs.SightLemmas.{friends_later, login_later, places_kept, told_at}
 use Rattle.served_links.proofs.OverLemmas.{over_unseen}
 
@@ -101,7 +107,7 @@ queued-bytes (line ∷ lines) taken le =
     (λ under. rw under refl)
     (cases_Bool (nat_le (length line + 2) taken))
 
-not_below : (a b : ℕ) → b ≤ a → nat_lt a b ≡ false
+pub not_below : (a b : ℕ) → b ≤ a → nat_lt a b ≡ false
 not_below a b le = false_from_ne_true _ (λ lt. let l : a < b = ltb-true a b lt in absurd (omega arith))
 
 is_below : (a b : ℕ) → a < b → nat_lt a b ≡ true
@@ -178,10 +184,10 @@ queue_grows base accepted now session terms text taken le line =
     (cases_Bool text.over)
 
 -- what a login with an answer changes
-abbrev pub with_login : List PacketSeen → ℕ → Session → List ℕ → Option FilterAnswer → LinkSeen → LinkSeen
-with_login accepted now session reply None link = with_session session (sighting accepted now session.call) reply link
-with_login accepted now session reply (Some answer) link =
-    with_answer (friend_in accepted now) answer (with_session session (sighting accepted now session.call) reply link)
+abbrev pub with_login : List PacketSeen → ℕ → Session → Option DownSeen → List ℕ → Option FilterAnswer → LinkSeen → LinkSeen
+with_login accepted now session down reply None link = with_session session down (sighting accepted now session.call) reply link
+with_login accepted now session down reply (Some answer) link =
+    with_answer (friend_in accepted now) answer (with_session session down (sighting accepted now session.call) reply link)
 
 -- a line more leaves a link's number, login and filter
 pub text_number : (line : List ℕ) (link : LinkSeen) → (with_text line link).link ≡ link.link
@@ -256,26 +262,29 @@ module _ (base : LinkSeen) (accepted : List PacketSeen) (now : ℕ) (session : O
     answer_shape answer false = passed_shape false
 
     -- a login, perhaps with a filter
-    login_shape : (new : Session) (reply : List ℕ) (answer : Option FilterAnswer) (own : Bool)
-        → keeping base (accepted ++ []) now (if own then Some new else session) (if own then filter_after (LoggedIn new answer) terms else terms)
+    login_shape : (new : Session) (down : Option DownSeen) (reply : List ℕ) (answer : Option FilterAnswer) (own : Bool)
+        → keeping (record base { down = if own then option_or down base.down else base.down }) (accepted ++ []) now (if own then Some new else session) (if own then filter_after (LoggedIn new answer) terms else terms)
         (with_text_lines taken (if own then reply_of reply ∷ login_filter_reply answer else []) text) taken
-        ≡ (if own then with_login accepted now new reply answer kept else kept)
-    login_shape new reply None true =
+        ≡ (if own then with_login accepted now new down reply answer kept else kept)
+    login_shape new down reply None true =
+        let base = record base { down = option_or down base.down } in
         ap (λ packets. keeping base packets now (Some new) terms (with_text_line taken (reply_of reply) text) taken) (append-nil accepted)
         ∙ queue_grows base accepted now (Some new) terms text taken le (reply_of reply)
-    login_shape new reply (Some (Active others line)) true =
+    login_shape new down reply (Some (Active others line)) true =
+        let base = record base { down = option_or down base.down } in
         let told = with_text_line taken (reply_of reply) text in
         ap (λ packets. keeping base packets now (Some new) others (with_text_line taken (reply_of line) told) taken) (append-nil accepted)
         ∙ queue_grows base accepted now (Some new) others told taken (text_grows taken (reply_of reply) text taken le) (reply_of line)
         ∙ ap (with_text line) (queue_grows base accepted now (Some new) others text taken le (reply_of reply)
         ∙ sym (filter_then_text others (map (friend_in accepted now) others) reply (keeping base accepted now (Some new) terms text taken)))
-    login_shape new reply (Some (Denied why)) true =
+    login_shape new down reply (Some (Denied why)) true =
+        let base = record base { down = option_or down base.down } in
         let line = filter_reply (Denied why) in
         let told = with_text_line taken (reply_of reply) text in
         ap (λ packets. keeping base packets now (Some new) terms (with_text_line taken (reply_of line) told) taken) (append-nil accepted)
         ∙ queue_grows base accepted now (Some new) terms told taken (text_grows taken (reply_of reply) text taken le) (reply_of line)
         ∙ ap (with_text line) (queue_grows base accepted now (Some new) terms text taken le (reply_of reply))
-    login_shape new reply answer false = passed_shape false
+    login_shape new down reply answer false = passed_shape false
 
     -- a packet that a link takes
     wanted_shape : (packet : PacketSeen) → packet.moment ≡ now
@@ -305,6 +314,33 @@ module _ (base : LinkSeen) (accepted : List PacketSeen) (now : ℕ) (session : O
     packet_shape packet false true at = wanted_shape packet at
     packet_shape packet true false at = places_shape base accepted now session terms text taken packet at
     packet_shape packet false false at = places_shape base accepted now session terms text taken packet at
+
+-- ---- downlinks
+
+abbrev pub asks : Verdict → Bool
+asks (LoggedIn session answer) = true
+asks verdict = false
+
+-- nothing but a login asks for a port
+no_port : (cut : Cut) (verdict : Verdict) → asks verdict ≡ false → asked_port cut verdict ≡ None
+no_port cut.Long verdict quiet = refl
+no_port (cut.Line line) (LoggedIn session answer) quiet = absurd (true≢false quiet)
+no_port (cut.Line line) PassedOver quiet = refl
+no_port (cut.Line line) (Refused why) quiet = refl
+no_port (cut.Line line) (Filtered answer) quiet = refl
+no_port (cut.Line line) (Accepted parts text) quiet = refl
+
+either_way : {X : Type 0} (b : Bool) (x : X) → (if b then x else x) ≡ x
+either_way true x = refl
+either_way false x = refl
+
+asks_nothing : (downs : List PortKind) (opening : Option Opening) → asked_addr downs opening None ≡ None
+asks_nothing downs None = refl
+asks_nothing downs (Some opening) = either_way (may_be_down downs opening.kind) None
+
+down_or : (number : ℕ) (asked : Option Addr) (before : Option DownSeen) → down_by number asked before ≡ option_or (new_down number asked) before
+down_or number None before = refl
+down_or number (Some to) before = refl
 
 -- ---- what there is to keep of each link, one entry later
 
@@ -359,13 +395,31 @@ module _ (s : Setting) where
     mine = place_kept (text_to s t j).over (login_in (accepted_of t) now (session_of t j));
   }) same
 
+  -- where a line is no login, no link becomes a downlink
+  unasked_down : (t : Trace) (from : Source) (cut : Cut) (verdict : Verdict) → asks verdict ≡ false → source_down s t (downs_in s t) from (asked_port cut verdict) ≡ None
+  unasked_down t (source.Link k) cut verdict quiet =
+      let free = nat_lt (downs_in s t) most_downs && is_at_line_start s t k in
+      ap (link_down s t (downs_in s t) k) (no_port cut verdict quiet) ∙ ap (asked_addr s.downs (opening_of t k)) (either_way free None) ∙ asks_nothing s.downs (opening_of t k)
+  unasked_down t from cut verdict quiet = refl
+
+  quiet_down : (t : Trace) (from : Source) (cut : Cut) (verdict : Verdict) (j : ℕ) → asks verdict ≡ false → down_of s (Said from cut verdict ∷ t) j ≡ down_of s t j
+  quiet_down t from cut verdict j quiet =
+      ap (λ asked. if is_from j from then down_by (downs_in s t) asked (down_of s t j) else down_of s t j) (unasked_down t from cut verdict quiet) ∙ either_way (is_from j from) (down_of s t j)
+
+  pub quiet_downs : (t : Trace) (from : Source) (cut : Cut) (verdict : Verdict) → asks verdict ≡ false → downs_in s (Said from cut verdict ∷ t) ≡ downs_in s t
+  quiet_downs t from cut verdict quiet =
+      let before = downs_in s t in
+      let same : before + 0 ≡ before = omega arith in
+      ap (λ asked. before + one_if asked) (unasked_down t from cut verdict quiet) ∙ same
+
   -- a line that is refused without a reply, and one with a reply
   pub refused_seen : (t : Trace) (from : Source) (cut : Cut) (why : Refusal) (j : ℕ) → refused_lines t from why j ≡ (if is_from j from then reply_lines (refusal_reply why) else []) → None ≡ refusal_reply why
       → link_seen s (Said from cut (Refused why) ∷ t) j ≡ link_seen s t j
   unfolding link_seen
   refused_seen t from cut why j plain none =
       let base = link_seen s t j in
-      ap (λ lines. keeping base (accepted_of t ++ []) (moment_of t) (if is_from j from then session_of t j else session_of t j) (if is_from j from then filter_of t j else filter_of t j)
+      ap (λ down. record (link_seen s (Said from cut (Refused why) ∷ t) j) { down = down }) (quiet_down t from cut (Refused why) j refl)
+      ∙ ap (λ lines. keeping base (accepted_of t ++ []) (moment_of t) (if is_from j from then session_of t j else session_of t j) (if is_from j from then filter_of t j else filter_of t j)
       (with_text_lines (taken_by t j) lines (text_to s t j)) (taken_by t j)) (plain ∙ ap (λ reply. if is_from j from then reply_lines reply else []) (sym none))
       ∙ quiet_shape base (accepted_of t) (moment_of t) (session_of t j) (filter_of t j) (text_to s t j) (taken_by t j) (is_from j from)
 
@@ -375,7 +429,8 @@ module _ (s : Setting) where
   unfolding link_seen
   replied_seen t took from cut why line j plain some =
       let base = link_seen s t j in
-      ap (λ lines. keeping base (accepted_of t ++ []) (moment_of t) (if is_from j from then session_of t j else session_of t j) (if is_from j from then filter_of t j else filter_of t j)
+      ap (λ down. record (link_seen s (Said from cut (Refused why) ∷ t) j) { down = down }) (quiet_down t from cut (Refused why) j refl)
+      ∙ ap (λ lines. keeping base (accepted_of t ++ []) (moment_of t) (if is_from j from then session_of t j else session_of t j) (if is_from j from then filter_of t j else filter_of t j)
       (with_text_lines (taken_by t j) lines (text_to s t j)) (taken_by t j)) (plain ∙ ap (λ reply. if is_from j from then reply_lines reply else []) (sym some))
       ∙ reply_shape base (accepted_of t) (moment_of t) (session_of t j) (filter_of t j) (text_to s t j) (taken_by t j) (took j) line (is_from j from)
 
@@ -393,26 +448,38 @@ module _ (s : Setting) where
       let base = link_seen s t j in
       let packet = packet_of from (moment_of t) parts line in
       let shows = shows_duplicates (opening_of t j) (session_of t j) in
-      ap (λ b. keeping base (accepted_of t ++ []) (moment_of t) (if is_from j from then session_of t j else session_of t j) (if is_from j from then filter_of t j else filter_of t j)
+      let refused = Refused (refusal.Duplicate parts line) in
+      ap (λ down. record (link_seen s (Said from cut refused ∷ t) j) { down = down }) (quiet_down t from cut refused j refl)
+      ∙ ap (λ b. keeping base (accepted_of t ++ []) (moment_of t) (if is_from j from then session_of t j else session_of t j) (if is_from j from then filter_of t j else filter_of t j)
       (with_text_lines (taken_by t j) (if b then shown packet ∷ [] else []) (text_to s t j)) (taken_by t j)) (shows_seen t from j live)
       ∙ shown_shape base (accepted_of t) (moment_of t) (session_of t j) (filter_of t j) (text_to s t j) (taken_by t j) (took j) packet (is_from j from) (not (is_from j from) && shows)
 
   pub passed_seen : (t : Trace) (from : Source) (cut : Cut) (j : ℕ) → link_seen s (Said from cut PassedOver ∷ t) j ≡ link_seen s t j
   unfolding link_seen
-  passed_seen t from cut j = passed_shape (link_seen s t j) (accepted_of t) (moment_of t) (session_of t j) (filter_of t j) (text_to s t j) (taken_by t j) (is_from j from)
+  passed_seen t from cut j =
+      ap (λ down. record (link_seen s (Said from cut PassedOver ∷ t) j) { down = down }) (quiet_down t from cut PassedOver j refl)
+      ∙ passed_shape (link_seen s t j) (accepted_of t) (moment_of t) (session_of t j) (filter_of t j) (text_to s t j) (taken_by t j) (is_from j from)
 
   pub answered_seen : (t : Trace) → TookNoMore s t → (from : Source) (cut : Cut) (answer : FilterAnswer) (j : ℕ)
       → link_seen s (Said from cut (Filtered answer) ∷ t) j ≡ (if is_from j from then with_answer (friend_in (accepted_of t) (moment_of t)) answer (link_seen s t j) else link_seen s t j)
   unfolding link_seen
   answered_seen t took from cut answer j =
-      answer_shape (link_seen s t j) (accepted_of t) (moment_of t) (session_of t j) (filter_of t j) (text_to s t j) (taken_by t j) (took j) answer (is_from j from)
+      ap (λ down. record (link_seen s (Said from cut (Filtered answer) ∷ t) j) { down = down }) (quiet_down t from cut (Filtered answer) j refl)
+      ∙ answer_shape (link_seen s t j) (accepted_of t) (moment_of t) (session_of t j) (filter_of t j) (text_to s t j) (taken_by t j) (took j) answer (is_from j from)
+
+  -- the downlink that a link becomes by what is said
+  abbrev pub down_said : Trace → Source → Cut → Verdict → Option DownSeen
+  down_said t from cut verdict = new_down (downs_in s t) (source_down s t (downs_in s t) from (asked_port cut verdict))
 
   pub login_seen : (t : Trace) → TookNoMore s t → (from : Source) (cut : Cut) (session : Session) (answer : Option FilterAnswer) (j : ℕ)
       → link_seen s (Said from cut (LoggedIn session answer) ∷ t) j
-      ≡ (if is_from j from then with_login (accepted_of t) (moment_of t) session (login_reply s.server session) answer (link_seen s t j) else link_seen s t j)
+      ≡ (if is_from j from then with_login (accepted_of t) (moment_of t) session (down_said t from cut (LoggedIn session answer)) (login_reply s.server session) answer (link_seen s t j) else link_seen s t j)
   unfolding link_seen
   login_seen t took from cut session answer j =
-      login_shape (link_seen s t j) (accepted_of t) (moment_of t) (session_of t j) (filter_of t j) (text_to s t j) (taken_by t j) (took j) session (login_reply s.server session) answer (is_from j from)
+      let said = LoggedIn session answer in
+      let asked = source_down s t (downs_in s t) from (asked_port cut said) in
+      ap (λ down. record (link_seen s (Said from cut said ∷ t) j) { down = if is_from j from then down else down_of s t j }) (down_or (downs_in s t) asked (down_of s t j))
+      ∙ login_shape (link_seen s t j) (accepted_of t) (moment_of t) (session_of t j) (filter_of t j) (text_to s t j) (taken_by t j) (took j) session (down_said t from cut said) (login_reply s.server session) answer (is_from j from)
 
   -- the message rule says nothing of uplinks
   unasked_same : (opening : Option Opening) (named submitted x y : Bool) → is_client_link opening ≡ false → opening_wants opening named submitted x ≡ opening_wants opening named submitted y
@@ -473,7 +540,8 @@ module _ (s : Setting) where
       let base = link_seen s t j in
       let packet = packet_of from (moment_of t) parts line in
       let asked = wants_packet packet (source_in t from parts) hearers owed base in
-      ap (λ text. keeping base (accepted_of t ++ packet ∷ []) (moment_of t) (if is_from j from then session_of t j else session_of t j) (if is_from j from then filter_of t j else filter_of t j)
+      ap (λ down. record (link_seen s (Said from cut (Accepted parts line) ∷ t) j) { down = down }) (quiet_down t from cut (Accepted parts line) j refl)
+      ∙ ap (λ text. keeping base (accepted_of t ++ packet ∷ []) (moment_of t) (if is_from j from then session_of t j else session_of t j) (if is_from j from then filter_of t j else filter_of t j)
       text (taken_by t j)) (copies_seen t from parts line hearers owed j live heard due (relayed packet))
       ∙ packet_shape base (accepted_of t) (moment_of t) (session_of t j) (filter_of t j) (text_to s t j) (taken_by t j) (took j) packet (is_from j from) asked refl
 

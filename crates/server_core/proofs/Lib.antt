@@ -1,4 +1,5 @@
 pub mod AcceptedLemmas
+pub mod ConfLemmas
 pub mod CoreLemmas
 pub mod CountLemmas
 pub mod FollowLemmas

@@ -1,6 +1,6 @@
 -- Whole rounds: the history with a round's events, its trace, and the acts that are due after it.
 use Rattle.std.specs.Bool.{⊤}
-use Rattle.std.proofs.Common.{◌≡◌, ℕ, ◌+◌, ◌==◌, nat_lt, length, true, false, not, ◌&&◌, ◌||◌, List, [], ◌∷◌, ◌++◌, map, filter, refl, sym, ap, ◌∙◌, arith, if◌then◌else◌}
+use Rattle.std.proofs.Common.{◌≡◌, ℕ, ◌+◌, ◌==◌, nat_lt, length, true, false, is_some, not, ◌&&◌, ◌||◌, List, [], ◌∷◌, ◌++◌, map, filter, refl, sym, ap, ◌∙◌, arith, if◌then◌else◌}
 use Rattle.std.proofs.Math.Bool.{or-false}
 use Rattle.std.proofs.lemmas.Bool.{and_parts, eqb-true, false_from_ne_true, not-true, or_parts, true≢false, false≢true}
 use Rattle.aprs_base.specs.Outside.{new_link}
@@ -8,6 +8,7 @@ use Rattle.aprs_base.specs.declared.events.Event.{Event}
 use Rattle.aprs_base.specs.declared.events.Event.TheVariants as event
 use Rattle.aprs_base.specs.declared.events.Sent.TheVariants as sent
 use Rattle.aprs_base.specs.declared.events.Happening.TheVariants as did
+use Rattle.aprs_history.specs.Downs.{down_of}
 use Rattle.aprs_history.specs.Setting.{Setting}
 use Rattle.aprs_history.specs.Trace.{Trace, Ended, stopped_links, served_links, Entry, stopped_link}
 use Rattle.aprs_history.specs.Links.{is_blocked, taken_by}
@@ -107,7 +108,7 @@ history_going s (happening ∷ h) no_stop = history_going s h no_stop
 module _ (s : Setting) (core : CoreSeen) (t : Trace) (follows : Follows s core t) where
   ready_seen : (k : ℕ) → is_ready (link_seen s t k) ≡ is_offered s t k
   unfolding link_seen
-  ready_seen k = ap (λ b. not (is_blocked t k) && b)
+  ready_seen k = ap (λ b. (is_some (down_of s t k) || not (is_blocked t k)) && b)
       (ap (λ bytes. nat_lt 0 (length bytes)) (queued-bytes (lines_of s t k) (taken_by t k) (follows.took k)) ∙ left_over (taken_by t k) (text_bytes (lines_of s t k)))
 
   pub offers_are : map number_of (filter is_ready core.links) ≡ offered_links s t

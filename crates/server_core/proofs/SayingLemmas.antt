@@ -42,11 +42,11 @@ module _ (from : Source) (scene : Setting → Trace → Scene) (Speaks : Trace �
   -- one line more, which meets by what is kept the scene that it meets by the trace
   pub said_next : (at : CoreMeaning → Scene) (start core new : CoreMeaning) (cuts : List Cut) (i : ℕ) (said : Cut) → i < length cuts → said ≡ get_or cuts i said → (start_lines lines new_lines : List JournalLineSeen)
       → (0 < length cuts → (t : Trace) → Walks core t → Speaks t → IsSaidBy t from × (at core ≡ scene (setting_of core.conf) t)) → ((t : Trace) (verdict : Verdict) → Speaks t → Speaks (Said from said verdict ∷ t))
-      → new ≡ with_verdict from (verdict_of (at core) said) core → new_lines ≡ lines ++ said_lines core from (verdict_of (at core) said)
+      → new ≡ with_verdict from said (verdict_of (at core) said) core → new_lines ≡ lines ++ said_lines core from (verdict_of (at core) said)
       → SaidSoFar start core cuts (drop i cuts) start_lines lines → SaidSoFar start new cuts (drop (i + 1) cuts) start_lines new_lines
   said_next at start core new cuts i said within item start_lines lines new_lines meets goes becomes told so_far =
       let verdict = verdict_of (at core) said in (
-        same_then start core new so_far.0 (subst (SameRest core) (sym becomes) (rest_kept core from verdict)),
+        same_then start core new so_far.0 (subst (SameRest core) (sym becomes) (rest_kept core from said verdict)),
         λ first walks speaks.
             let s = setting_of start.conf in
             let here = so_far.1 first walks speaks in

@@ -1,5 +1,5 @@
 -- The listeners of the configuration that is served: those that have a number, then that for submissions by HTTP and that of the
--- status page, and last that of the peer group.
+-- status page, that of the peer group, and last those that lines are only cast from.
 use Rattle.std.proofs.Common.{◌≡◌, ◌≤◌, ◌+◌, ℕ, suc, List, [], ◌∷◌, ◌++◌, Option, None, Some, length, map, refl, sym, ap, ◌∙◌, arith, append_assoc, slice_get}
 use Rattle.std.specs.Prelude.{codes}
 use Rattle.aprs_base.specs.declared.packets.ListenSpec.{ListenSpec}
@@ -11,7 +11,8 @@ use Rattle.aprs_conf.specs.Sound.{IsSound}
 use Rattle.aprs_conf.specs.declared.types.Listen.{Listen}
 use Rattle.aprs_conf.proofs.ServedLemmas.{numbered-append, numbered_front, numbered_short, served_same, served_sound}
 use Rattle.aprs_history.specs.Setting.{kind_at, kind_of_spec}
-use Rattle.server_core.specs.Meaning.{group_listens, listeners, numbered, setting_of}
+use Rattle.server_core.specs.Meaning.{casters, group_listens, numbered, serving, setting_of}
+use Rattle.server_core.proofs.ConfLemmas.{get_some, kind_serving}
 
 -- those for requests by HTTP
 abbrev fronts : Option Addr → Option Addr → List ListenSpec
@@ -21,7 +22,7 @@ numbered_fronts : (upload page : Option Addr) → numbered (http_listens upload 
 numbered_fronts None page = numbered_front (codes "status") page
 numbered_fronts (Some at) page = ap (λ specs. record { kind = kind.Submit; at = at } ∷ specs) (numbered_front (codes "status") page)
 
-pub served_listens : (conf : ConfSeen) → listeners (served_conf conf) ≡ numbered conf.listens ++ (fronts conf.upload conf.page ++ group_listens conf.group)
+pub served_listens : (conf : ConfSeen) → serving (served_conf conf) ≡ numbered conf.listens ++ (fronts conf.upload conf.page ++ group_listens conf.group)
 served_listens conf =
     let more = http_listens conf.upload ++ status_listens conf.page in
     ap (λ specs. specs ++ group_listens conf.group) (numbered-append conf.listens more ∙ ap (λ specs. numbered conf.listens ++ specs) (numbered_fronts conf.upload conf.page))
@@ -38,9 +39,9 @@ past (y ∷ xs) more n =
     ap (slice_get (y ∷ xs ++ more)) same ∙ past xs more n
 
 -- at its number is that for submissions by HTTP
-pub served_upload : (conf : ConfSeen) (number : ℕ) (at : Addr) → upload_number conf ≡ Some number → conf.upload ≡ Some at
-    → slice_get (setting_of (served_conf conf)).listens number ≡ Some (record { kind = kind.Submit; at = at })
-served_upload conf number at numbered_so is =
+serving_upload : (conf : ConfSeen) (number : ℕ) (at : Addr) → upload_number conf ≡ Some number → conf.upload ≡ Some at
+    → slice_get (serving (served_conf conf)) number ≡ Some (record { kind = kind.Submit; at = at })
+serving_upload conf number at numbered_so is =
     ap (λ specs. slice_get specs number) (served_listens conf ∙ ap (λ upload. numbered conf.listens ++ (fronts upload conf.page ++ group_listens conf.group)) is)
     ∙ ap (λ n. slice_get (numbered conf.listens ++ (fronts (Some at) conf.page ++ group_listens conf.group)) n) (sym (same conf.upload is numbered_so))
     ∙ behind (numbered conf.listens) (record { kind = kind.Submit; at = at }) (fronts None conf.page ++ group_listens conf.group)
@@ -49,14 +50,18 @@ served_upload conf number at numbered_so is =
     same None none so = cc
     same (Some x) some so = cc
 
+pub served_upload : (conf : ConfSeen) (number : ℕ) (at : Addr) → upload_number conf ≡ Some number → conf.upload ≡ Some at
+    → slice_get (setting_of (served_conf conf)).listens number ≡ Some (record { kind = kind.Submit; at = at })
+served_upload conf number at numbered_so is = get_some (serving (served_conf conf)) (casters (served_conf conf)) number (record { kind = kind.Submit; at = at }) (serving_upload conf number at numbered_so is)
+
 -- which takes submissions
 pub served_kind : (conf : ConfSeen) (number : ℕ) (at : Addr) → upload_number conf ≡ Some number → conf.upload ≡ Some at → kind_at (setting_of (served_conf conf)) number ≡ Some kind.Submit
-served_kind conf number at numbered_so is = ap kind_of_spec (served_upload conf number at numbered_so is)
+served_kind conf number at numbered_so is = kind_serving (served_conf conf) number ∙ ap kind_of_spec (serving_upload conf number at numbered_so is)
 
 -- at its number is that of the status page
-pub served_page : (conf : ConfSeen) (number : ℕ) (at : Addr) → page_number conf ≡ Some number → conf.page ≡ Some at
-    → slice_get (setting_of (served_conf conf)).listens number ≡ Some (record { kind = kind.Submit; at = at })
-served_page conf number at numbered_so is =
+serving_page : (conf : ConfSeen) (number : ℕ) (at : Addr) → page_number conf ≡ Some number → conf.page ≡ Some at
+    → slice_get (serving (served_conf conf)) number ≡ Some (record { kind = kind.Submit; at = at })
+serving_page conf number at numbered_so is =
     let all = fronts conf.upload (Some at) ++ group_listens conf.group in
     ap (λ specs. slice_get specs number) (served_listens conf ∙ ap (λ page. numbered conf.listens ++ (fronts conf.upload page ++ group_listens conf.group)) is)
     ∙ ap (λ n. slice_get (numbered conf.listens ++ all) n) (sym (same conf.page is numbered_so))
@@ -71,9 +76,13 @@ served_page conf number at numbered_so is =
     last None = refl
     last (Some x) = refl
 
+pub served_page : (conf : ConfSeen) (number : ℕ) (at : Addr) → page_number conf ≡ Some number → conf.page ≡ Some at
+    → slice_get (setting_of (served_conf conf)).listens number ≡ Some (record { kind = kind.Submit; at = at })
+served_page conf number at numbered_so is = get_some (serving (served_conf conf)) (casters (served_conf conf)) number (record { kind = kind.Submit; at = at }) (serving_page conf number at numbered_so is)
+
 -- which has the same kind
 pub served_page_kind : (conf : ConfSeen) (number : ℕ) (at : Addr) → page_number conf ≡ Some number → conf.page ≡ Some at → kind_at (setting_of (served_conf conf)) number ≡ Some kind.Submit
-served_page_kind conf number at numbered_so is = ap kind_of_spec (served_page conf number at numbered_so is)
+served_page_kind conf number at numbered_so is = kind_serving (served_conf conf) number ∙ ap kind_of_spec (serving_page conf number at numbered_so is)
 
 -- where nothing is asked by HTTP, the setting is that of what was read
 pub served_setting : (conf : ConfSeen) → conf.upload ≡ None → conf.page ≡ None → setting_of (served_conf conf) ≡ setting_of conf

@@ -1,9 +1,10 @@
 -- The walk over a round: what the core keeps follows the trace, entry by entry.
-use Rattle.std.proofs.Common.{◌≡◌, ℕ, ◌+◌, ◌≤◌, ◌<◌, ◌==◌, Bool, true, false, not, ◌||◌, ◌&&◌, List, [], ◌∷◌, ◌++◌, length, map, filter, refl, sym, ap, ◌∙◌, subst, arith, Option, Some, None, ⊎_elim, append-nil, append_assoc, min, cond, if◌then◌else◌}
+use Rattle.std.proofs.Common.{◌≡◌, ℕ, ◌+◌, ◌≤◌, ◌<◌, ◌==◌, Bool, true, false, not, ◌||◌, ◌&&◌, List, [], ◌∷◌, ◌++◌, length, map, filter, nat_lt, refl, sym, ap, ◌∙◌, subst, arith, Option, Some, None, ⊎_elim, append-nil, append_assoc, min, cond, if◌then◌else◌}
 use Rattle.std.proofs.lemmas.Bool.{eqb-true, cases_Bool, false_from_ne_true, true≢false}
 use Rattle.std.proofs.lemmas.List.{map-append}
 use Rattle.std.proofs.lemmas.Simd.{map-map}
 use Rattle.aprs_history.proofs.NumberLemmas.{rises_within}
+use Rattle.std.specs.Option.{option_or}
 use Rattle.aprs_base.specs.Held.{held_after}
 use Rattle.aprs_base.specs.declared.texts.Addr.{Addr}
 use Rattle.aprs_base.specs.declared.cutting.Cut.{Cut}
@@ -25,6 +26,7 @@ use Rattle.uplinks_peers.specs.Uplinks.{UplinksSeen, acts_at, uplinks_after}
 use Rattle.aprs_history.specs.Dials.{casts_of, casts_to, dial_of, joined_by, uplinks_of}
 use Rattle.aprs_history.specs.declared.verdicts.Verdict.{Verdict}
 use Rattle.aprs_history.specs.declared.verdicts.Verdict.TheVariants.{PassedOver, Refused, LoggedIn, Filtered, Accepted}
+use Rattle.aprs_history.specs.Downs.{asked_addr, asked_port, downs_in, is_at_line_start, most_downs, one_if, source_down}
 use Rattle.aprs_history.specs.Setting.{Setting}
 use Rattle.aprs_history.specs.declared.verdicts.Admission.{Admission}
 use Rattle.aprs_history.specs.declared.verdicts.Admission.TheVariants.{NoPort, NotAsked, TurnedAway, Served}
@@ -41,9 +43,9 @@ use Rattle.aprs_history.specs.Counts.{is_duplicate_refusal, is_other_refusal, pu
 use Rattle.aprs_history.specs.Stands.{LinkSeen, CoreSeen, ReachSeen, link_seen, place_kept, reach_of, TookNoMore, Follows, Keeps, Remembers, kept_hearing, kept_promise, window_of}
 use Rattle.aprs_history.specs.Dates.{comment_text}
 use Rattle.aprs_history.specs.History.{end_all, end_each, end_gone, refused_links, refused_reason}
-use Rattle.server_core.specs.LinkSteps.{answer_counted, refusal_counted, with_accepted, with_duplicate, with_refused, at_source, ended_all, with_refusal, forgotten_all, hearers_of, owed_in, receiver_of, after_answer, after_login, after_login_answer, after_packet, after_verdict, found_in, with_answer, with_reply, is_there, is_in_time, passed}
+use Rattle.server_core.specs.LinkSteps.{answer_counted, refusal_counted, with_accepted, with_duplicate, with_refused, at_source, ended_all, with_refusal, forgotten_all, hearers_of, owed_in, receiver_of, after_answer, after_login, after_login_answer, after_login_at, after_packet, after_verdict, found_in, new_down, source_asks, with_answer, with_reply, is_there, is_in_time, passed}
 use Rattle.served_links.specs.Changes.{takes_packet, takes_shown, with_date, with_shown, at_link, at_moment, with_room, when_gone, with_taken, with_bytes, with_text, with_session, with_packet, new_link_seen}
-use Rattle.served_links.specs.Links.{client_at, client_kept, submitted_from, filters_at, filters_kept, is_lost, has_that, numbers, is_another, is_late_link, is_none_of, is_overfull, Rises}
+use Rattle.served_links.specs.Links.{opening_at, opening_kept, starts_line, starts_line_at, client_at, client_kept, submitted_from, filters_at, filters_kept, is_lost, has_that, numbers, is_another, is_late_link, is_none_of, is_overfull, Rises}
 use Rattle.served_links.specs.declared.link.SourcePlace.{SourcePlace}
 use Rattle.served_links.specs.declared.link.Timeouts.{Timeouts}
 use Rattle.aprs_history.proofs.EntryLemmas.{IsSaidBy}
@@ -51,7 +53,7 @@ use Rattle.server_core.proofs.CountLemmas.{accepted_puts, accepted_totals, answe
 use Rattle.server_core.proofs.SightLemmas.{friends_found, sighting_found, source_known}
 use Rattle.server_core.proofs.MemberLemmas.{eqb_turned, member_filtered, member_here, member_later}
 use Rattle.server_core.proofs.HeardLemmas.{Speaks, hearers_are, owed_are, remembers_accepted, remembers_all_ended, remembers_ended, remembers_opened, remembers_unserved, remembers_passed}
-use Rattle.server_core.proofs.FollowLemmas.{picked_missing, picked_seen, answered_seen, map_through, dated_seen, round_seen, text_number, texts_grow, ticked_seen, with_login, roomed_seen, lost_seen, took_seen, brought_seen, refused_seen, replied_seen, passed_seen, login_seen, accepted_seen, opened_seen, new_seen, shown_seen, looked_seen, unjoined_seen, stayed_seen}
+use Rattle.server_core.proofs.FollowLemmas.{picked_missing, picked_seen, answered_seen, map_through, dated_seen, round_seen, text_number, texts_grow, ticked_seen, with_login, roomed_seen, lost_seen, took_seen, brought_seen, refused_seen, replied_seen, passed_seen, login_seen, accepted_seen, opened_seen, new_seen, shown_seen, looked_seen, quiet_downs, unjoined_seen, stayed_seen}
 use Rattle.heard_routing.specs.LastHeard.{still}
 use Rattle.dupe_window.specs.Keys.{key_of}
 use Rattle.dupe_window.specs.Recalled.{recalled}
@@ -73,7 +75,7 @@ pub map_on : {Y : Type 0} (f : ℕ → Y) (h : ℕ → Y) (xs : List ℕ) → ((
 map_on f h xs same = map_members f h [] xs same
 
 -- two steps at one link
-at_twice : (k : ℕ) (g h : LinkSeen → LinkSeen) → ((link : LinkSeen) → (h link).link ≡ link.link) → (link : LinkSeen)
+pub at_twice : (k : ℕ) (g h : LinkSeen → LinkSeen) → ((link : LinkSeen) → (h link).link ≡ link.link) → (link : LinkSeen)
     → at_link k g (at_link k h link) ≡ at_link k (λ l. g (h l)) link
 at_twice k g h keeps link =
     ⊎_elim
@@ -172,7 +174,7 @@ module _ (s : Setting) (core : CoreSeen) (t : Trace) (follows : Follows s core t
       (moment_of (entry ∷ t) ≡ moment_of t) × (turned_links (entry ∷ t) ≡ turned_links t) × (closed_links (entry ∷ t) ≡ closed_links t) × (served_links (entry ∷ t) ≡ served_links t)
       × (accepted_of (entry ∷ t) ≡ accepted_of t) × ((l : ℕ) → is_live (entry ∷ t) l ≡ is_live t l) × ((l : ℕ) → is_client (entry ∷ t) l ≡ is_client t l)
       × ((l : ℕ) (call : List ℕ) → heard_of (entry ∷ t) l call ≡ heard_of t l call) × ((l : ℕ) (sender : List ℕ) → promise_of (entry ∷ t) l sender ≡ promise_of t l sender)
-      × (totals_of s (entry ∷ t) ≡ totals_of s t)
+      × (totals_of s (entry ∷ t) ≡ totals_of s t) × (downs_in s (entry ∷ t) ≡ downs_in s t)
 
   follows_left : (entry : Entry) (reach : ReachSeen) (links : List LinkSeen) → Leaves entry → reach ≡ reach_of s (entry ∷ t) → links ≡ map (link_seen s (entry ∷ t)) (served_links t)
       → TookNoMore s (entry ∷ t) → Follows s (record core { links = links; reach = reach }) (entry ∷ t)
@@ -184,6 +186,7 @@ module _ (s : Setting) (core : CoreSeen) (t : Trace) (follows : Follows s core t
     links = are ∙ ap (map (link_seen s (entry ∷ t))) (sym same.3);
     tables = same_tables (entry ∷ t) same.0 same.4 same.5 same.6 same.7 same.8;
     took = took;
+    downs = follows.downs ∙ sym same.10;
     totals = follows.totals ∙ sym same.9;
   }
 
@@ -198,6 +201,7 @@ module _ (s : Setting) (core : CoreSeen) (t : Trace) (follows : Follows s core t
     links = follows.links ∙ sym (map_on (link_seen s (RoundBegan ∷ t)) (link_seen s t) (served_links t) (λ j member. round_seen s t j));
     tables = same_tables (RoundBegan ∷ t) refl refl (λ l. refl) (λ l. refl) (λ l call. refl) (λ l sender. refl);
     took = follows.took;
+    downs = follows.downs;
     totals = follows.totals;
   }
 
@@ -219,6 +223,7 @@ module _ (s : Setting) (core : CoreSeen) (t : Trace) (follows : Follows s core t
           heard = remembers_passed core.heard t m follows.tables.heard;
         };
         took = follows.took;
+        downs = follows.downs;
         totals = follows.totals;
       }
 
@@ -226,26 +231,26 @@ module _ (s : Setting) (core : CoreSeen) (t : Trace) (follows : Follows s core t
   pub follows_stayed : (m : ℕ) → moment_of (Ticked m ∷ t) ≡ moment_of t → Follows s core (Ticked m ∷ t)
   unfolding totals_of
   follows_stayed m same =
-      follows_left (Ticked m) core.reach core.links (same, refl, refl, refl, refl, λ l. refl, λ l. refl, λ l call. refl, λ l sender. refl, refl) follows.reach
+      follows_left (Ticked m) core.reach core.links (same, refl, refl, refl, refl, λ l. refl, λ l. refl, λ l call. refl, λ l sender. refl, refl, refl) follows.reach
       (follows.links ∙ sym (map_on (link_seen s (Ticked m ∷ t)) (link_seen s t) (served_links t) (λ j member. stayed_seen s t m j same))) follows.took
 
   pub follows_roomed : (k : ℕ) → Follows s (with_links (map (at_link k with_room) core.links) core) (Roomed k ∷ t)
   unfolding totals_of
   follows_roomed k =
-      follows_left (Roomed k) core.reach (map (at_link k with_room) core.links) (refl, refl, refl, refl, refl, λ l. refl, λ l. refl, λ l call. refl, λ l sender. refl, refl) follows.reach
+      follows_left (Roomed k) core.reach (map (at_link k with_room) core.links) (refl, refl, refl, refl, refl, λ l. refl, λ l. refl, λ l call. refl, λ l sender. refl, refl, refl) follows.reach
       (ap (map (at_link k with_room)) follows.links ∙ sym (map_through (link_seen s (Roomed k ∷ t)) (at_link k with_room) (link_seen s t) (roomed_seen s t k) (served_links t))) follows.took
 
   pub follows_lost : (k : ℕ) → Follows s (with_links (map (at_link k when_gone) core.links) core) (Lost k ∷ t)
   unfolding totals_of
   follows_lost k =
-      follows_left (Lost k) core.reach (map (at_link k when_gone) core.links) (refl, refl, refl, refl, refl, λ l. refl, λ l. refl, λ l call. refl, λ l sender. refl, refl) follows.reach
+      follows_left (Lost k) core.reach (map (at_link k when_gone) core.links) (refl, refl, refl, refl, refl, λ l. refl, λ l. refl, λ l call. refl, λ l sender. refl, refl, refl) follows.reach
       (ap (map (at_link k when_gone)) follows.links ∙ sym (map_through (link_seen s (Lost k ∷ t)) (at_link k when_gone) (link_seen s t) (lost_seen s t k) (served_links t))) follows.took
 
   pub follows_took : (k offered n : ℕ) → taken_by t k + n ≤ length (text_bytes (lines_of s t k))
       → Follows s (with_links (map (at_link k (with_taken offered n)) core.links) core) (Took k offered n ∷ t)
   unfolding totals_of
   follows_took k offered n le =
-      follows_left (Took k offered n) core.reach (map (at_link k (with_taken offered n)) core.links) (refl, refl, refl, refl, refl, λ l. refl, λ l. refl, λ l call. refl, λ l sender. refl, refl) follows.reach
+      follows_left (Took k offered n) core.reach (map (at_link k (with_taken offered n)) core.links) (refl, refl, refl, refl, refl, λ l. refl, λ l. refl, λ l call. refl, λ l sender. refl, refl, refl) follows.reach
       (ap (map (at_link k (with_taken offered n))) follows.links
       ∙ sym (map_through (link_seen s (Took k offered n ∷ t)) (at_link k (with_taken offered n)) (link_seen s t) (took_seen s t k offered n) (served_links t))) (took_took s t follows.took k offered n le)
 
@@ -260,7 +265,7 @@ module _ (s : Setting) (core : CoreSeen) (t : Trace) (follows : Follows s core t
   unfolding totals_of
   follows_brought k bytes =
       follows_left (Brought k bytes) (record core.reach { uplinks = uplinks_after (up.Heard k) core.moment core.reach.uplinks })
-      (map (at_link k (with_bytes core.moment (held_after (brought_by t k ++ bytes)))) core.links) (refl, refl, refl, refl, refl, λ l. refl, λ l. refl, λ l call. refl, λ l sender. refl, refl)
+      (map (at_link k (with_bytes core.moment (held_after (brought_by t k ++ bytes)))) core.links) (refl, refl, refl, refl, refl, λ l. refl, λ l. refl, λ l call. refl, λ l sender. refl, refl, refl)
       (stepped_reach (uplinks_after (up.Heard k)))
       (ap (λ m. map (at_link k (with_bytes m (held_after (brought_by t k ++ bytes)))) core.links) follows.moment
       ∙ ap (map (at_link k (with_bytes (moment_of t) (held_after (brought_by t k ++ bytes))))) follows.links
@@ -274,7 +279,7 @@ module _ (s : Setting) (core : CoreSeen) (t : Trace) (follows : Follows s core t
   }) core) (Looked ∷ t)
   unfolding totals_of
   follows_looked =
-      follows_left Looked (record core.reach { uplinks = uplinks_after up.Tick core.moment core.reach.uplinks; dial = (acts_at up.Tick core.moment core.reach.uplinks).dial }) core.links (refl, refl, refl, refl, refl, λ l. refl, λ l. refl, λ l call. refl, λ l sender. refl, refl)
+      follows_left Looked (record core.reach { uplinks = uplinks_after up.Tick core.moment core.reach.uplinks; dial = (acts_at up.Tick core.moment core.reach.uplinks).dial }) core.links (refl, refl, refl, refl, refl, λ l. refl, λ l. refl, λ l call. refl, λ l sender. refl, refl, refl)
       (ap (λ m. record core.reach { uplinks = uplinks_after up.Tick m core.reach.uplinks; dial = (acts_at up.Tick m core.reach.uplinks).dial }) follows.moment
       ∙ ap (λ (reach : ReachSeen). record reach { uplinks = uplinks_after up.Tick (moment_of t) reach.uplinks; dial = (acts_at up.Tick (moment_of t) reach.uplinks).dial }) follows.reach)
       (follows.links ∙ sym (map_on (link_seen s (Looked ∷ t)) (link_seen s t) (served_links t) (λ j member. looked_seen s t j))) follows.took
@@ -282,7 +287,7 @@ module _ (s : Setting) (core : CoreSeen) (t : Trace) (follows : Follows s core t
   pub follows_unjoined : (uplink : ℕ) → Follows s (with_reach (record core.reach { uplinks = uplinks_after (up.Unjoined uplink) core.moment core.reach.uplinks }) core) (Unjoined uplink ∷ t)
   unfolding totals_of
   follows_unjoined uplink =
-      follows_left (Unjoined uplink) (record core.reach { uplinks = uplinks_after (up.Unjoined uplink) core.moment core.reach.uplinks }) core.links (refl, refl, refl, refl, refl, λ l. refl, λ l. refl, λ l call. refl, λ l sender. refl, refl)
+      follows_left (Unjoined uplink) (record core.reach { uplinks = uplinks_after (up.Unjoined uplink) core.moment core.reach.uplinks }) core.links (refl, refl, refl, refl, refl, λ l. refl, λ l. refl, λ l call. refl, λ l sender. refl, refl, refl)
       (stepped_reach (uplinks_after (up.Unjoined uplink)))
       (follows.links ∙ sym (map_on (link_seen s (Unjoined uplink ∷ t)) (link_seen s t) (served_links t) (λ j member. unjoined_seen s t uplink j))) follows.took
 
@@ -310,6 +315,7 @@ module _ (s : Setting) (core : CoreSeen) (t : Trace) (follows : Follows s core t
     links = follows.links ∙ sym (map_on (link_seen s (Said from cut PassedOver ∷ t)) (link_seen s t) (served_links t) (λ j member. passed_seen s t from cut j));
     tables = same_tables (Said from cut PassedOver ∷ t) refl (append-nil (accepted_of t)) (λ l. refl) (λ l. refl) (λ l call. refl) (λ l sender. refl);
     took = took_said s t follows.took from cut PassedOver;
+    downs = follows.downs ∙ sym (quiet_downs s t from cut PassedOver refl);
     totals = follows.totals ∙ sym (quiet_totals s t from cut PassedOver refl refl refl (λ j. refl));
   }
 
@@ -324,6 +330,7 @@ module _ (s : Setting) (core : CoreSeen) (t : Trace) (follows : Follows s core t
     links = are;
     tables = same_tables (Said from cut (Refused why) ∷ t) refl (append-nil (accepted_of t)) (λ l. refl) (λ l. refl) (λ l call. refl) (λ l sender. refl);
     took = took_said s t follows.took from cut (Refused why);
+    downs = follows.downs ∙ sym (quiet_downs s t from cut (Refused why) refl);
     totals = counts;
   }
 
@@ -385,6 +392,7 @@ module _ (s : Setting) (core : CoreSeen) (t : Trace) (follows : Follows s core t
         ∙ stepped_at from (with_answer (friend_in (accepted_of t) (moment_of t)) answer) (Said from cut (Filtered answer) ∷ t) (answered_seen s t follows.took from cut answer);
     tables = same_tables (Said from cut (Filtered answer) ∷ t) refl (append-nil (accepted_of t)) (λ l. refl) (λ l. refl) (λ l call. refl) (λ l sender. refl);
     took = took_said s t follows.took from cut (Filtered answer);
+    downs = follows.downs ∙ sym (quiet_downs s t from cut (Filtered answer) refl);
     totals = ap (answer_counted answer) follows.totals ∙ answer_totals s t from cut answer;
   }
 
@@ -393,29 +401,39 @@ module _ (s : Setting) (core : CoreSeen) (t : Trace) (follows : Follows s core t
   at_source_twice (source.Link k) g h keeps links = map-map (at_link k g) (at_link k h) links ∙ (λ i. map (λ link. at_twice k g h keeps link i) links)
   at_source_twice from g h keeps links = refl
 
-  logged_links : (from : Source) (session : Session) (answer : Option FilterAnswer)
-      → (after_login_answer from answer (after_login s.server from session core)).links
-      ≡ at_source from (with_login (accepted_of t) (moment_of t) session (login_reply s.server session) answer) core.links
-  logged_links from session None =
-      ap (λ place. at_source from (with_session session place (login_reply s.server session)) core.links)
+  -- the address that a link asks for by what is said
+  abbrev asked_said : Source → Cut → Verdict → Option Addr
+  asked_said from cut verdict = source_down s t (downs_in s t) from (asked_port cut verdict)
+
+  logged_links : (from : Source) (session : Session) (asked : Option Addr) (answer : Option FilterAnswer)
+      → (after_login_answer from answer (after_login_at s.server from session asked core)).links
+      ≡ at_source from (with_login (accepted_of t) (moment_of t) session (new_down core.downs asked) (login_reply s.server session) answer) core.links
+  logged_links from session asked None =
+      ap (λ place. at_source from (with_session session (new_down core.downs asked) place (login_reply s.server session)) core.links)
       (sighting_found core (accepted_of t) (moment_of t) follows.moment follows.tables.stations session.call)
-  logged_links from session (Some answer) =
+  logged_links from session asked (Some answer) =
       let reply = login_reply s.server session in
-      let logged = with_session session (sighting (accepted_of t) (moment_of t) session.call) reply in
+      let down = new_down core.downs asked in
+      let logged = with_session session down (sighting (accepted_of t) (moment_of t) session.call) reply in
       let answered = with_answer (friend_in (accepted_of t) (moment_of t)) answer in
-      ap (λ place. at_source from (with_answer (found_in core.moment core.stations) answer) (at_source from (with_session session place reply) core.links))
+      ap (λ place. at_source from (with_answer (found_in core.moment core.stations) answer) (at_source from (with_session session down place reply) core.links))
       (sighting_found core (accepted_of t) (moment_of t) follows.moment follows.tables.stations session.call)
       ∙ answers_agree from answer (at_source from logged core.links)
-      ∙ at_source_twice from answered logged (λ link. text_number reply (record link { session = Some session; mine = place_kept link.over (sighting (accepted_of t) (moment_of t) session.call) })) core.links
+      ∙ at_source_twice from answered logged
+      (λ link. text_number reply (record link { session = Some session; down = option_or down link.down; mine = place_kept link.over (sighting (accepted_of t) (moment_of t) session.call) })) core.links
 
-  follows_login : (from : Source) (cut : Cut) (session : Session) (answer : Option FilterAnswer)
-      → Follows s (after_login_answer from answer (after_login s.server from session core)) (Said from cut (LoggedIn session answer) ∷ t)
-  follows_login from cut session answer = logged_in answer (logged_links from session answer
-      ∙ stepped_at from (with_login (accepted_of t) (moment_of t) session (login_reply s.server session) answer) (Said from cut (LoggedIn session answer) ∷ t) (login_seen s t follows.took from cut session answer))
+  follows_login_at : (from : Source) (cut : Cut) (session : Session) (answer : Option FilterAnswer)
+      → Follows s (after_login_answer from answer (after_login_at s.server from session (asked_said from cut (LoggedIn session answer)) core)) (Said from cut (LoggedIn session answer) ∷ t)
+  follows_login_at from cut session answer =
+      let asked = asked_said from cut (LoggedIn session answer) in
+      let reply = login_reply s.server session in
+      logged_in answer (logged_links from session asked answer
+      ∙ ap (λ n. at_source from (with_login (accepted_of t) (moment_of t) session (new_down n asked) reply answer) core.links) follows.downs
+      ∙ stepped_at from (with_login (accepted_of t) (moment_of t) session (new_down (downs_in s t) asked) reply answer) (Said from cut (LoggedIn session answer) ∷ t) (login_seen s t follows.took from cut session answer))
     where
       logged_in : (answer : Option FilterAnswer)
-          → (after_login_answer from answer (after_login s.server from session core)).links ≡ map (link_seen s (Said from cut (LoggedIn session answer) ∷ t)) (served_links t)
-          → Follows s (after_login_answer from answer (after_login s.server from session core)) (Said from cut (LoggedIn session answer) ∷ t)
+          → (after_login_answer from answer (after_login_at s.server from session (asked_said from cut (LoggedIn session answer)) core)).links ≡ map (link_seen s (Said from cut (LoggedIn session answer) ∷ t)) (served_links t)
+          → Follows s (after_login_answer from answer (after_login_at s.server from session (asked_said from cut (LoggedIn session answer)) core)) (Said from cut (LoggedIn session answer) ∷ t)
       logged_in None links = record {
         moment = follows.moment;
         reach = no_casts;
@@ -424,6 +442,7 @@ module _ (s : Setting) (core : CoreSeen) (t : Trace) (follows : Follows s core t
         links = links;
         tables = same_tables (Said from cut (LoggedIn session None) ∷ t) refl (append-nil (accepted_of t)) (λ l. refl) (λ l. refl) (λ l call. refl) (λ l sender. refl);
         took = took_said s t follows.took from cut (LoggedIn session None);
+        downs = ap (λ n. n + one_if (asked_said from cut (LoggedIn session None))) follows.downs;
         totals = follows.totals ∙ login_totals s t from cut session None;
       }
       logged_in (Some given) links = record {
@@ -434,6 +453,7 @@ module _ (s : Setting) (core : CoreSeen) (t : Trace) (follows : Follows s core t
         links = links;
         tables = same_tables (Said from cut (LoggedIn session (Some given)) ∷ t) refl (append-nil (accepted_of t)) (λ l. refl) (λ l. refl) (λ l call. refl) (λ l sender. refl);
         took = took_said s t follows.took from cut (LoggedIn session (Some given));
+        downs = ap (λ n. n + one_if (asked_said from cut (LoggedIn session (Some given)))) follows.downs;
         totals = ap (answer_counted given) follows.totals ∙ login_totals s t from cut session (Some given);
       }
 
@@ -460,6 +480,23 @@ module _ (s : Setting) (core : CoreSeen) (t : Trace) (follows : Follows s core t
   submitted_as : stopped_links t ≡ [] → (from : Source) → IsSaidBy t from → submitted_from from core.links ≡ is_submitted t from
   submitted_as going (source.Link k) live = client_live going k live
   submitted_as going from says = refl
+
+  -- where a link asks for its lines is where the trace says that it does
+  asks_known : stopped_links t ≡ [] → (from : Source) → IsSaidBy t from → (port : Option ℕ) → source_asks s.downs from port core ≡ source_down s t (downs_in s t) from port
+  unfolding link_seen
+  asks_known going (source.Link k) live port =
+      let starts : starts_line_at k core.links ≡ is_at_line_start s t k = ap (starts_line_at k) (live_now going) ∙ picked_seen starts_line true s t k (live_links t) live in
+      let opened : opening_at k core.links ≡ opening_of t k = ap (opening_at k) (live_now going) ∙ picked_seen opening_kept None s t k (live_links t) live in
+      ap (λ n. asked_addr s.downs (opening_at k core.links) (if nat_lt n most_downs && starts_line_at k core.links then port else None)) follows.downs
+      ∙ ap (λ b. asked_addr s.downs (opening_at k core.links) (if nat_lt (downs_in s t) most_downs && b then port else None)) starts
+      ∙ ap (λ opening. asked_addr s.downs opening (if nat_lt (downs_in s t) most_downs && is_at_line_start s t k then port else None)) opened
+  asks_known going from says port = refl
+
+  follows_login : stopped_links t ≡ [] → (from : Source) (cut : Cut) (session : Session) (answer : Option FilterAnswer) → IsSaidBy t from
+      → Follows s (after_login_answer from answer (after_login s.server s.downs from (asked_port cut (LoggedIn session answer)) session core)) (Said from cut (LoggedIn session answer) ∷ t)
+  follows_login going from cut session answer says =
+      subst (λ asked. Follows s (after_login_answer from answer (after_login_at s.server from session asked core)) (Said from cut (LoggedIn session answer) ∷ t))
+      (sym (asks_known going from says (asked_port cut (LoggedIn session answer)))) (follows_login_at from cut session answer)
 
   follows_accepted : stopped_links t ≡ [] → 0 < s.window → (from : Source) (cut : Cut) (parts : Parts) (line : List ℕ) → IsSaidBy t from
       → Follows s (after_packet s.peers (packet_of from (moment_of t) parts line) (record core { moment = moment_of t })) (Said from cut (Accepted parts line) ∷ t)
@@ -491,6 +528,7 @@ module _ (s : Setting) (core : CoreSeen) (t : Trace) (follows : Follows s core t
           heard = remembers_accepted core.heard t follows.tables.heard core.links from cut parts line (speaks going from says) (filters_live going) (filters_nowhere going);
         };
         took = took_said s t follows.took from cut (Accepted parts line);
+        downs = follows.downs ∙ sym (quiet_downs s t from cut (Accepted parts line) refl);
         totals = ap (λ place. with_accepted (length (filter (takes_packet packet place hearers owed) core.links)) core.totals)
             (source_known (record core { moment = moment_of t }) (accepted_of t) (moment_of t) refl follows.tables.stations from parts.source)
             ∙ ap (λ b. with_accepted (length (filter (takes_packet packet (place_of b) hearers owed) core.links)) core.totals) (submitted_as going from says)
@@ -503,10 +541,10 @@ module _ (s : Setting) (core : CoreSeen) (t : Trace) (follows : Follows s core t
       }
 
   -- whatever becomes of a line
-  pub follows_said : stopped_links t ≡ [] → 0 < s.window → (from : Source) (cut : Cut) (verdict : Verdict) → IsSaidBy t from → Follows s (after_verdict s.server s.peers from verdict core) (Said from cut verdict ∷ t)
+  pub follows_said : stopped_links t ≡ [] → 0 < s.window → (from : Source) (cut : Cut) (verdict : Verdict) → IsSaidBy t from → Follows s (after_verdict s.server s.peers s.downs from (asked_port cut verdict) verdict core) (Said from cut verdict ∷ t)
   follows_said going lasts from cut PassedOver says = follows_passed from cut
   follows_said going lasts from cut (Refused why) says = follows_refused going from cut why
-  follows_said going lasts from cut (LoggedIn session answer) says = follows_login from cut session answer
+  follows_said going lasts from cut (LoggedIn session answer) says = follows_login going from cut session answer says
   follows_said going lasts from cut (Filtered answer) says = follows_answer from cut answer
   follows_said going lasts from cut (Accepted parts line) says =
       subst (λ now. Follows s (after_packet s.peers (packet_of from now parts line) (record core { moment = now })) (Said from cut (Accepted parts line) ∷ t)) (sym follows.moment)
@@ -556,6 +594,7 @@ module _ (s : Setting) (core : CoreSeen) (t : Trace) (follows : Follows s core t
           heard = remembers_opened core.heard t door kind k from (not_yet k high rises above) follows.tables.heard;
         };
         took = took_opened s t follows.took door (Served kind) k from;
+        downs = follows.downs;
         totals = follows.totals;
       }
 
@@ -578,6 +617,7 @@ module _ (s : Setting) (core : CoreSeen) (t : Trace) (follows : Follows s core t
           heard = remembers_unserved core.heard t door admission k from none (not_yet k high rises above) follows.tables.heard;
         };
         took = took_opened s t follows.took door admission k from;
+        downs = follows.downs;
         totals = follows.totals;
       }
 
@@ -613,6 +653,7 @@ module _ (s : Setting) (core : CoreSeen) (t : Trace) (follows : Follows s core t
             (λ j member. dated_seen s t follows.took moment j (subst (λ stopped. is_member j (stopped ++ live_links t) ≡ true) going member)));
         tables = same_tables (Dated moment ∷ t) refl refl (λ l. refl) (λ l. refl) (λ l call. refl) (λ l sender. refl);
         took = took_dated s t follows.took moment;
+        downs = follows.downs;
         totals = follows.totals;
       }
 
@@ -651,6 +692,7 @@ module _ (s : Setting) (core : CoreSeen) (t : Trace) (follows : Follows s core t
         ∙ ap (λ stopped. map (link_seen s (Ended k ByPeer ∷ t)) (stopped ++ filter (is_other k) (live_links t))) (sym (append-nil (stopped_links t) ∙ going));
     tables = record { window = follows.tables.window; stations = follows.tables.stations; heard = remembers_ended core.heard t k ByPeer follows.tables.heard };
     took = follows.took;
+    downs = follows.downs;
     totals = follows.totals;
   }
 
@@ -705,6 +747,9 @@ took_after s reason ks t took j =
 totals_after : (s : Setting) (reason : ℕ → EndReason) (ks : List ℕ) (t : Trace) → totals_of s (end_each reason ks t) ≡ totals_of s t
 unfolding totals_of
 totals_after s = same_after (totals_of s) (λ k why t. refl)
+
+downs_after : (s : Setting) (reason : ℕ → EndReason) (ks : List ℕ) (t : Trace) → downs_in s (end_each reason ks t) ≡ downs_in s t
+downs_after s = same_after (downs_in s) (λ k why t. refl)
 
 -- ends that no stop makes
 pub going_after : (reason : ℕ → EndReason) → ((k : ℕ) → stopped_link (reason k) k ≡ []) → (ks : List ℕ) (t : Trace) → stopped_links (end_each reason ks t) ≡ stopped_links t
@@ -871,6 +916,7 @@ module _ (s : Setting) (core : CoreSeen) (t : Trace) (follows : Follows s core t
           heard = remembers_all_ended reason ks core.heard t follows.tables.heard;
         };
         took = took_after s reason ks t follows.took;
+        downs = follows.downs ∙ sym (downs_after s reason ks t);
         totals = follows.totals ∙ sym (totals_after s reason ks t);
       }
 
@@ -931,5 +977,6 @@ module _ (s : Setting) (core : CoreSeen) (t : Trace) (follows : Follows s core t
           heard = remembers_all_ended stops (live_links t) core.heard t follows.tables.heard;
         };
         took = took_after s stops (live_links t) t follows.took;
+        downs = follows.downs ∙ sym (downs_after s stops (live_links t) t);
         totals = follows.totals ∙ sym (totals_after s stops (live_links t) t);
       })

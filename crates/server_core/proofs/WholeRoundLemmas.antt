@@ -6,7 +6,7 @@ use Rattle.aprs_history.specs.Trace.{Trace, closed_links}
 use Rattle.aprs_history.specs.History.{History, is_stop, open_events, trace_of, with_event, begin_round, end_round}
 use Rattle.aprs_conf.specs.Seen.{ConfSeen}
 use Rattle.aprs_history.specs.Rounds.{AreFresh, is_whole, with_events, events_trace, greatest_after, stopped_after}
-use Rattle.aprs_history.specs.Acts.{Closes, cast_act, dials, offer_to, offered_links}
+use Rattle.aprs_history.specs.Acts.{Closes, all_offers, cast_act, dials, offered_links}
 use Rattle.aprs_history.specs.Dials.{casts_of, dial_of}
 use Rattle.aprs_history.specs.Scenes.{accepted_of}
 use Rattle.aprs_history.specs.Stands.{Follows, ReachSeen, StandsFor}
@@ -184,10 +184,10 @@ module _ (core : CoreMeaning) (events : List Event) (h : History) (whole : is_wh
       let cast : acts.casts ≡ casts_of s t = casts ∙ ap (λ (reach : ReachSeen). reach.casts) stands.follows.reach in
       record {
         due = due_whole s 0 events h whole finished
-            ∙ ap (λ dial. dials dial ++ (map cast_act (casts_of s t) ++ (map (offer_to s t) (offered_links s t) ++ map Closes (closed_links t)))) (sym dialled)
-            ∙ ap (λ casts. dials acts.dial ++ (map cast_act casts ++ (map (offer_to s t) (offered_links s t) ++ map Closes (closed_links t)))) (sym cast)
-            ∙ ap (λ ks. dials acts.dial ++ (map cast_act acts.casts ++ (map (offer_to s t) ks ++ map Closes (closed_links t)))) (sym offered)
-            ∙ ap (λ ks. dials acts.dial ++ (map cast_act acts.casts ++ (map (offer_to s t) acts.offers ++ map Closes ks))) (sym closed);
+            ∙ ap (λ dial. dials dial ++ (map cast_act (casts_of s t) ++ (all_offers s t (offered_links s t) ++ map Closes (closed_links t)))) (sym dialled)
+            ∙ ap (λ casts. dials acts.dial ++ (map cast_act casts ++ (all_offers s t (offered_links s t) ++ map Closes (closed_links t)))) (sym cast)
+            ∙ ap (λ ks. dials acts.dial ++ (map cast_act acts.casts ++ (all_offers s t ks ++ map Closes (closed_links t)))) (sym offered)
+            ∙ ap (λ ks. dials acts.dial ++ (map cast_act acts.casts ++ (all_offers s t acts.offers ++ map Closes ks))) (sym closed);
       }
   acts_ok (Err e) offers closes dial casts = offers
 

@@ -4,5 +4,6 @@ pub mod LinkSteps
 pub mod Meaning
 pub mod Objections
 pub mod RoundWalk
+pub mod Sending
 pub mod Steps
 pub mod Telling

@@ -1,6 +1,6 @@
 -- What each happening changes of the links, and of all else that the core keeps.
 pub use Rattle.served_links.specs.Links.{Rises, has_number, numbers, pending_at}
-use Rattle.std.specs.Prelude.{◌≡◌, ℕ, Bool, true, List, [], ◌∷◌, ◌++◌, length, map, filter, not, ◌&&◌, Option, Some, None, if◌then◌else◌, ⊤}
+use Rattle.std.specs.Prelude.{◌≡◌, ℕ, ◌+◌, nat_lt, Bool, true, List, [], ◌∷◌, ◌++◌, length, map, filter, not, ◌&&◌, Option, Some, None, if◌then◌else◌, ⊤}
 use Rattle.std.specs.Option.{option_and_then}
 use Rattle.aprs_base.specs.PacketSeen.{PacketSeen}
 use Rattle.aprs_base.specs.declared.totals.Totals.{Totals}
@@ -16,6 +16,7 @@ use Rattle.dupe_window.specs.Windows.{expired, with_key}
 use Rattle.aprs_history.specs.declared.verdicts.FilterAnswer.{FilterAnswer}
 use Rattle.aprs_history.specs.declared.verdicts.FilterAnswer.TheVariants.{Active, Denied}
 use Rattle.aprs_history.specs.declared.verdicts.Session.{Session}
+use Rattle.aprs_history.specs.Downs.{DownSeen, asked_addr, down_by, most_downs, one_if}
 use Rattle.aprs_history.specs.Stands.{LinkSeen, CoreSeen}
 use Rattle.aprs_history.specs.Trace.{is_from, is_member}
 use Rattle.aprs_history.specs.declared.verdicts.Verdict.{Verdict}
@@ -24,6 +25,7 @@ use Rattle.aprs_history.specs.Scenes.{packet_of}
 use Rattle.aprs_history.specs.Messages.{is_message, is_position}
 use Rattle.aprs_history.specs.Sights.{named_call}
 use Rattle.aprs_history.specs.Texts.{filter_words, first_line, login_reply, refusal_reply, refused_filter}
+use Rattle.aprs_base.specs.declared.packets.PortKind.{PortKind}
 use Rattle.aprs_base.specs.declared.packets.Source.{Source}
 use Rattle.aprs_base.specs.declared.packets.Source.TheVariants as source
 use Rattle.aprs_history.specs.declared.verdicts.Refusal.{Refusal}
@@ -39,7 +41,7 @@ use Rattle.uplinks_peers.specs.Uplinks.{UplinksSeen, uplinks_after}
 use Rattle.served_links.specs.declared.link.SourcePlace.{SourcePlace}
 use Rattle.served_links.specs.declared.link.Timeouts.{Timeouts}
 use Rattle.served_links.specs.Changes.{at_link, with_text, with_session, with_filter, at_moment, takes_packet, with_packet, with_shown, takes_shown, new_link_seen}
-use Rattle.served_links.specs.Links.{is_late_link, client_at, submitted_from, filters_at}
+use Rattle.served_links.specs.Links.{is_late_link, client_at, opening_at, starts_line_at, submitted_from, filters_at}
 use Rattle.served_links.specs.Halves.{more}
 
 -- where a call was last seen, by a table
@@ -130,9 +132,38 @@ abbrev pub after_login_answer : Source → Option FilterAnswer → CoreSeen → 
 after_login_answer from None core = core
 after_login_answer from (Some answer) core = after_answer from answer core
 
-abbrev pub after_login : List ℕ → Source → Session → CoreSeen → CoreSeen
-after_login server from session core =
-    record core { links = at_source from (with_session session (sighting_in core session.call) (login_reply server session)) core.links }
+-- ---- downlinks
+
+-- the address that a link asks its lines to be cast to, where it may be a downlink of these kinds of port
+abbrev pub link_asks : List PortKind → ℕ → Option ℕ → CoreSeen → Option Addr
+link_asks downs number port core =
+    asked_addr downs (opening_at number core.links) (if nat_lt core.downs most_downs && starts_line_at number core.links then port else None)
+
+abbrev pub source_asks : List PortKind → Source → Option ℕ → CoreSeen → Option Addr
+source_asks downs (source.Link number) port core = link_asks downs number port core
+source_asks downs from port core = None
+
+-- the downlink that it becomes
+abbrev pub new_down : ℕ → Option Addr → Option DownSeen
+new_down number asked = down_by number asked None
+
+-- the links after a login, by which one of them becomes that downlink, if any
+abbrev pub greeted_links : List ℕ → Source → Session → Option DownSeen → CoreSeen → List LinkSeen
+greeted_links server from session down core = at_source from (with_session session down (sighting_in core session.call) (login_reply server session)) core.links
+
+abbrev pub greeted : List ℕ → ℕ → Session → Option DownSeen → CoreSeen → CoreSeen
+greeted server number session down core = record core { links = greeted_links server (source.Link number) session down core }
+
+-- what is kept after a login that asks for that address
+abbrev pub after_login_at : List ℕ → Source → Session → Option Addr → CoreSeen → CoreSeen
+after_login_at server from session asked core = record core {
+  links = greeted_links server from session (new_down core.downs asked) core;
+  downs = core.downs + one_if asked;
+}
+
+-- and after one that asks for that port
+abbrev pub after_login : List ℕ → List PortKind → Source → Option ℕ → Session → CoreSeen → CoreSeen
+after_login server downs from port session core = after_login_at server from session (source_asks downs from port core) core
 
 -- ---- the message rule
 
@@ -211,13 +242,13 @@ after_packet peers packet core = record core {
   totals = with_accepted (length (takers_in core packet)) core.totals;
 }
 
--- what is kept after a verdict on what was said
-abbrev pub after_verdict : List ℕ → List Peer → Source → Verdict → CoreSeen → CoreSeen
-after_verdict server peers from PassedOver core = core
-after_verdict server peers from (Refused why) core = record core { links = with_refusal from why core.links; totals = refusal_counted from why core.links core.totals }
-after_verdict server peers from (LoggedIn session answer) core = after_login_answer from answer (after_login server from session core)
-after_verdict server peers from (Filtered answer) core = after_answer from answer core
-after_verdict server peers from (Accepted parts line) core = after_packet peers (packet_of from core.moment parts line) core
+-- what is kept after a verdict on what was said, where a login asks for its lines at that port
+abbrev pub after_verdict : List ℕ → List Peer → List PortKind → Source → Option ℕ → Verdict → CoreSeen → CoreSeen
+after_verdict server peers downs from port PassedOver core = core
+after_verdict server peers downs from port (Refused why) core = record core { links = with_refusal from why core.links; totals = refusal_counted from why core.links core.totals }
+after_verdict server peers downs from port (LoggedIn session answer) core = after_login_answer from answer (after_login server downs from port session core)
+after_verdict server peers downs from port (Filtered answer) core = after_answer from answer core
+after_verdict server peers downs from port (Accepted parts line) core = after_packet peers (packet_of from core.moment parts line) core
 
 -- what is kept where a link comes
 abbrev pub admitted_in : Setting → Admission → ℕ → Addr → CoreSeen → CoreSeen

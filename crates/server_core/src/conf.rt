@@ -1,13 +1,15 @@
 //! What the core asks of a configuration.
-ghost use Rattle.std.specs.Prelude.{◌≡◌, ◌+◌, ◌≤◌, Some, None, IfOk, IfErr, IfSome, IsTrue, true, length, map, option_map, slice_get};
-ghost use Rattle.std.specs.List.{list_all};
+ghost use Rattle.std.specs.Prelude.{◌≡◌, ◌+◌, ◌-◌, ◌++◌, OnOk, ◌≤◌, Some, None, IfOk, IfErr, IfSome, IsTrue, true, length, map, option_map, slice_get};
+ghost use Rattle.std.specs.List.{list_all, list_any};
 ghost use Rattle.aprs_base.specs.Bytes.{is_station};
-ghost use Rattle.aprs_history.specs.Setting.{is_client_kind, kind_at, peer_from};
+ghost use Rattle.aprs_history.specs.Downs.{may_be_down, port_of_link};
+ghost use Rattle.aprs_history.specs.Setting.{is_client_kind, is_same_down, kind_at, kind_of_spec, peer_from};
 ghost use Rattle.aprs_history.specs.Journal.{group_of};
-ghost use Rattle.server_core.specs.Meaning.{listeners, numbered, peer_of, setting_of, timeouts_of};
+ghost use Rattle.server_core.specs.Meaning.{address_by, caster, casts_to, downs_of, idle_specs, kind_in, listeners, numbered, peer_of, serving, setting_of, timeouts_of};
 
 use aprs_base::{Addr, Call, ListenSpec, Memory, PortKind};
 use aprs_conf::{Conf, Listen, PeerSpec, count_numbered};
+use aprs_history::LinkKind;
 use served_links::Timeouts;
 use std::alloc::Global;
 
@@ -82,7 +84,23 @@ fn numbered_listens(alloc: Global, listens: &[Listen]) -> Result<Vec<ListenSpec>
     Ok(specs)
 }
 
-/// All listeners, in the order of their numbers: those that aren't idle, and last that of the peer group.
+/// The listeners that lines are only cast from come last, in order.
+fn put_casters(listens: &[Listen], specs: &mut Vec<ListenSpec>) -> Result<(), Memory>
+    ensures { OnOk result (specs.new.items ≡ specs.old.items ++ map caster (idle_specs listens.now)) }
+{
+    for listen in listens {
+        if listen.idle {
+            specs.push(ListenSpec {
+                kind: PortKind::Submit,
+                at: listen.spec.at,
+            })?;
+        }
+    }
+    Ok(())
+}
+
+/// All listeners, in the order of their numbers: those that aren't idle, that of the peer group, and last those that lines are
+/// only cast from, which take submissions for the wire.
 pub fn listeners(alloc: Global, conf: &Conf) -> Result<Vec<ListenSpec>, Memory>
     ensures { IfOk result (λ specs. specs.items ≡ listeners conf.now) }
 {
@@ -93,6 +111,7 @@ pub fn listeners(alloc: Global, conf: &Conf) -> Result<Vec<ListenSpec>, Memory>
             at,
         })?;
     }
+    put_casters(conf.listens.as_slice(), &mut specs)?;
     Ok(specs)
 }
 
@@ -113,10 +132,10 @@ fn numbered_at(listens: &[Listen], number: usize) -> Result<ListenSpec, usize>
     Err(left)
 }
 
-/// The number of the peer group's listener, which is the last.
-pub(crate) fn group_of(conf: &Conf) -> u16
+/// The number of the last listener that serves what comes there.
+fn last_serving(conf: &Conf) -> u16
     requires { length (numbered conf.now.listens) ≤ 16 }
-    ensures { result ≡ group_of (setting_of conf.now) }
+    ensures { result ≡ length (serving conf.now) - 1 }
 {
     let count = count_numbered(conf.listens.as_slice());
     let last = match conf.group {
@@ -126,14 +145,97 @@ pub(crate) fn group_of(conf: &Conf) -> u16
     u16::try_from(last).unwrap_or(0)
 }
 
-/// What the listener of that number serves: nothing where there is none. That of the peer group comes after all others.
-pub(crate) fn served_by(conf: &Conf, listener: u16) -> Option<PortKind>
-    ensures { result ≡ kind_at (setting_of conf.now) listener }
+/// The number of the peer group's listener, which is the last that serves what comes there.
+pub(crate) fn group_of(conf: &Conf) -> u16
+    requires { length (numbered conf.now.listens) ≤ 16 }
+    ensures { result ≡ group_of (setting_of conf.now) }
+{
+    last_serving(conf)
+}
+
+/// What the listener of that number serves, among those that serve what comes there. That of the peer group comes after all others.
+fn kind_among(conf: &Conf, listener: u16) -> Option<PortKind>
+    ensures { result ≡ kind_of_spec (slice_get (serving conf.now) listener) }
 {
     match numbered_at(conf.listens.as_slice(), usize::from(listener)) {
         Ok(spec) => Some(spec.kind),
         Err(0) if conf.group.is_some() => Some(PortKind::Core),
         Err(_) => None,
+    }
+}
+
+/// What the listener of that number serves: nothing where there is none, or where lines are only cast from it.
+pub(crate) fn served_by(conf: &Conf, listener: u16) -> Option<PortKind>
+    ensures { result ≡ kind_at (setting_of conf.now) listener }
+{
+    kind_among(conf, listener)
+}
+
+/// Whether it is a kind of port whose links may have their lines cast, and the same.
+fn is_same_down(one: PortKind, other: PortKind) -> bool
+    ensures { result ≡ is_same_down one other }
+{
+    match one {
+        PortKind::Full => matches!(other, PortKind::Full),
+        PortKind::Igate => matches!(other, PortKind::Igate),
+        PortKind::Only => matches!(other, PortKind::Only),
+        PortKind::Dupe | PortKind::Submit | PortKind::Core => false,
+    }
+}
+
+/// Whether the listener is one that lines are cast from to links of such ports.
+fn casts_to(listen: &Listen, port: PortKind) -> bool
+    ensures { result ≡ casts_to port listen.now }
+{
+    listen.idle && is_same_down(port, listen.spec.kind)
+}
+
+/// Whether lines are cast to links of such ports.
+fn has_caster(listens: &[Listen], port: PortKind) -> bool
+    ensures { result ≡ list_any (casts_to port) listens.now }
+{
+    listens.iter().any(|listen| casts_to(listen, port))
+}
+
+/// Whether links of such ports may have their lines cast.
+fn has_down(listens: &[Listen], port: PortKind) -> bool
+    ensures { result ≡ list_any (is_same_down port) (map kind_in (idle_specs listens.now)) }
+{
+    has_caster(listens, port)
+}
+
+/// Whether a link of that kind may have its lines cast.
+fn may_be_down(conf: &Conf, kind: LinkKind) -> bool
+    ensures { result ≡ may_be_down (downs_of conf.now) kind }
+{
+    match kind {
+        LinkKind::Client(port) => has_down(conf.listens.as_slice(), port),
+        LinkKind::Uplink(_) => false,
+    }
+}
+
+/// That port of where a link came from.
+fn port_of_link(from: Addr, port: Option<u16>) -> Option<Addr>
+    ensures { result ≡ option_map (port_of_link from) port }
+{
+    match port {
+        Some(port) => {
+            let ip = from.ip;
+            Some(Addr { ip, port })
+        }
+        None => None,
+    }
+}
+
+/// The address that a link of that kind, which came from there, asks its lines to be cast to: that port, where it came from.
+pub(crate) fn asked_addr(conf: &Conf, opened: (LinkKind, Addr), port: Option<u16>) -> Option<Addr>
+    ensures { result ≡ address_by (downs_of conf.now) opened port }
+{
+    let (kind, from) = opened;
+    if may_be_down(conf, kind) {
+        port_of_link(from, port)
+    } else {
+        None
     }
 }
 

@@ -1,5 +1,5 @@
 //! The core: it takes a round of events, and says what is to be done.
-ghost use Rattle.std.specs.Prelude.{◌≡◌, ◌∷◌, ◌++◌, ◌≤◌, ℕ, IsTrue, IfOk, IfSome, OnOk, List, drop, length, false, min, take, true};
+ghost use Rattle.std.specs.Prelude.{◌≡◌, ◌∷◌, ◌++◌, ◌≤◌, ℕ, IsTrue, IfOk, IfSome, None, OnOk, Some, List, drop, length, false, min, take, true};
 ghost use Rattle.aprs_base.specs.Bytes.{is_station};
 ghost use Rattle.aprs_conf.specs.Sound.{IsGroup, IsWithin};
 ghost use Rattle.aprs_history.specs.History.{History, trace_of};
@@ -8,10 +8,13 @@ ghost use Rattle.aprs_history.specs.Journal.{round_lines};
 ghost use Rattle.aprs_history.specs.Scenes.{accepted_of};
 ghost use Rattle.aprs_history.specs.Rounds.{AreFresh, greatest_after, is_whole, only_listens, stopped_after, with_events};
 ghost use Rattle.aprs_history.specs.Texts.{untaken};
+ghost use Rattle.aprs_history.specs.Downs.{DownSeen, down_of};
+ghost use Rattle.served_links.specs.Links.{down_at};
 ghost use Rattle.server_core.specs.LinkSteps.{AreServed, Rises, has_number, numbers, pending_at};
 ghost use Rattle.aprs_base.specs.declared.events.Happening.{Happening};
 ghost use Rattle.aprs_base.specs.declared.events.Sent.{Sent};
 ghost use Rattle.server_core.specs.Meaning.{AreActs, Stands, numbered, setting_of};
+ghost use Rattle.server_core.specs.Sending.{bytes_in, with_lines};
 ghost use Rattle.server_core.specs.Steps.{SameRest};
 
 use crate::acts::Acts;
@@ -20,6 +23,7 @@ use aprs_base::{Event, Gate, JournalLine, Memory, Totals};
 use aprs_conf::Conf;
 use dupe_window::Window;
 use link_feeds::Crew;
+use served_links::Down;
 use std::alloc::Global;
 use std::hash::RandomState;
 use std::marker::{Model, Sync};
@@ -180,12 +184,23 @@ impl Core {
         self.state.shared_offer(link)
     }
 
-    /// The link took the first `n` of the `offered` bytes, which were its last offer.
+    /// The downlink that the link is: then its lines are cast there. Takes no memory.
+    pub fn down(&self, link: u32) -> Option<Down>
+        ensures kept { result ≡ down_at link self.now.seen.links }
+        ensures same { (h : History) → Stands self.now h → IsTrue (has_number link self.now.seen.links) → result ≡ down_of (setting_of self.now.conf) (trace_of (setting_of self.now.conf) h) link }
+    {
+        self.state.down(link)
+    }
+
+    /// The link took the first `n` of the `offered` bytes, which were its last offer. A downlink took them as whole lines, each in a
+    /// datagram of its own.
     pub fn took(&mut self, link: u32, offered: usize, n: usize)
         requires part { n ≤ offered }
         requires small { offered ≤ 65536 }
         requires pending { offered ≤ length (pending_at link self.old.seen.links) }
-        ensures stands { (h : History) (bytes : List ℕ) → length bytes ≡ offered → Stands self.old h → Stands self.new (Happening.Sent link bytes (Sent.Took n) ∷ h) }
+        ensures stands { (h : History) (bytes : List ℕ) → down_at link self.old.seen.links ≡ None → length bytes ≡ offered → Stands self.old h → Stands self.new (Happening.Sent link bytes (Sent.Took n) ∷ h) }
+        ensures sends { (h : History) (down : DownSeen) (line : List ℕ) (lines : List (List ℕ)) → down_at link self.old.seen.links ≡ Some down → bytes_in (line ∷ lines) ≡ n
+            → Stands self.old h → Stands self.new (with_lines link (line ∷ lines) h) }
         ensures numbers { numbers self.new.seen.links ≡ numbers self.old.seen.links }
         ensures rest { SameRest self.old self.new }
     {

@@ -14,3 +14,4 @@ mod telling;
 pub use acts::{Acts, CastOut};
 pub use conf::listeners;
 pub use cores::Core;
+pub use served_links::Down;

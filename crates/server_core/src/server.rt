@@ -1,16 +1,18 @@
 //! What a core keeps, and the walk over a round's events.
-ghost use Rattle.std.specs.Prelude.{◌≡◌, ◌∷◌, ◌++◌, [], ◌≤◌, ℕ, IsTrue, IfOk, IfSome, OnOk, List, drop, length, false, true, min, take};
+ghost use Rattle.std.specs.Prelude.{◌≡◌, ◌∷◌, ◌++◌, [], ◌≤◌, ℕ, IsTrue, IfOk, IfSome, None, OnOk, Some, if◌then◌else◌, is_some, List, drop, length, false, true, min, take};
 ghost use Rattle.aprs_base.specs.Bytes.{is_station};
 ghost use Rattle.aprs_conf.specs.Sound.{IsGroup, IsWithin};
 ghost use Rattle.aprs_history.specs.Stands.{reach_of};
 ghost use Rattle.aprs_history.specs.History.{History, trace_of};
 ghost use Rattle.aprs_history.specs.Journal.{round_lines};
 ghost use Rattle.aprs_history.specs.Rounds.{AreFresh, greatest_after, is_whole, only_listens, stopped_after, with_events};
-ghost use Rattle.served_links.specs.Links.{has_number, numbers, pending_at};
+ghost use Rattle.aprs_history.specs.Downs.{DownSeen};
+ghost use Rattle.served_links.specs.Links.{down_at, has_number, numbers, pending_at};
 ghost use Rattle.served_links.specs.Halves.{more};
 ghost use Rattle.aprs_base.specs.declared.events.Happening.{Happening};
 ghost use Rattle.aprs_base.specs.declared.events.Sent.{Sent};
 ghost use Rattle.server_core.specs.Meaning.{Stands, numbered, setting_of};
+ghost use Rattle.server_core.specs.Sending.{bytes_in, with_lines};
 ghost use Rattle.server_core.specs.Steps.{SameRest};
 
 mod ahead;
@@ -33,7 +35,7 @@ use dupe_window::Window;
 use heard_routing::Heard;
 use link_feeds::Crew;
 use parsed_lines::Ahead;
-use served_links::Served;
+use served_links::{Down, Served};
 use station_table::Stations;
 use std::alloc::Global;
 use std::hash::RandomState;
@@ -90,6 +92,8 @@ pub(crate) struct State {
     /// The lines of the round, parsed before it is walked.
     ahead: Ahead,
     hasher: RandomState,
+    /// How many links became downlinks, ended ones too.
+    downs: u32,
 }
 
 impl Model for State {
@@ -98,9 +102,9 @@ impl Model for State {
 
     ghost Value = { CoreMeaning };
 
-    ghost view = { λ c. record { conf = c.conf; seen = record { moment = c.moment; links = c.links.links; turned = c.turned.items; closing = c.closing.items; window = c.window; stations = c.stations; heard = c.heard; reach = c.reach; greatest = c.greatest; stopped = c.stopped; totals = record { accepted = c.counts.accepted; duplicate = c.counts.duplicate; refused = c.counts.refused; queued = c.links.queued } }; rests = c.links.rests } };
+    ghost view = { λ c. record { conf = c.conf; seen = record { moment = c.moment; links = c.links.links; turned = c.turned.items; closing = c.closing.items; window = c.window; stations = c.stations; heard = c.heard; reach = c.reach; greatest = c.greatest; downs = c.downs; stopped = c.stopped; totals = record { accepted = c.counts.accepted; duplicate = c.counts.duplicate; refused = c.counts.refused; queued = c.links.queued } }; rests = c.links.rests } };
 
-    ghost invariant = { λ c. IsKept (record { conf = c.conf; seen = record { moment = c.moment; links = c.links.links; turned = c.turned.items; closing = c.closing.items; window = c.window; stations = c.stations; heard = c.heard; reach = c.reach; greatest = c.greatest; stopped = c.stopped; totals = record { accepted = c.counts.accepted; duplicate = c.counts.duplicate; refused = c.counts.refused; queued = c.links.queued } }; rests = c.links.rests }) };
+    ghost invariant = { λ c. IsKept (record { conf = c.conf; seen = record { moment = c.moment; links = c.links.links; turned = c.turned.items; closing = c.closing.items; window = c.window; stations = c.stations; heard = c.heard; reach = c.reach; greatest = c.greatest; downs = c.downs; stopped = c.stopped; totals = record { accepted = c.counts.accepted; duplicate = c.counts.duplicate; refused = c.counts.refused; queued = c.links.queued } }; rests = c.links.rests }) };
 }
 
 impl State {
@@ -136,6 +140,7 @@ impl State {
             },
             ahead: Ahead::none(alloc),
             hasher: *hasher,
+            downs: 0,
         })
     }
 
@@ -242,18 +247,28 @@ impl State {
         }
     }
 
-    /// The link took the first `n` of the `offered` bytes, which were its last offer.
+    /// The downlink that the link is.
+    pub fn down(&self, link: u32) -> Option<Down>
+        ensures { result ≡ down_at link self.now.seen.links }
+    {
+        self.links.down(link)
+    }
+
+    /// The link took the first `n` of the `offered` bytes, which were its last offer: a downlink as whole lines, one by one.
     pub fn took(&mut self, link: u32, offered: usize, n: usize)
         requires part { n ≤ offered }
         requires small { offered ≤ 65536 }
         requires pending { offered ≤ length (pending_at link self.old.seen.links) }
         requires rests { self.old.rests ≡ true }
-        ensures stands { (h : History) (bytes : List ℕ) → length bytes ≡ offered → Stands self.old h → Stands self.new (Happening.Sent link bytes (Sent.Took n) ∷ h) }
+        ensures stands { (h : History) (bytes : List ℕ) → down_at link self.old.seen.links ≡ None → length bytes ≡ offered → Stands self.old h → Stands self.new (Happening.Sent link bytes (Sent.Took n) ∷ h) }
+        ensures sends { (h : History) (down : DownSeen) (line : List ℕ) (lines : List (List ℕ)) → down_at link self.old.seen.links ≡ Some down → bytes_in (line ∷ lines) ≡ n
+            → Stands self.old h → Stands self.new (with_lines link (line ∷ lines) h) }
         ensures numbers { numbers self.new.seen.links ≡ numbers self.old.seen.links }
         ensures rest { SameRest self.old self.new }
         ensures rests { self.new.rests ≡ self.old.rests }
     {
-        self.links.take(link, offered, n);
+        let given = given_of(self.links.down(link), offered, n);
+        self.links.take(link, given, n);
     }
 
     /// A send found the link gone: it ends as the next round begins.
@@ -272,6 +287,13 @@ impl State {
     {
         self.links.clear();
     }
+}
+
+/// How many bytes count as given to a link: a downlink is never given more than it takes.
+fn given_of(down: Option<Down>, offered: usize, n: usize) -> usize
+    ensures { result ≡ (if is_some down then n else offered) }
+{
+    if down.is_some() { n } else { offered }
 }
 
 /// As many of these bytes as one offer has.

@@ -1,17 +1,19 @@
 //! What is asked of the links that are served.
-ghost use Rattle.std.specs.Prelude.{◌≡◌, ◌++◌, IfOk, OnOk, filter, map, true};
+ghost use Rattle.std.specs.Prelude.{◌≡◌, ◌++◌, IfOk, OnOk, filter, map, option_map, true};
 ghost use Rattle.line_verdict.specs.Voices.{HasStation, voice_of};
-ghost use Rattle.served_links.specs.Links.{client_at, clients_in, filters_at, has_number, held_at, here, is_late_link, is_lost, is_overfull, numbers, others_from, speaker_at, submitted_from};
+ghost use Rattle.served_links.specs.Links.{client_at, clients_in, down_at, filters_at, has_number, held_at, here, is_late_link, is_lost, is_overfull, kind_and_from, numbers, opening_at, others_from, speaker_at, submitted_from};
 ghost use Rattle.served_links.specs.EndLines.{late_line, lost_line, stop_line};
 
 use super::Served;
-use crate::link::Timeouts;
+use crate::link::{Down, Timeouts};
 use crate::links::{
-    all, cutter_at, has_filters_at, has_link, is_client_at, is_submitted, late, lost, voice_at,
+    all, cutter_at, down_at, has_filters_at, has_link, is_client_at, is_submitted, late, lost,
+    opened_by, voice_at,
 };
 use crate::logins::Logins;
 use crate::telling::{tell_late, tell_lost, tell_stopped};
-use aprs_base::{Cutter, JournalLine, Memory, Source};
+use aprs_base::{Addr, Cutter, JournalLine, Memory, Source};
+use aprs_history::LinkKind;
 use line_verdict::Voice;
 use std::alloc::Global;
 
@@ -43,6 +45,20 @@ impl Served {
         ensures { result ≡ client_at number self.now.links }
     {
         is_client_at(self.sessions.as_slice(), number)
+    }
+
+    /// What that link is to the server, and where it came from.
+    pub fn opened_by(&self, number: u32) -> Option<(LinkKind, Addr)>
+        ensures { result ≡ option_map kind_and_from (opening_at number self.now.links) }
+    {
+        opened_by(self.sessions.as_slice(), number)
+    }
+
+    /// The downlink that this link is. Takes no memory.
+    pub fn down(&self, number: u32) -> Option<Down>
+        ensures { result ≡ down_at number self.now.links }
+    {
+        down_at(self.sessions.as_slice(), number)
     }
 
     /// Whether what comes from there was submitted here.

@@ -4,12 +4,13 @@ ghost use Rattle.std.specs.Arc.{arc_value};
 ghost use Rattle.aprs_base.specs.Bytes.{is_station};
 ghost use Rattle.aprs_base.specs.Cuts.{cuts_by};
 ghost use Rattle.aprs_base.specs.Held.{held_after};
-ghost use Rattle.served_links.specs.Links.{Rises, held_at, numbers};
+ghost use Rattle.served_links.specs.Links.{Rises, held_at, numbers, starts_line_at};
 ghost use Rattle.served_links.specs.Changes.{at_link, when_gone, with_bytes, with_filter, with_room, with_session, with_text};
 ghost use Rattle.served_links.specs.Halves.{IsEmptied};
 
 use super::Served;
-use crate::links::place_of;
+use crate::link::Down;
+use crate::links::{place_here, place_of};
 use aprs_base::{Cut, Line, Memory, copy_call};
 use aprs_history::Session;
 use filter_eval::{Friends, Seen};
@@ -50,20 +51,44 @@ impl Served {
         self.sessions.bring(alloc, number, moment, bytes)
     }
 
-    /// The link of that number has logged in, and is told so. Its login was last seen there. After `Memory` no link is left.
+    /// Whether the link of that number has taken each line wholly that it has begun to take. After `Memory` no link is left.
+    pub fn is_at_line_start(&mut self, number: u32) -> Result<bool, Memory>
+        ensures rises { (high : ℕ) → Rises 0 (numbers self.old.links) high → Rises 0 (numbers self.new.links) high }
+        ensures links { OnOk result (self.new ≡ record self.old { waiting = 0 }) }
+        ensures value { IfOk result (λ starts. starts ≡ starts_line_at number self.old.links) }
+        ensures err { OnErr result (IsEmptied self.old self.new) }
+    {
+        self.settle_alone()?;
+        Ok(self.starts_line(number))
+    }
+
+    /// Whether the link of that number has taken each line wholly that it has begun to take, where all that came is matched.
+    fn starts_line(&self, number: u32) -> bool
+        requires { self.now.waiting ≡ 0 }
+        ensures { result ≡ starts_line_at number self.now.links }
+    {
+        match place_here(self.sessions.as_slice(), number) {
+            Some(place) => self.feeds.at_line_start(place),
+            None => true,
+        }
+    }
+
+    /// The link of that number has logged in, may have become a downlink, and is told so. Its login was last seen there. After
+    /// `Memory` no link is left.
     pub fn log_in(
         &mut self,
         number: u32,
         session: Session,
+        down: Option<Down>,
         mine: Option<Seen>,
         reply: Arc<Line>,
     ) -> Result<(), Memory>
         requires { IsTrue (is_station session.call) }
-        ensures ok { OnOk result (self.new ≡ record self.old { links = map (at_link number (with_session session mine (arc_value reply))) self.old.links; waiting = 0 }) }
+        ensures ok { OnOk result (self.new ≡ record self.old { links = map (at_link number (with_session session down mine (arc_value reply))) self.old.links; waiting = 0 }) }
         ensures err { OnErr result (IsEmptied self.old self.new) }
     {
         self.settle_alone()?;
-        match self.begin_session(number, session, mine, reply) {
+        match self.begin_session(number, session, down, mine, reply) {
             Ok(()) => Ok(()),
             Err(memory) => {
                 self.give_up();
@@ -77,18 +102,19 @@ impl Served {
         &mut self,
         number: u32,
         session: Session,
+        down: Option<Down>,
         mine: Option<Seen>,
         reply: Arc<Line>,
     ) -> Result<(), Memory>
         requires station { IsTrue (is_station session.call) }
         requires settled { self.old.waiting ≡ 0 }
-        ensures ok { OnOk result (self.new ≡ record self.old { links = map (at_link number (with_session session mine (arc_value reply))) self.old.links }) }
+        ensures ok { OnOk result (self.new ≡ record self.old { links = map (at_link number (with_session session down mine (arc_value reply))) self.old.links }) }
         ensures err { OnErr result (self.new ≡ self.old) }
     {
         let call = copy_call(&session.call);
         match place_of(self.sessions.as_slice(), number) {
             Some(place) => {
-                let feed = self.sessions.log_in(place, session)?;
+                let feed = self.sessions.log_in(place, session, down)?;
                 self.feeds.log_in(place, feed, call, mine, reply);
                 Ok(())
             }

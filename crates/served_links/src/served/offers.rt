@@ -61,13 +61,13 @@ impl Served {
     }
 }
 
-/// Whether the link of that session, at that place, isn't blocked and has bytes to take.
+/// Whether the link of that session, at that place, isn't blocked or is a downlink, and has bytes to take.
 fn is_ready(session: &LinkSession, feeds: &Feeds, place: usize) -> bool
     requires settled { feeds.now.waiting ≡ 0 }
     requires within { place < length feeds.now.links }
     ensures { (state : FeedSeen) → slice_get feeds.now.links place ≡ Some state → result ≡ is_ready (joined session.now state) }
 {
-    !session.is_blocked() && feeds.pending(place) > 0
+    session.is_open() && feeds.pending(place) > 0
 }
 
 /// The numbers of the links that are to be offered their next bytes.

@@ -45,7 +45,7 @@ impl State {
     ) -> Result<(), Memory>
         requires station { IsTrue (has_station origin.now) }
         requires datagram { IsDatagram from }
-        ensures core { OnOk result (self.new ≡ with_verdict from (verdict_of (carried_at origin.now self.old) cut.now) self.old) }
+        ensures core { OnOk result (self.new ≡ with_verdict from cut.now (verdict_of (carried_at origin.now self.old) cut.now) self.old) }
         ensures lines { OnOk result (lines.new.items ≡ lines.old.items ++ said_lines self.old from (verdict_of (carried_at origin.now self.old) cut.now)) }
     {
         match cut {
@@ -159,6 +159,38 @@ impl State {
         }
     }
 
+    /// What the listener of that number serves.
+    fn kind_served(&self, listener: u16) -> Option<PortKind>
+        ensures { result ≡ kind_at (setting_of self.now.conf) listener }
+    {
+        served_by(&self.conf, listener)
+    }
+
+    /// The lines of a datagram came, on a listener of that kind.
+    fn serve_datagram(
+        &mut self,
+        alloc: Global,
+        kind: Option<PortKind>,
+        listener: u16,
+        from: Addr,
+        cuts: &[Cut],
+        lines: &mut Vec<JournalLine>,
+    ) -> Result<(), Memory>
+        ensures walks { (t : Trace) → Walks self.old t → OnOk result (Walks self.new (with_lines (setting_of self.old.conf) kind listener from cuts.now t)) }
+        ensures tells { (t : Trace) → Walks self.old t
+            → OnOk result (Tells (setting_of self.old.conf) t (with_lines (setting_of self.old.conf) kind listener from cuts.now t) lines.old.items lines.new.items) }
+        ensures rest { OnOk result (SameRest self.old self.new) }
+    {
+        let Some((first, more)) = cuts.split_first() else {
+            return Ok(());
+        };
+        match kind {
+            Some(PortKind::Submit) => self.submit(alloc, listener, first, more, lines),
+            Some(PortKind::Core) => self.relay(alloc, listener, from, cuts, lines),
+            _ => Ok(()),
+        }
+    }
+
     /// A datagram came.
     pub(super) fn take_datagram(
         &mut self,
@@ -175,13 +207,7 @@ impl State {
         ensures rest { OnOk result (SameRest self.old self.new) }
     {
         let cuts = cut_datagram(alloc, bytes)?;
-        let Some((first, more)) = cuts.split_first() else {
-            return Ok(());
-        };
-        match served_by(&self.conf, listener) {
-            Some(PortKind::Submit) => self.submit(alloc, listener, first, more, lines),
-            Some(PortKind::Core) => self.relay(alloc, listener, from, cuts.as_slice(), lines),
-            _ => Ok(()),
-        }
+        let kind = self.kind_served(listener);
+        self.serve_datagram(alloc, kind, listener, from, cuts.as_slice(), lines)
     }
 }

@@ -3,6 +3,7 @@ ghost use Rattle.std.specs.Prelude.{◌≡◌, ◌∷◌, ◌++◌, [], IsTrue, 
 ghost use Rattle.aprs_history.specs.Trace.{Trace, Brought, is_live};
 ghost use Rattle.aprs_history.specs.Links.{brought_by};
 ghost use Rattle.aprs_base.specs.Cuts.{cuts_by};
+ghost use Rattle.aprs_base.specs.declared.cutting.Cut.TheVariants as Cut;
 ghost use Rattle.aprs_base.specs.declared.packets.Source.TheVariants as Source;
 ghost use Rattle.aprs_history.specs.Counts.{is_accepted};
 ghost use Rattle.aprs_history.specs.Verdicts.{login_verdict, verdict_of};
@@ -11,7 +12,7 @@ ghost use Rattle.line_verdict.specs.Fit.{IsFit};
 ghost use Rattle.line_verdict.specs.Voices.{comment_verdict};
 ghost use Rattle.login_pass.specs.Login.{login_of};
 ghost use Rattle.server_core.specs.Meaning.{setting_of};
-ghost use Rattle.server_core.specs.Steps.{SameRest, Walks, scene_at, with_verdict};
+ghost use Rattle.server_core.specs.Steps.{SameRest, Walks, scene_at, with_port, with_verdict};
 ghost use Rattle.server_core.specs.Telling.{Tells, said_lines};
 
 use super::State;
@@ -19,20 +20,22 @@ use super::verdicts::Objection;
 use aprs_base::{Cut, JournalLine, Line, Memory, Source};
 use aprs_history::Verdict;
 use line_verdict::{Voice, is_comment_line, judge_comment};
+use login_pass::downlink;
 use std::alloc::Global;
 
 impl State {
-    /// A link's line that is no packet has this verdict, which is told and done.
+    /// A link's line that is no packet has this verdict, which is told and done. A login asks for its lines at that port.
     fn take_verdict(
         &mut self,
         alloc: Global,
         number: u32,
         verdict: Verdict,
+        port: Option<u16>,
         lines: &mut Vec<JournalLine>,
     ) -> Result<(), Memory>
         requires fit { IsFit verdict }
         requires other { is_accepted verdict ≡ false }
-        ensures core { OnOk result (self.new ≡ with_verdict (Source.Link number) verdict self.old) }
+        ensures core { OnOk result (self.new ≡ with_port (Source.Link number) port verdict self.old) }
         ensures lines { OnOk result (lines.new.items ≡ lines.old.items ++ said_lines self.old (Source.Link number) verdict) }
     {
         let from = Source::Link(number);
@@ -40,7 +43,9 @@ impl State {
         match verdict {
             Verdict::PassedOver => Ok(()),
             Verdict::Refused(refusal) => self.refuse(alloc, &from, refusal),
-            Verdict::LoggedIn(session, answer) => self.log_in(alloc, number, session, answer),
+            Verdict::LoggedIn(session, answer) => {
+                self.log_in(alloc, number, session, port, answer)
+            },
             Verdict::Filtered(answer) => self.answer(alloc, number, answer),
             Verdict::Accepted(..) => unreachable!(),
         }
@@ -57,11 +62,11 @@ impl State {
         line: &Line,
         lines: &mut Vec<JournalLine>,
     ) -> Result<(), Memory>
-        ensures core { OnOk result (self.new ≡ with_verdict (Source.Link number) (login_verdict self.old.conf.server filters line.now (login_of line.now)) self.old) }
+        ensures core { OnOk result (self.new ≡ with_verdict (Source.Link number) (Cut.Line line.now) (login_verdict self.old.conf.server filters line.now (login_of line.now)) self.old) }
         ensures lines { OnOk result (lines.new.items ≡ lines.old.items ++ said_lines self.old (Source.Link number) (login_verdict self.old.conf.server filters line.now (login_of line.now))) }
     {
         let verdict = self.judge_login(alloc, filters, line)?;
-        self.take_verdict(alloc, number, verdict, lines)
+        self.take_verdict(alloc, number, verdict, downlink(line), lines)
     }
 
     /// What the link of that number said, which is a comment or a command.
@@ -74,11 +79,11 @@ impl State {
         line: &Line,
         lines: &mut Vec<JournalLine>,
     ) -> Result<(), Memory>
-        ensures core { OnOk result (self.new ≡ with_verdict (Source.Link number) (comment_verdict voice.now line.now) self.old) }
+        ensures core { OnOk result (self.new ≡ with_verdict (Source.Link number) (Cut.Line line.now) (comment_verdict voice.now line.now) self.old) }
         ensures lines { OnOk result (lines.new.items ≡ lines.old.items ++ said_lines self.old (Source.Link number) (comment_verdict voice.now line.now)) }
     {
         let verdict = judge_comment(alloc, voice, line)?;
-        self.take_verdict(alloc, number, verdict, lines)
+        self.take_verdict(alloc, number, verdict, None, lines)
     }
 
     /// A line of the link of that number: it is judged by who speaks there, and what comes of it is told and done.
@@ -89,7 +94,7 @@ impl State {
         cut: &Cut,
         lines: &mut Vec<JournalLine>,
     ) -> Result<(), Memory>
-        ensures core { OnOk result (self.new ≡ with_verdict (Source.Link number) (verdict_of (scene_at self.old number) cut.now) self.old) }
+        ensures core { OnOk result (self.new ≡ with_verdict (Source.Link number) cut.now (verdict_of (scene_at self.old number) cut.now) self.old) }
         ensures lines { OnOk result (lines.new.items ≡ lines.old.items ++ said_lines self.old (Source.Link number) (verdict_of (scene_at self.old number) cut.now)) }
     {
         let from = Source::Link(number);

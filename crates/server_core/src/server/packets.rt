@@ -1,6 +1,7 @@
 //! What an accepted packet comes to.
 ghost use Rattle.std.specs.Prelude.{◌≡◌, ◌++◌, IsTrue, IfOk, OnOk, false, map};
 ghost use Rattle.std.specs.Arc.{arc_value};
+ghost use Rattle.aprs_base.specs.declared.cutting.Cut.TheVariants as Cut;
 ghost use Rattle.std.specs.List.Sorted.{IsStrictlyIncreasing};
 ghost use Rattle.aprs_body.specs.Bodies.{body_of};
 ghost use Rattle.dupe_window.specs.Keys.{key_of};
@@ -169,7 +170,7 @@ impl State {
         lines: &mut Vec<JournalLine>,
     ) -> Result<(), Memory>
         requires station { IsTrue (has_station origin.now) }
-        ensures core { OnOk result (self.new ≡ with_verdict from (packet_verdict (has_copy self.old.seen.moment self.old.seen.window) (read_and_routed self.old.conf.server origin.now (others_from from self.old.seen.links) (parts_of line.now))) self.old) }
+        ensures core { OnOk result (self.new ≡ with_verdict from (Cut.Line line.now) (packet_verdict (has_copy self.old.seen.moment self.old.seen.window) (read_and_routed self.old.conf.server origin.now (others_from from self.old.seen.links) (parts_of line.now))) self.old) }
         ensures lines { OnOk result (lines.new.items ≡ lines.old.items ++ said_lines self.old from (packet_verdict (has_copy self.old.seen.moment self.old.seen.window) (read_and_routed self.old.conf.server origin.now (others_from from self.old.seen.links) (parts_of line.now)))) }
     {
         let mut parts = Parts::unfilled();

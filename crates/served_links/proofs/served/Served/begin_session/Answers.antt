@@ -1,7 +1,9 @@
 use Rattle.std.proofs.Common.{◌≡◌, ℕ, Option, Some, ap, refl, slice_get, ◌∙◌, List}
 use Rattle.std.specs.List.{position}
+use Rattle.std.specs.Option.{option_or}
 use Rattle.std.specs.Arc.{arc_value}
 use Rattle.aprs_history.specs.declared.verdicts.Session.{Session}
+use Rattle.aprs_history.specs.Downs.{DownSeen}
 use Rattle.aprs_history.specs.Stands.{LinkSeen, place_kept}
 use Rattle.filter_eval.specs.declared.seen.Seen.{Seen}
 use Rattle.worker_match.specs.declared.links.Feed.{Feed}
@@ -26,8 +28,8 @@ log_in-requires-in-Some-clause-within c =
 pub log_in-requires-clause-within : goal.log_in-requires-clause-within
 log_in-requires-clause-within c = within_halves c.args.number c.in-Some.place c.self.inside.sessions c.as_slice.result.now c.as_slice.ensures.value c.in-Some.ensures
 
-abbrev begun : Session → LinkSeen → LinkSeen
-begun session half = record half { session = Some session }
+abbrev begun : Session → Option DownSeen → LinkSeen → LinkSeen
+begun session down half = record half { session = Some session; down = option_or down half.down }
 
 -- what the link is fed then, and told
 abbrev fed : Feed → List ℕ → Option Seen → List ℕ → FeedSeen → FeedSeen
@@ -37,9 +39,9 @@ pub invariant_of-self-in-Some : goal.invariant_of-self-in-Some
 invariant_of-self-in-Some c =
     both_are c.args.number c.self.inside.sessions c.as_slice.result.now c.self.inside.feeds c.log_in-in-Some.new.self c.self.invariant.0 c.in-Some.place c.as_slice.ensures.value
     (within_halves c.args.number c.in-Some.place c.self.inside.sessions c.as_slice.result.now c.as_slice.ensures.value c.in-Some.ensures)
-    (begun c.args.session) c.log_in.new.self c.in_ok-feed-in-Some.ensures.session (λ h. refl)
-    (fed c.in_ok-feed-in-Some.feed c.copy_call-call.result c.args.mine (arc_value c.args.reply)) (λ h s got m. told_matches (begun c.args.session h) s.link (arc_value c.args.reply) (with_login c.in_ok-feed-in-Some.feed c.copy_call-call.result c.args.mine s)
-    (login_matches h s c.args.session c.in_ok-feed-in-Some.feed c.copy_call-call.result c.args.mine m (c.in_ok-feed-in-Some.ensures.feed h got) c.copy_call-call.ensures)) c.log_in-in-Some.ensures
+    (begun c.args.session c.args.down) c.log_in.new.self c.in_ok-feed-in-Some.ensures.session (λ h. refl)
+    (fed c.in_ok-feed-in-Some.feed c.copy_call-call.result c.args.mine (arc_value c.args.reply)) (λ h s got m. told_matches (begun c.args.session c.args.down h) s.link (arc_value c.args.reply) (with_login c.in_ok-feed-in-Some.feed c.copy_call-call.result c.args.mine s)
+    (login_matches h s c.args.session c.in_ok-feed-in-Some.feed c.copy_call-call.result c.args.mine c.args.down m (c.in_ok-feed-in-Some.ensures.feed h got) c.copy_call-call.ensures)) c.log_in-in-Some.ensures
     (λ h. refl) c.self.invariant.1
 
 pub returns-in_ok-feed-in-Some-clause-ok : goal.returns-in_ok-feed-in-Some-clause-ok
@@ -47,18 +49,18 @@ returns-in_ok-feed-in-Some-clause-ok c =
     let reply = arc_value c.args.reply in
     let logged = with_login c.in_ok-feed-in-Some.feed c.copy_call-call.result c.args.mine in
     let match = λ (h : LinkSeen) (s : FeedSeen) (got : slice_get c.self.inside.sessions c.in-Some.place ≡ Some h) (m : Matches h s).
-    login_matches h s c.args.session c.in_ok-feed-in-Some.feed c.copy_call-call.result c.args.mine m (c.in_ok-feed-in-Some.ensures.feed h got) c.copy_call-call.ensures in
+    login_matches h s c.args.session c.in_ok-feed-in-Some.feed c.copy_call-call.result c.args.mine c.args.down m (c.in_ok-feed-in-Some.ensures.feed h got) c.copy_call-call.ensures in
     both_seen c.args.number c.self.inside.sessions c.as_slice.result.now c.self.inside.feeds c.log_in-in-Some.new.self c.self.invariant.0 c.in-Some.place c.as_slice.ensures.value
     (within_halves c.args.number c.in-Some.place c.self.inside.sessions c.as_slice.result.now c.as_slice.ensures.value c.in-Some.ensures)
-    (begun c.args.session) c.log_in.new.self c.in_ok-feed-in-Some.ensures.session (λ h. refl)
-    (fed c.in_ok-feed-in-Some.feed c.copy_call-call.result c.args.mine reply) (λ h s got m. told_matches (begun c.args.session h) s.link reply (logged s) (match h s got m)) c.log_in-in-Some.ensures
-    (with_session c.args.session c.args.mine reply) c.in-Some.ensures (λ link. named_text reply (record link { session = Some c.args.session; mine = place_kept link.over c.args.mine }))
-    (λ h s got m. told_same (begun c.args.session h) (logged s) (match h s got m) reply) (λ h s got m. told_uncounted (begun c.args.session h) (logged s) (match h s got m) s.link reply)
+    (begun c.args.session c.args.down) c.log_in.new.self c.in_ok-feed-in-Some.ensures.session (λ h. refl)
+    (fed c.in_ok-feed-in-Some.feed c.copy_call-call.result c.args.mine reply) (λ h s got m. told_matches (begun c.args.session c.args.down h) s.link reply (logged s) (match h s got m)) c.log_in-in-Some.ensures
+    (with_session c.args.session c.args.down c.args.mine reply) c.in-Some.ensures (λ link. named_text reply (record link { session = Some c.args.session; down = option_or c.args.down link.down; mine = place_kept link.over c.args.mine }))
+    (λ h s got m. told_same (begun c.args.session c.args.down h) (logged s) (match h s got m) reply) (λ h s got m. told_uncounted (begun c.args.session c.args.down h) (logged s) (match h s got m) s.link reply)
     c.self.inside.queued c.self.inside.rests c.args.self.now c.self.view_is
 
 pub returns-in-None-clause-ok : goal.returns-in-None-clause-ok
 returns-in-None-clause-ok c =
     let reply = arc_value c.args.reply in
-    ap (λ (links : List LinkSeen). record c.args.self.now { links = links }) (changed_nobody c.args.number (with_session c.args.session c.args.mine reply) c.self.inside.sessions c.args.self.now.links c.self.inside.feeds c.self.invariant.0
+    ap (λ (links : List LinkSeen). record c.args.self.now { links = links }) (changed_nobody c.args.number (with_session c.args.session c.args.down c.args.mine reply) c.self.inside.sessions c.args.self.now.links c.self.inside.feeds c.self.invariant.0
     (c.in-None.ensures ∙ ap (position (has_that c.args.number)) c.as_slice.ensures.value) (ap links_of c.self.view_is)
-    (λ link. named_text reply (record link { session = Some c.args.session; mine = place_kept link.over c.args.mine })))
+    (λ link. named_text reply (record link { session = Some c.args.session; down = option_or c.args.down link.down; mine = place_kept link.over c.args.mine })))

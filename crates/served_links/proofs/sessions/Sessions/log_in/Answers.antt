@@ -1,4 +1,5 @@
 use Rattle.std.proofs.Common.{◌+◌, ◌<◌, ◌≡◌, List, Some, ap, arith, length, subst, sym, ◌∙◌}
+use Rattle.std.specs.Option.{option_or}
 use Rattle.aprs_history.specs.Stands.{LinkSeen}
 use Rattle.served_links.specs.Counts.{IsCounted, one_among}
 use Rattle.served_links.specs.Fed.{opening_feed}
@@ -34,7 +35,7 @@ invariant_of-self-2 c =
 
 pub returns-clause-session : goal.returns-clause-session
 returns-clause-session c link got =
-    set_there c.self.inside.links.items c.args.self.now c.self.view_is c.args.place (λ half. record half { session = Some c.args.session }) c.index_mut.result.now c.log_in.new.self link
+    set_there c.self.inside.links.items c.args.self.now c.self.view_is c.args.place (λ half. record half { session = Some c.args.session; down = option_or c.args.down half.down }) c.index_mut.result.now c.log_in.new.self link
     c.index_mut.ensures.value c.log_in.ensures.exact got
 
 pub returns-clause-feed : goal.returns-clause-feed

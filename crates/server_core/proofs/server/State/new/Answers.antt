@@ -10,7 +10,7 @@ use Rattle.server_core.proofs.server.State.new.Goals as goal
 
 pub returns-clause-stands : goal.returns-clause-stands
 unfolding totals_of
-returns-clause-stands c = rw c.new.ensures (stands_listening (setting_of c.args.conf) _ (listeners c.args.conf) 0 _ (stands_new (setting_of c.args.conf) _ c.args.hasher.now refl refl c.new-2.ensures.items c.new-3.ensures.items (c.new-4.ensures ∙ ap empty_window c.dupe_window-seconds.ensures) c.in_ok-new.ensures.empty c.in_ok-new-2.ensures.empty c.reach_for-reach.ensures refl refl refl))
+returns-clause-stands c = rw c.new.ensures (stands_listening (setting_of c.args.conf) _ (listeners c.args.conf) 0 _ (stands_new (setting_of c.args.conf) _ c.args.hasher.now refl refl c.new-2.ensures.items c.new-3.ensures.items (c.new-4.ensures ∙ ap empty_window c.dupe_window-seconds.ensures) c.in_ok-new.ensures.empty c.in_ok-new-2.ensures.empty c.reach_for-reach.ensures refl refl refl refl))
 
 pub invariant_of-result : goal.invariant_of-result
 invariant_of-result c = record {

@@ -1,37 +1,30 @@
-use Rattle.std.proofs.Common.{◌≡◌, Some, ap, ◌∙◌, map}
-use Rattle.std.specs.Arc.{arc_value}
-use Rattle.filter_eval.specs.Passes.{fresh}
-use Rattle.station_table.specs.Stations.{place_at}
-use Rattle.aprs_base.specs.declared.packets.Source.TheVariants as source
-use Rattle.aprs_history.specs.Stands.{place_kept}
-use Rattle.aprs_history.specs.Texts.{login_reply}
+use Rattle.std.proofs.Common.{Option, ap, subst, sym, ◌<◌, ◌+◌, ◌∙◌, IfSome}
 use Rattle.std.proofs.lemmas.Result.{on_ok_weaker}
-use Rattle.served_links.specs.Halves.{ServedSeen}
-use Rattle.server_core.specs.LinkSteps.{after_login}
-use Rattle.served_links.specs.Changes.{at_link, with_session}
-use Rattle.server_core.specs.Meaning.{CoreMeaning}
-use Rattle.server_core.proofs.CoreLemmas.{kept_risen, relinked, risen_by, with_served}
-use Rattle.server_core.proofs.FollowLemmas.{text_number}
+use Rattle.aprs_base.specs.declared.texts.Addr.{Addr}
+use Rattle.aprs_history.specs.Downs.{DownSeen, one_if}
+use Rattle.served_links.specs.Links.{opening_at, starts_line_at}
+use Rattle.server_core.specs.LinkSteps.{after_login_at, greeted}
+use Rattle.aprs_base.specs.declared.packets.Source.TheVariants as source
+use Rattle.server_core.specs.Meaning.{CoreMeaning, downs_of}
+use Rattle.server_core.proofs.ConfLemmas.{asked_few}
 use Rattle.server_core.proofs.server.State.open_session.Goals as goal
+
+pub new_down-down-requires : goal.new_down-down-requires
+new_down-down-requires c =
+    let core = c.args.self.now in
+    let same = c.in_ok-asked.ensures.same in
+    let few = asked_few (downs_of core.conf) (opening_at c.args.number core.seen.links) core.seen.downs 65280 (starts_line_at c.args.number core.seen.links) c.args.port c.in_ok-asked.asked c.in_ok-asked.ensures.asked in
+    subst (λ (now : CoreMeaning). IfSome c.in_ok-asked.asked (λ to. now.seen.downs < 65280)) (sym same) few
 
 pub returns : goal.returns
 returns c =
-    let inside = c.self.inside in
-    let core : CoreMeaning = record { conf = inside.conf; seen = record { moment = inside.moment; links = inside.links.links; turned = inside.turned.items; closing = inside.closing.items; window = inside.window; stations = inside.stations; heard = inside.heard; reach = inside.reach; greatest = inside.greatest; stopped = inside.stopped; totals = record { accepted = inside.counts.accepted; duplicate = inside.counts.duplicate; refused = inside.counts.refused; queued = inside.links.queued } }; rests = inside.links.rests } in
-    let reply : arc_value c.in_ok-line.line ≡ login_reply inside.conf.server c.args.session =
-    c.in_ok-line.ensures.ok ∙ c.login_line.ensures ∙ ap (λ server. login_reply server c.args.session) c.server_of.ensures in
-    let links = inside.links.links in
-    on_ok_weaker c.log_in.result
-    (λ is. ap (λ (s : ServedSeen). with_served s core) is
-    ∙ ap (λ links. relinked links core) (ap (λ mine. map (at_link c.args.number (with_session c.args.session mine (arc_value c.in_ok-line.line))) links) c.place_of-mine.ensures.exact
-    ∙ ap (λ line. map (at_link c.args.number (with_session c.args.session (fresh inside.moment (place_at inside.stations c.args.session.call)) line)) links) reply)
-    ∙ ap (λ (core : CoreMeaning). record core { seen = after_login core.conf.server (source.Link c.args.number) c.args.session core.seen }) c.self.view_is)
-    c.log_in.ensures.ok
-
-pub invariant_of-self : goal.invariant_of-self
-invariant_of-self c =
-    let line = arc_value c.in_ok-line.line in
-    kept_risen _ c.log_in.new.self
-    (risen_by c.log_in.result c.args.number (with_session c.args.session c.place_of-mine.result line) c.self.inside.links c.log_in.new.self c.self.inside.greatest
-    (λ link. text_number line (record link { session = Some c.args.session; mine = place_kept link.over c.place_of-mine.result }))
-    c.log_in.ensures.err c.log_in.ensures.ok c.self.invariant.rising) c.self.invariant
+    let core = c.args.self.now in
+    let asked = c.in_ok-asked.asked in
+    let number = c.args.number in
+    on_ok_weaker c.greet.result
+    (λ is. is
+    ∙ ap (λ (now : CoreMeaning). record now { seen = greeted now.conf.server number c.args.session c.new_down-down.result now.seen }) c.new_down-down.ensures.counted
+    ∙ ap (λ (down : Option DownSeen). record c.asked_address.new.self { seen = greeted c.asked_address.new.self.conf.server number c.args.session down (record c.asked_address.new.self.seen { downs = c.asked_address.new.self.seen.downs + one_if asked }) }) c.new_down-down.ensures.down
+    ∙ ap (λ (now : CoreMeaning). record now { seen = after_login_at now.conf.server (source.Link number) c.args.session asked now.seen }) c.in_ok-asked.ensures.same
+    ∙ ap (λ (asked : Option Addr). record core { seen = after_login_at core.conf.server (source.Link number) c.args.session asked core.seen }) c.in_ok-asked.ensures.asked)
+    c.greet.ensures

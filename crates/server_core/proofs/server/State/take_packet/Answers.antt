@@ -1,5 +1,6 @@
 use Rattle.std.proofs.Common.{◌≡◌, ◌∙◌, ◌++◌, Bool, Result, Ok, ap, map, sym, if◌then◌else◌}
 use Rattle.std.proofs.lemmas.Result.{on_ok_weaker}
+use Rattle.aprs_base.specs.declared.cutting.Cut.TheVariants as cut
 use Rattle.aprs_base.specs.PacketSeen.{PacketSeen}
 use Rattle.aprs_base.specs.PartsSeen.{PartsSeen}
 use Rattle.aprs_history.specs.Scenes.{packet_of}
@@ -44,6 +45,6 @@ returns-in_ok-packet-in-Ok-clause-core c =
     on_ok_weaker c.accept.result
     (λ is. is
     ∙ ap (λ (packet : PacketSeen). record now { seen = after_packet (map peer_of now.conf.peers) packet now.seen }) (c.deref.ensures ∙ c.in_ok-packet-in-Ok.ensures ∙ ap (packet_of c.args.from now.seen.moment parts) c.line_of-text.ensures)
-    ∙ ap (with_verdict c.args.from (Accepted parts (text_of parts))) c.in-Ok.ensures.same
-    ∙ ap (λ (verdict : Verdict). with_verdict c.args.from verdict core) (sym says))
+    ∙ ap (with_verdict c.args.from (cut.Line c.args.line.now) (Accepted parts (text_of parts))) c.in-Ok.ensures.same
+    ∙ ap (λ (verdict : Verdict). with_verdict c.args.from (cut.Line c.args.line.now) verdict core) (sym says))
     c.accept.ensures

@@ -1,0 +1,15 @@
+-- The lines that a downlink is sent, each in a datagram of its own.
+use Rattle.std.specs.Prelude.{ℕ, ◌+◌, List, [], ◌∷◌, length}
+use Rattle.aprs_base.specs.declared.events.Happening.TheVariants as did
+use Rattle.aprs_base.specs.declared.events.Sent.TheVariants as sent
+use Rattle.aprs_history.specs.History.{History}
+
+-- how many bytes they have
+abbrev pub bytes_in : List (List ℕ) → ℕ
+bytes_in [] = 0
+bytes_in (line ∷ lines) = length line + bytes_in lines
+
+-- the link takes them whole, in order
+abbrev pub with_lines : (link : ℕ) → List (List ℕ) → History → History
+with_lines link [] history = history
+with_lines link (line ∷ lines) history = with_lines link lines (did.Sent link line (sent.Took (length line)) ∷ history)
