@@ -4,7 +4,7 @@ use Rattle.std.specs.Prelude.{slice_get}
 use Rattle.aprs_base.specs.declared.events.Event.{Event}
 use Rattle.aprs_base.specs.declared.events.Event.TheVariants as event
 use Rattle.aprs_base.specs.declared.events.Happening.TheVariants as did
-use Rattle.aprs_history.specs.Acts.{Act, Listens, Dials, Casts, Offers, Closes}
+use Rattle.aprs_history.specs.Acts.{Act, Listens, Dials, Casts, Offers, SendsLine, Closes}
 use Rattle.aprs_history.specs.History.{is_round_event}
 use Rattle.net_history.specs.declared.events.NetEvent.{NetEvent}
 use Rattle.net_history.specs.declared.events.NetEvent.TheVariants as net
@@ -36,6 +36,7 @@ effect server (Listens number) n all = all
 effect server (Dials uplink) n all = change (with_dial uplink) (λ s calm. calm) server n all
 effect server (Casts peer bytes) n all = all
 effect server (Offers link bytes) n all = all
+effect server (SendsLine link line) n all = all
 effect server (Closes link) n all = told (end_beyond server link n.pairs) (record n { pairs = map (parted_at server link) n.pairs }) all
 
 acts_calm : (server : ℕ) (acts : List Act) (n : NetSeen) → Each IsCalm n.servers → Each IsCalm (with_acts server acts n).servers

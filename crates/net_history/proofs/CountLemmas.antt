@@ -1,19 +1,23 @@
 -- The links of a server are counted: those that wait have the next numbers, and one that never came takes nothing.
-use Rattle.std.proofs.Common.{◌≡◌, ℕ, ◌+◌, ◌<◌, ◌≤◌, ◌||◌, Bool, false, List, [], ◌∷◌, ◌++◌, length, refl, sym, ap, ◌∙◌, subst, arith, IfSome, Option, Some, None, if◌then◌else◌}
+use Rattle.std.proofs.Common.{◌≡◌, ℕ, ◌+◌, ◌<◌, ◌≤◌, ◌||◌, Bool, true, false, List, [], ◌∷◌, ◌++◌, length, map, take, refl, sym, ap, ◌∙◌, subst, arith, IfSome, Option, Some, None, append_assoc, if◌then◌else◌}
 use Rattle.std.specs.Bool.{⊤}
 use Rattle.std.specs.Prelude.{slice_get}
 use Rattle.aprs_base.specs.Outside.{new_link}
 use Rattle.aprs_base.specs.declared.events.Event.{Event}
 use Rattle.aprs_base.specs.declared.events.Sent.{Sent}
 use Rattle.aprs_base.specs.declared.events.Happening.TheVariants as did
+use Rattle.aprs_base.specs.declared.packets.ListenSpec.{ListenSpec}
 use Rattle.aprs_history.specs.Setting.{Setting}
-use Rattle.aprs_history.specs.Trace.{Trace}
+use Rattle.aprs_history.specs.Trace.{Trace, Rises, closed_links, served_links}
 use Rattle.aprs_history.specs.History.{History, ends_round, greater_link, greatest_link, is_stopped, open_events, trace_of}
 use Rattle.aprs_history.specs.Rounds.{AreFresh, greatest_after, stopped_after}
-use Rattle.aprs_history.specs.Acts.{Act, Offers, IsRun, MayCome, but_first, due}
+use Rattle.aprs_history.specs.Acts.{Act, Offers, SendsLine, Closes, IsRun, MayCome, acts_after, all_offers, but_first, cast_act, dials, due, is_offered, listens_from, offered_links, offers_by, offers_to}
+use Rattle.aprs_history.specs.Dials.{CastSeen, casts_of, dial_of}
+use Rattle.aprs_history.specs.Downs.{DownSeen, down_of, whole_lines}
+use Rattle.aprs_history.specs.Texts.{untaken}
 use Rattle.aprs_history.specs.Headline.{HasFreshLinks, taken_bytes, taken_of}
-use Rattle.aprs_history.proofs.DueLemmas.{OffersStand, offers_after, offers_listens, offers_within, serves}
-use Rattle.aprs_history.proofs.NumberLemmas.{differs_above}
+use Rattle.aprs_history.proofs.DueLemmas.{serves}
+use Rattle.aprs_history.proofs.NumberLemmas.{differs_above, rises_filtered, rises_within}
 use Rattle.net_history.specs.declared.events.NetEvent.{NetEvent}
 use Rattle.net_history.specs.Network.{Layout, ServerSeen}
 use Rattle.net_history.specs.Steps.{network_of}
@@ -55,34 +59,70 @@ counted_fresh [] counts = tt
 counted_fresh (did.Event e ∷ h) counts = (counted_fresh h counts.0, next_above (greatest_link h) (new_link e) counts.1)
 counted_fresh (x ∷ h) counts = counted_fresh h counts
 
--- each offer is to a link of such a number at most
+-- what is sent goes to links of such a number at most
 abbrev Reaches : ℕ → List Act → Type 0
 Reaches high [] = ⊤
 Reaches high (Offers link bytes ∷ acts) = (link ≤ high) × Reaches high acts
+Reaches high (SendsLine link line ∷ acts) = (link ≤ high) × Reaches high acts
 Reaches high (act ∷ acts) = Reaches high acts
 
-offers_reach : (s : Setting) (t : Trace) (low : ℕ) (acts : List Act) (high : ℕ) → OffersStand s t low acts high → Reaches high acts
-offers_reach s t low [] high stand = tt
-offers_reach s t low (Offers link bytes ∷ acts) high stand = (offers_within s t link acts high stand.2, offers_reach s t link acts high stand.2)
-offers_reach s t low (act ∷ acts) high stand = offers_reach s t low acts high stand
+lines_reach : (high link : ℕ) (lines : List (List ℕ)) (acts : List Act) → link ≤ high → Reaches high acts → Reaches high (map (SendsLine link) lines ++ acts)
+lines_reach high link [] acts within reaches = reaches
+lines_reach high link (line ∷ lines) acts within reaches = (within, lines_reach high link lines acts within reaches)
+
+offer_reaches : (high link : ℕ) (down : Option DownSeen) (bytes : List ℕ) (acts : List Act) → link ≤ high → Reaches high acts → Reaches high (offers_by down link bytes ++ acts)
+offer_reaches high link None bytes acts within reaches = (within, reaches)
+offer_reaches high link (Some down) bytes acts within reaches = lines_reach high link (whole_lines bytes) acts within reaches
+
+closes_reach : (high : ℕ) (links : List ℕ) → Reaches high (map Closes links)
+closes_reach high [] = tt
+closes_reach high (link ∷ links) = closes_reach high links
+
+casts_reach : (high : ℕ) (casts : List CastSeen) (acts : List Act) → Reaches high acts → Reaches high (map cast_act casts ++ acts)
+casts_reach high [] acts reaches = reaches
+casts_reach high (cast ∷ casts) acts reaches = casts_reach high casts acts reaches
+
+dials_reach : (high : ℕ) (dial : Option ℕ) (acts : List Act) → Reaches high acts → Reaches high (dials dial ++ acts)
+dials_reach high None acts reaches = reaches
+dials_reach high (Some uplink) acts reaches = reaches
+
+listens_reach : (high n : ℕ) (listens : List ListenSpec) → Reaches high (listens_from n listens)
+listens_reach high n [] = tt
+listens_reach high n (spec ∷ specs) = listens_reach high (n + 1) specs
+
+module _ (s : Setting) (t : Trace) where
+  offers_reach : (low high : ℕ) (links : List ℕ) (acts : List Act) → Rises low links high → Reaches high acts → Reaches high (all_offers s t links ++ acts)
+  offers_reach low high [] acts rises reaches = reaches
+  offers_reach low high (link ∷ links) acts rises reaches =
+      subst (Reaches high) (sym (append_assoc (offers_to s t link) (all_offers s t links) acts))
+      (offer_reaches high link (down_of s t link) (take 65536 (untaken s t link)) (all_offers s t links ++ acts) (rises_within link high links rises.1) (offers_reach link high links acts rises.1 reaches))
+
+  -- at the end of a round
+  acts_reach : (ends : Bool) (high : ℕ) → Rises 0 (served_links t) high → Reaches high (if ends then acts_after s t else [])
+  acts_reach true high rises =
+      let closes = map Closes (closed_links t) in
+      let offers = all_offers s t (offered_links s t) ++ closes in
+      dials_reach high (dial_of s t) (map cast_act (casts_of s t) ++ offers)
+      (casts_reach high (casts_of s t) offers (offers_reach 0 high (offered_links s t) closes (rises_filtered (is_offered s t) 0 high (served_links t) rises) (closes_reach high (closed_links t))))
+  acts_reach false high rises = tt
 
 reaches_next : (high : ℕ) (acts : List Act) → Reaches high acts → Reaches high (but_first acts)
 reaches_next high [] reaches = reaches
 reaches_next high (Offers link bytes ∷ acts) reaches = reaches.1
+reaches_next high (SendsLine link line ∷ acts) reaches = reaches.1
 reaches_next high (act ∷ acts) reaches = reaches
 
 due_reaches : (s : Setting) (h : History) → IsRun s h → HasFreshLinks h → Reaches (greatest_link h) (due s h)
 unfolding due
-due_reaches s [] run fresh = offers_reach s [] 0 (due s []) 0 (offers_listens s [] 0 s.listens 0)
+due_reaches s [] run fresh = listens_reach 0 0 s.listens
 due_reaches s (did.Event e ∷ h) run fresh =
-    let t = trace_of s (did.Event e ∷ h) in
-    let high = greatest_link (did.Event e ∷ h) in
-    offers_reach s t 0 (due s (did.Event e ∷ h)) high (offers_after s t (ends_round (open_events h) e) high (serves s (did.Event e ∷ h) run fresh).1)
+    acts_reach s (trace_of s (did.Event e ∷ h)) (ends_round (open_events h) e) (greatest_link (did.Event e ∷ h)) (serves s (did.Event e ∷ h) run fresh).1
 due_reaches s (x ∷ h) run fresh = reaches_next (greatest_link h) (due s h) (due_reaches s h run.0 fresh)
 
 sent_within : (acts : List Act) (stopped : Bool) (link : ℕ) (bytes : List ℕ) (outcome : Sent) (high : ℕ) → MayCome acts stopped (did.Sent link bytes outcome) → Reaches high acts → link ≤ high
 sent_within [] stopped link bytes outcome high may reaches = absurd may.1
 sent_within (Offers owed given ∷ acts) stopped link bytes outcome high may reaches = subst (λ k. k ≤ high) (sym may.0) reaches.0
+sent_within (SendsLine owed line ∷ acts) stopped link bytes outcome high may reaches = subst (λ k. k ≤ high) (sym may.0) reaches.0
 sent_within (act ∷ acts) stopped link bytes outcome high may reaches = absurd may
 
 -- in a run, what is sent is sent to links that have come

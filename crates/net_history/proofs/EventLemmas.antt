@@ -15,7 +15,7 @@ use Rattle.aprs_base.specs.declared.packets.PortKind.TheVariants as kind
 use Rattle.aprs_base.specs.declared.texts.Addr.{Addr}
 use Rattle.link_queue.specs.Lines.{ended_line}
 use Rattle.aprs_history.specs.Setting.{Setting, is_dupe_kind, kind_at}
-use Rattle.aprs_history.specs.Acts.{Act, Listens, Dials, Casts, Offers, Closes, IsRun, due}
+use Rattle.aprs_history.specs.Acts.{Act, Listens, Dials, Casts, Offers, SendsLine, Closes, IsRun, due}
 use Rattle.aprs_history.specs.Casting.{casts_to_peer}
 use Rattle.aprs_history.specs.History.{History, datagram_cuts, greater_link, greatest_link, open_events}
 use Rattle.aprs_history.specs.Rounds.{listens_after}
@@ -257,6 +257,7 @@ fits_acted rest (Listens number) s fits = record { had = fits.had; comes = fits.
 fits_acted rest (Dials uplink) s fits = record { had = fits.had; comes = fits.comes }
 fits_acted rest (Casts peer bytes) s fits = record { had = fits.had; comes = fits.comes }
 fits_acted rest (Offers link bytes) s fits = record { had = fits.had; comes = fits.comes }
+fits_acted rest (SendsLine link line) s fits = record { had = fits.had; comes = fits.comes }
 fits_acted rest (Closes link) s fits = record { had = fits.had; comes = fits.comes }
 
 fits_dial : (rest : List Event) (uplink : ℕ) (s : ServerSeen) → Fits rest s → Fits rest (with_dial uplink s)
@@ -276,6 +277,7 @@ fit_effect rest server (Listens number) n fit = fit
 fit_effect rest server (Dials uplink) n fit = one_changed (Fits []) (Fits rest) (Fits rest) (with_dial uplink) (fits_dial rest uplink) server n.servers fit
 fit_effect rest server (Casts peer bytes) n fit = fit
 fit_effect rest server (Offers link bytes) n fit = fit
+fit_effect rest server (SendsLine link line) n fit = fit
 fit_effect rest server (Closes link) n fit = fit_told rest server (end_beyond server link n.pairs) (record n { pairs = map (parted_at server link) n.pairs }) fit
 
 fit_acts : (rest : List Event) (server : ℕ) (acts : List Act) (n : NetSeen) → AllFit rest server n.servers → AllFit rest server (with_acts server acts n).servers

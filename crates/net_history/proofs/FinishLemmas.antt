@@ -6,7 +6,7 @@ use Rattle.aprs_base.specs.declared.events.Event.{Event}
 use Rattle.aprs_base.specs.declared.events.Event.TheVariants as event
 use Rattle.aprs_base.specs.declared.events.Happening.TheVariants as did
 use Rattle.aprs_base.specs.declared.packets.ListenSpec.{ListenSpec}
-use Rattle.aprs_history.specs.Acts.{Act, Listens, Dials, Casts, Offers, Closes}
+use Rattle.aprs_history.specs.Acts.{Act, Listens, Dials, Casts, Offers, SendsLine, Closes}
 use Rattle.aprs_history.specs.History.{History, open_events}
 use Rattle.aprs_history.specs.Rounds.{listens_after}
 use Rattle.net_history.specs.declared.events.Pair.{Pair}
@@ -30,6 +30,7 @@ act_leaves (Listens number) h = refl
 act_leaves (Dials uplink) h = refl
 act_leaves (Casts peer bytes) h = refl
 act_leaves (Offers link bytes) h = refl
+act_leaves (SendsLine link line) h = refl
 act_leaves (Closes link) h = refl
 
 -- what holds of the one server, whatever waits there and whatever it does
@@ -55,6 +56,7 @@ module _ (Q : ServerSeen → Type 0) (stays : Stays Q) (server : ℕ) where
   effect_stays (Dials uplink) n all = one_changed IsFinished Q Q (with_dial uplink) (stays.dialled uplink) server n.servers all
   effect_stays (Casts peer bytes) n all = all
   effect_stays (Offers link bytes) n all = all
+  effect_stays (SendsLine link line) n all = all
   effect_stays (Closes link) n all = told_stays (end_beyond server link n.pairs) (record n { pairs = map (parted_at server link) n.pairs }) all
 
   acts_stay : (acts : List Act) (n : NetSeen) → AllBut IsFinished Q server n.servers → AllBut IsFinished Q server (with_acts server acts n).servers

@@ -18,6 +18,7 @@ pub mod PacketLineLemmas
 pub mod PairLineLemmas
 pub mod PassingLemmas
 pub mod PlaceLemmas
+pub mod PlainLemmas
 pub mod Rows
 pub mod RunLemmas
 pub mod SaidLemmas

@@ -30,6 +30,7 @@ server call code = record {
   server = call;
   code = code;
   listens = listen kind.Full 1 ∷ listen kind.Igate 2 ∷ [];
+  downs = [];
   uplinks = [];
   peers = [];
   up_timeout = 15;

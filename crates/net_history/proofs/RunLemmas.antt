@@ -11,7 +11,7 @@ use Rattle.aprs_base.specs.declared.texts.Addr.{Addr}
 use Rattle.aprs_history.specs.Setting.{Setting}
 use Rattle.aprs_history.specs.History.{History, greater_link, greatest_link, is_stop, is_stopped}
 use Rattle.aprs_history.specs.Rounds.{listens_after}
-use Rattle.aprs_history.specs.Acts.{Act, Listens, Dials, Casts, Offers, Closes, IsRun, MayCome, but_first, due, listens_from}
+use Rattle.aprs_history.specs.Acts.{Act, Listens, Dials, Casts, Offers, SendsLine, Closes, IsRun, MayCome, but_first, due, listens_from}
 use Rattle.link_queue.specs.Lines.{ended_line}
 use Rattle.net_history.specs.declared.events.Pair.{Pair}
 use Rattle.net_history.specs.declared.events.NetEvent.{NetEvent}
@@ -158,6 +158,14 @@ acted rest (Offers link bytes) acts s goes = record {
   counts = goes.counts;
   comes = goes.comes;
 }
+acted rest (SendsLine link line) acts s goes = record {
+  run = (goes.run, subst (λ owed. MayCome owed (is_stopped s.history) (happening_of (SendsLine link line))) (sym goes.owes) (refl, refl, refl));
+  owes = ap but_first goes.owes;
+  going = goes.going;
+  takes = (goes.takes, refl);
+  counts = goes.counts;
+  comes = goes.comes;
+}
 acted rest (Closes link) acts s goes = record {
   run = (goes.run, subst (λ owed. MayCome owed (is_stopped s.history) (did.Closed link)) (sym goes.owes) refl);
   owes = ap but_first goes.owes;
@@ -182,6 +190,7 @@ effect_good rest owed server (Listens number) n good = good
 effect_good rest owed server (Dials uplink) n good = one_changed Good (Goes rest owed) (Goes rest owed) (with_dial uplink) (dial_good rest owed uplink) server n.servers good
 effect_good rest owed server (Casts peer bytes) n good = good
 effect_good rest owed server (Offers link bytes) n good = good
+effect_good rest owed server (SendsLine link line) n good = good
 effect_good rest owed server (Closes link) n good = told_good rest owed server (end_beyond server link n.pairs) (record n { pairs = map (parted_at server link) n.pairs }) good
 
 acts_good : (rest : List Event) (server : ℕ) (acts : List Act) (n : NetSeen) → AllBut Good (Goes rest acts) server n.servers → AllBut Good (Goes rest []) server (with_acts server acts n).servers

@@ -5,7 +5,7 @@ use Rattle.aprs_base.specs.declared.events.Event.{Event}
 use Rattle.aprs_base.specs.declared.events.Event.TheVariants as event
 use Rattle.aprs_base.specs.declared.events.Happening.TheVariants as did
 use Rattle.aprs_history.specs.Setting.{Setting}
-use Rattle.aprs_history.specs.Acts.{Act, Listens, Dials, Casts, Offers, Closes}
+use Rattle.aprs_history.specs.Acts.{Act, Listens, Dials, Casts, Offers, SendsLine, Closes}
 use Rattle.net_history.specs.declared.events.Pair.{Pair}
 use Rattle.net_history.specs.declared.events.NetEvent.{NetEvent}
 use Rattle.net_history.specs.declared.events.NetEvent.TheVariants as net
@@ -32,6 +32,7 @@ effect_keeps server (Listens number) n = refl
 effect_keeps server (Dials uplink) n = kept_at (with_dial uplink) (λ s. refl) server n
 effect_keeps server (Casts peer bytes) n = refl
 effect_keeps server (Offers link bytes) n = refl
+effect_keeps server (SendsLine link line) n = refl
 effect_keeps server (Closes link) n = told_keeps (end_beyond server link n.pairs) (record n { pairs = map (parted_at server link) n.pairs })
 
 acts_keep : (server : ℕ) (acts : List Act) (n : NetSeen) → settings (with_acts server acts n) ≡ settings n

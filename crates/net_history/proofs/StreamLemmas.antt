@@ -13,7 +13,7 @@ use Rattle.aprs_base.specs.declared.packets.ListenSpec.{ListenSpec}
 use Rattle.aprs_base.specs.declared.texts.Addr.{Addr}
 use Rattle.link_queue.specs.Lines.{ended_line}
 use Rattle.aprs_history.specs.Setting.{Setting}
-use Rattle.aprs_history.specs.Acts.{Act, Listens, Dials, Casts, Offers, Closes}
+use Rattle.aprs_history.specs.Acts.{Act, Listens, Dials, Casts, Offers, SendsLine, Closes}
 use Rattle.aprs_history.specs.Arriving.{bytes_for, came_to}
 use Rattle.aprs_history.specs.Headline.{taken_bytes}
 use Rattle.aprs_history.specs.History.{History}
@@ -70,6 +70,7 @@ sent_more false before bytes = ([], sym (append-nil before))
 
 act_taken : (act : Act) (h : History) → TakesMore h (happening_of act ∷ h)
 act_taken (Offers other bytes) h link = sent_more (link == other) (taken_bytes h link) (take (length bytes) bytes)
+act_taken (SendsLine other line) h link = sent_more (link == other) (taken_bytes h link) (take (length line) line)
 act_taken (Listens n) h link = ([], sym (append-nil (taken_bytes h link)))
 act_taken (Dials n) h link = ([], sym (append-nil (taken_bytes h link)))
 act_taken (Casts peer bytes) h link = ([], sym (append-nil (taken_bytes h link)))
@@ -77,6 +78,7 @@ act_taken (Closes n) h link = ([], sym (append-nil (taken_bytes h link)))
 
 act_came : (act : Act) (h : History) (link : ℕ) → came_to (happening_of act ∷ h) link ≡ came_to h link
 act_came (Offers other bytes) h link = refl
+act_came (SendsLine other line) h link = refl
 act_came (Listens n) h link = refl
 act_came (Dials n) h link = refl
 act_came (Casts peer bytes) h link = refl
@@ -173,6 +175,7 @@ effect_moves server (Closes link) n = told_moves server (end_beyond server link 
 effect_moves server (Listens k) n = still server n.servers
 effect_moves server (Casts peer bytes) n = still server n.servers
 effect_moves server (Offers link bytes) n = still server n.servers
+effect_moves server (SendsLine link line) n = still server n.servers
 
 acts_move : (server : ℕ) (acts : List Act) (n : NetSeen) → AllMove server nothing n.servers (with_acts server acts n).servers
 acts_move server [] n = still server n.servers
@@ -236,6 +239,7 @@ effect_fewer server (Dials uplink) n pair joined e = e
 effect_fewer server (Listens k) n pair joined e = e
 effect_fewer server (Casts peer bytes) n pair joined e = e
 effect_fewer server (Offers link bytes) n pair joined e = e
+effect_fewer server (SendsLine link line) n pair joined e = e
 
 acts_fewer : (server : ℕ) (acts : List Act) (n : NetSeen) → Fewer n.pairs (with_acts server acts n).pairs
 acts_fewer server [] n pair joined e = e

@@ -4,7 +4,7 @@ use Rattle.std.specs.Prelude.{slice_get}
 use Rattle.aprs_base.specs.declared.events.Event.{Event}
 use Rattle.aprs_base.specs.declared.events.Event.TheVariants as event
 use Rattle.aprs_base.specs.declared.events.Happening.TheVariants as did
-use Rattle.aprs_history.specs.Acts.{Act, Listens, Dials, Casts, Offers, Closes}
+use Rattle.aprs_history.specs.Acts.{Act, Listens, Dials, Casts, Offers, SendsLine, Closes}
 use Rattle.net_history.specs.declared.events.Pair.{Pair}
 use Rattle.net_history.specs.declared.events.NetEvent.{NetEvent}
 use Rattle.net_history.specs.declared.events.NetEvent.TheVariants as net
@@ -35,6 +35,7 @@ effect_same server (Listens number) n = refl
 effect_same server (Dials uplink) n = same_made (with_dial uplink) (λ s. refl) server n
 effect_same server (Casts peer bytes) n = refl
 effect_same server (Offers link bytes) n = refl
+effect_same server (SendsLine link line) n = refl
 effect_same server (Closes link) n = told_same (end_beyond server link n.pairs) (record n { pairs = map (parted_at server link) n.pairs })
 
 acts_same : (server : ℕ) (acts : List Act) (n : NetSeen) → mades (with_acts server acts n) ≡ mades n

@@ -7,7 +7,7 @@ use Rattle.std.proofs.lemmas.Grind.{flat_map-append}
 use Rattle.aprs_base.specs.declared.events.Event.{Event}
 use Rattle.aprs_base.specs.declared.events.Event.TheVariants as event
 use Rattle.aprs_base.specs.declared.events.Happening.TheVariants as did
-use Rattle.aprs_history.specs.Acts.{Act, Listens, Dials, Casts, Offers, Closes}
+use Rattle.aprs_history.specs.Acts.{Act, Listens, Dials, Casts, Offers, SendsLine, Closes}
 use Rattle.net_history.specs.Network.{End, NetSeen, ServerSeen, at_server, changed_at, end_beyond, number_of, parted_at, with_arrival}
 use Rattle.net_history.specs.Serving.{arrivals_at, due_at, happening_of, told_of_end, with_act, with_acts, with_all, with_dial, with_effect, with_event, with_happening, with_round, without_arrivals}
 use Rattle.net_history.proofs.PlaceLemmas.{map_changed}
@@ -38,6 +38,7 @@ told_acted (Listens number) s rest = refl
 told_acted (Dials uplink) s rest = refl
 told_acted (Casts peer bytes) s rest = refl
 told_acted (Offers link bytes) s rest = refl
+told_acted (SendsLine link line) s rest = refl
 told_acted (Closes link) s rest = refl
 
 told_came : (e : Event) (rest : List Event) (s : ServerSeen) → told rest (with_happening (did.Event e) s) ≡ told (e ∷ rest) s
@@ -84,6 +85,7 @@ effect_told server rest (Listens number) n = refl
 effect_told server rest (Dials uplink) n = calm_change (with_dial uplink) (λ s r. refl) server server rest n.servers
 effect_told server rest (Casts peer bytes) n = refl
 effect_told server rest (Offers link bytes) n = refl
+effect_told server rest (SendsLine link line) n = refl
 effect_told server rest (Closes link) n = end_told server rest (end_beyond server link n.pairs) (record n { pairs = map (parted_at server link) n.pairs })
 
 acts_told : (server : ℕ) (rest : List Event) (acts : List Act) (n : NetSeen) → all_told server rest (with_acts server acts n).servers ≡ all_told server rest n.servers
@@ -131,6 +133,7 @@ others_effect server (Listens number) n = others_same server n.servers
 others_effect server (Dials uplink) n = others_quiet (with_dial uplink) (λ s. refl) server server n.servers
 others_effect server (Casts peer bytes) n = others_same server n.servers
 others_effect server (Offers link bytes) n = others_same server n.servers
+others_effect server (SendsLine link line) n = others_same server n.servers
 others_effect server (Closes link) n = others_told server (end_beyond server link n.pairs) (record n { pairs = map (parted_at server link) n.pairs })
 
 others_acts : (server : ℕ) (acts : List Act) (n : NetSeen) → Others server n.servers (with_acts server acts n).servers

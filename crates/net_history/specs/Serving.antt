@@ -5,15 +5,16 @@ use Rattle.aprs_base.specs.declared.events.Event.TheVariants as event
 use Rattle.aprs_base.specs.declared.events.Sent.TheVariants as sent
 use Rattle.aprs_base.specs.declared.events.Happening.{Happening}
 use Rattle.aprs_base.specs.declared.events.Happening.TheVariants as did
-use Rattle.aprs_history.specs.Acts.{Act, Listens, Dials, Casts, Offers, Closes, due}
+use Rattle.aprs_history.specs.Acts.{Act, Listens, Dials, Casts, Offers, SendsLine, Closes, due}
 use Rattle.net_history.specs.Network.{End, NetSeen, ServerSeen, at_server, end_beyond, number_of, parted_at, with_arrival}
 
--- an act is done: an offer is taken whole
+-- an act is done: an offer is taken whole, and so is a line that goes to a downlink
 abbrev pub happening_of : Act → Happening
 happening_of (Listens number) = did.Listen number
 happening_of (Dials uplink) = did.Dialled uplink
 happening_of (Casts peer bytes) = did.Cast peer bytes
 happening_of (Offers link bytes) = did.Sent link bytes (sent.Took (length bytes))
+happening_of (SendsLine link line) = did.Sent link line (sent.Took (length line))
 happening_of (Closes link) = did.Closed link
 
 abbrev pub with_happening : Happening → ServerSeen → ServerSeen

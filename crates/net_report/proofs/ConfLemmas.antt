@@ -1,11 +1,12 @@
 -- The configurations of a script's servers are such as cores serve by, and have its layout's settings.
-use Rattle.std.proofs.Common.{◌≡◌, ℕ, zero, suc, ◌<◌, Bool, true, false, List, [], ◌∷◌, ◌++◌, length, map, refl, ap, ◌∙◌, subst, arith, Option, Some, None, IsTrue}
+use Rattle.std.proofs.Common.{◌≡◌, ℕ, zero, suc, ◌<◌, Bool, true, false, List, [], ◌∷◌, ◌++◌, length, map, refl, sym, ap, ◌∙◌, append-nil, subst, arith, Option, Some, None, IsTrue}
 use Rattle.std.specs.Prelude.{slice_get, not}
 use Rattle.std.specs.List.{AllZip, list_all}
 use Rattle.std.proofs.lemmas.Bool.{and_parts}
 use Rattle.std.proofs.lemmas.Option.{slice_get_within}
 use Rattle.aprs_base.specs.UplinkSeen.{UplinkSeen}
 use Rattle.aprs_base.specs.declared.packets.ListenSpec.{ListenSpec}
+use Rattle.aprs_base.specs.declared.packets.PortKind.{PortKind}
 use Rattle.aprs_base.specs.declared.texts.Addr.{Addr}
 use Rattle.aprs_conf.specs.Seen.{ConfSeen}
 use Rattle.aprs_conf.specs.Sound.{IsSound}
@@ -15,29 +16,31 @@ use Rattle.net_history.specs.declared.events.Pair.{Pair}
 use Rattle.net_history.specs.declared.events.PeerPair.{PeerPair}
 use Rattle.net_history.specs.Network.{Layout}
 use Rattle.net_history.specs.Places.{Each}
-use Rattle.net_schedule.specs.Asked.{CanServe, HasPeer, HavePeers}
+use Rattle.net_schedule.specs.Asked.{AreBusy, CanServe, HasPeer, HavePeers}
+use Rattle.net_schedule.proofs.KeepLemmas.{none_idle}
 use Rattle.net_script.specs.Laws.{IsWired}
 use Rattle.net_script.specs.Layouts.{HasSetting, IsConfOf, group_ports, layout_of, peer_of}
 use Rattle.net_script.specs.Seen.{ScriptSeen}
-use Rattle.server_core.specs.Meaning.{group_listens, listeners, numbered, setting_of}
+use Rattle.server_core.specs.Meaning.{caster, downs_of, group_listens, kind_in, listeners, numbered, serving, setting_of}
 use Rattle.server_core.proofs.OfferLemmas.{numbered_short}
 
 -- ---- what cores serve by
 
-can_serve : (conf : ConfSeen) → IsSound conf → CanServe conf
-can_serve conf sound = record {
+can_serve : (conf : ConfSeen) → IsSound conf → AreBusy conf.listens → CanServe conf
+can_serve conf sound busy = record {
   listens = (let few = sound.listens.1 in let short = numbered_short conf.listens in omega (arith, few, short));
   station = sound.server;
   uplinks = sound.uplinks;
   peers = sound.peers;
   window = sound.dupe_window;
+  busy = busy;
 }
 
 pub all_serve : (confs : List ConfSeen) (settings : List Setting) → AllZip IsConfOf confs settings → Each CanServe confs
 all_serve [] [] all = tt
 all_serve [] (s ∷ settings) all = absurd all
 all_serve (conf ∷ confs) [] all = absurd all
-all_serve (conf ∷ confs) (s ∷ settings) all = (can_serve conf all.0.1, all_serve confs settings all.1)
+all_serve (conf ∷ confs) (s ∷ settings) all = (can_serve conf all.0.1 all.0.0.busy, all_serve confs settings all.1)
 
 -- ---- the settings
 
@@ -56,11 +59,12 @@ group_same : (group : Option Addr) → group_listens group ≡ group_ports group
 group_same None = refl
 group_same (Some at) = refl
 
-abbrev setting : List ℕ → ℕ → List ListenSpec → List UplinkSeen → List Peer → (up client most window : ℕ) → Setting
-setting server code listens uplinks peers up client most window = record {
+abbrev setting : List ℕ → ℕ → List ListenSpec → List PortKind → List UplinkSeen → List Peer → (up client most window : ℕ) → Setting
+setting server code listens downs uplinks peers up client most window = record {
   server = server;
   code = code;
   listens = listens;
+  downs = downs;
   uplinks = uplinks;
   peers = peers;
   up_timeout = up;
@@ -71,17 +75,20 @@ setting server code listens uplinks peers up client most window = record {
 
 setting_is : (conf : ConfSeen) (s : Setting) → HasSetting conf s → setting_of conf ≡ s
 setting_is conf s has =
-    let listens : listeners conf ≡ s.listens = ap (λ specs. specs ++ group_listens conf.group) (busy_numbered conf.listens has.busy)
+    let idle = none_idle conf.listens has.busy in
+    let listens : listeners conf ≡ s.listens = ap (λ specs. serving conf ++ map caster specs) idle ∙ append-nil (serving conf) ∙ ap (λ specs. specs ++ group_listens conf.group) (busy_numbered conf.listens has.busy)
     ∙ ap (λ last. map (λ (listen : Listen). listen.spec) conf.listens ++ last) (group_same conf.group) ∙ has.listens in
-    ap (λ x. setting x conf.code (listeners conf) conf.uplinks (map peer_of conf.peers) conf.up_timeout conf.client_timeout conf.max_clients conf.dupe_window) has.server
-    ∙ ap (λ x. setting s.server x (listeners conf) conf.uplinks (map peer_of conf.peers) conf.up_timeout conf.client_timeout conf.max_clients conf.dupe_window) has.code
-    ∙ ap (λ x. setting s.server s.code x conf.uplinks (map peer_of conf.peers) conf.up_timeout conf.client_timeout conf.max_clients conf.dupe_window) listens
-    ∙ ap (λ x. setting s.server s.code s.listens x (map peer_of conf.peers) conf.up_timeout conf.client_timeout conf.max_clients conf.dupe_window) has.uplinks
-    ∙ ap (λ x. setting s.server s.code s.listens s.uplinks x conf.up_timeout conf.client_timeout conf.max_clients conf.dupe_window) has.peers
-    ∙ ap (λ x. setting s.server s.code s.listens s.uplinks s.peers x conf.client_timeout conf.max_clients conf.dupe_window) has.up_timeout
-    ∙ ap (λ x. setting s.server s.code s.listens s.uplinks s.peers s.up_timeout x conf.max_clients conf.dupe_window) has.client_timeout
-    ∙ ap (λ x. setting s.server s.code s.listens s.uplinks s.peers s.up_timeout s.client_timeout x conf.dupe_window) has.max_clients
-    ∙ ap (λ x. setting s.server s.code s.listens s.uplinks s.peers s.up_timeout s.client_timeout s.max_clients x) has.window
+    let downs : downs_of conf ≡ s.downs = ap (map kind_in) idle ∙ sym has.downs in
+    ap (λ x. setting x conf.code (listeners conf) (downs_of conf) conf.uplinks (map peer_of conf.peers) conf.up_timeout conf.client_timeout conf.max_clients conf.dupe_window) has.server
+    ∙ ap (λ x. setting s.server x (listeners conf) (downs_of conf) conf.uplinks (map peer_of conf.peers) conf.up_timeout conf.client_timeout conf.max_clients conf.dupe_window) has.code
+    ∙ ap (λ x. setting s.server s.code x (downs_of conf) conf.uplinks (map peer_of conf.peers) conf.up_timeout conf.client_timeout conf.max_clients conf.dupe_window) listens
+    ∙ ap (λ x. setting s.server s.code s.listens x conf.uplinks (map peer_of conf.peers) conf.up_timeout conf.client_timeout conf.max_clients conf.dupe_window) downs
+    ∙ ap (λ x. setting s.server s.code s.listens s.downs x (map peer_of conf.peers) conf.up_timeout conf.client_timeout conf.max_clients conf.dupe_window) has.uplinks
+    ∙ ap (λ x. setting s.server s.code s.listens s.downs s.uplinks x conf.up_timeout conf.client_timeout conf.max_clients conf.dupe_window) has.peers
+    ∙ ap (λ x. setting s.server s.code s.listens s.downs s.uplinks s.peers x conf.client_timeout conf.max_clients conf.dupe_window) has.up_timeout
+    ∙ ap (λ x. setting s.server s.code s.listens s.downs s.uplinks s.peers s.up_timeout x conf.max_clients conf.dupe_window) has.client_timeout
+    ∙ ap (λ x. setting s.server s.code s.listens s.downs s.uplinks s.peers s.up_timeout s.client_timeout x conf.dupe_window) has.max_clients
+    ∙ ap (λ x. setting s.server s.code s.listens s.downs s.uplinks s.peers s.up_timeout s.client_timeout s.max_clients x) has.window
 
 settings_are : (confs : List ConfSeen) (settings : List Setting) → AllZip IsConfOf confs settings → map setting_of confs ≡ settings
 settings_are [] [] all = refl

@@ -7,7 +7,7 @@ use Rattle.aprs_base.specs.declared.events.Event.{Event}
 use Rattle.aprs_base.specs.declared.events.Happening.TheVariants as did
 use Rattle.aprs_base.specs.declared.events.Sent.TheVariants as sent
 use Rattle.link_queue.specs.Lines.{ended_line}
-use Rattle.aprs_history.specs.Acts.{Closes, Dials, Offers, cast_act, dials, offer_to}
+use Rattle.aprs_history.specs.Acts.{Closes, Dials, Offers, cast_act, dials}
 use Rattle.aprs_history.specs.Casting.{casts_to_peer}
 use Rattle.aprs_history.specs.Dials.{CastSeen}
 use Rattle.aprs_history.specs.History.{History, trace_of}
@@ -15,12 +15,16 @@ use Rattle.aprs_history.specs.Rounds.{with_events}
 use Rattle.aprs_history.specs.Scenes.{accepted_of}
 use Rattle.aprs_history.specs.Setting.{Setting}
 use Rattle.aprs_history.specs.Texts.{untaken}
-use Rattle.aprs_history.specs.Trace.{Trace}
+use Rattle.aprs_history.specs.Downs.{DownSeen, down_of}
+use Rattle.aprs_history.specs.Stands.{link_seen}
+use Rattle.aprs_history.specs.Trace.{Trace, served_links}
+use Rattle.aprs_history.proofs.DownLemmas.{no_down}
+use Rattle.served_links.specs.Links.{down_at, has_that}
 use Rattle.server_core.specs.Meaning.{Stands, setting_of}
 use Rattle.net_history.specs.Network.{ServerSeen, trace_at}
 use Rattle.net_history.specs.Openings.{WasOpened}
 use Rattle.net_history.specs.Report.{accepted_at}
-use Rattle.net_schedule.specs.Rounds.{LeftSame, acted, all_acted, next_bytes, with_casts, with_dialled, with_round_events}
+use Rattle.net_schedule.specs.Rounds.{LeftSame, acted, all_acted, next_bytes, offer_to, with_casts, with_dialled, with_round_events}
 use Rattle.net_schedule.specs.Running.{ServerKept}
 use Rattle.net_schedule.specs.Standing.{Keeps, WaitsToOpen}
 
@@ -49,6 +53,7 @@ pub came : (rest events : List Event) (kept new : ServerKept) (s : ServerSeen) �
     → Stands new.core (with_events events s.history) → new.accepted ≡ accepted_at (with_round_events events s) → Keeps (events ++ rest) kept s → Keeps rest new (with_round_events events s)
 came rest events kept new s is conf stands accepted keeps = record {
   setting = ap setting_of conf ∙ keeps.setting;
+  plain = keeps.plain;
   stands = stands;
   listens = ap (λ (k : ServerKept). k.listens) is ∙ keeps.listens;
   arrivals = ap (λ (k : ServerKept). k.arrivals) is ∙ keeps.arrivals;
@@ -79,6 +84,7 @@ dial_keeps : (rest : List Event) (kept : ServerKept) (uplink : ℕ) (s : ServerS
 unfolding trace_of
 dial_keeps rest kept uplink s keeps = record {
   setting = keeps.setting;
+  plain = keeps.plain;
   stands = record { finished = keeps.stands.finished; follows = keeps.stands.follows; greatest = keeps.stands.greatest; stopped = keeps.stands.stopped };
   listens = keeps.listens;
   arrivals = keeps.arrivals;
@@ -104,6 +110,7 @@ cast_keeps : (rest : List Event) (kept : ServerKept) (cast : CastSeen) (s : Serv
 unfolding trace_of
 cast_keeps rest kept cast s keeps = record {
   setting = keeps.setting;
+  plain = keeps.plain;
   stands = record { finished = keeps.stands.finished; follows = keeps.stands.follows; greatest = keeps.stands.greatest; stopped = keeps.stands.stopped };
   listens = keeps.listens;
   arrivals = keeps.arrivals;
@@ -124,6 +131,7 @@ pub close_keeps : (rest : List Event) (kept : ServerKept) (link : ℕ) (s : Serv
 unfolding trace_of
 close_keeps rest kept link s keeps = record {
   setting = keeps.setting;
+  plain = keeps.plain;
   stands = record { finished = keeps.stands.finished; follows = keeps.stands.follows; greatest = keeps.stands.greatest; stopped = keeps.stands.stopped };
   listens = keeps.listens;
   arrivals = keeps.arrivals;
@@ -134,12 +142,30 @@ close_keeps rest kept link s keeps = record {
   accepted = keeps.accepted;
 }
 
+-- no link is a downlink
+chosen : (b : Bool) (one other : Option DownSeen) → one ≡ None → other ≡ None → (if b then one else other) ≡ None
+chosen true one other is not_other = is
+chosen false one other not_one is = is
+
+none_among : (s : Setting) → s.downs ≡ [] → (t : Trace) (link : ℕ) (links : List ℕ) → down_at link (map (link_seen s t) links) ≡ None
+unfolding link_seen
+none_among s plain t link [] = refl
+none_among s plain t link (k ∷ links) =
+    chosen (has_that link (link_seen s t k)) (down_of s t k) (down_at link (map (link_seen s t) links)) (no_down s plain t k) (none_among s plain t link links)
+
+pub none_down : (rest : List Event) (kept : ServerKept) (s : ServerSeen) → Keeps rest kept s → (link : ℕ) → down_at link kept.core.seen.links ≡ None
+none_down rest kept s keeps link =
+    let setting = setting_of kept.core.conf in
+    let trace = trace_of setting s.history in
+    ap (down_at link) keeps.stands.follows.links ∙ none_among setting (ap (λ (c : Setting). c.downs) keeps.setting ∙ keeps.plain) trace link (served_links trace)
+
 -- an offer that is taken whole
 sent_keeps : (rest : List Event) (kept new : ServerKept) (link : ℕ) (bytes : List ℕ) (s : ServerSeen) → new ≡ record kept { core = new.core } → new.core.conf ≡ kept.core.conf
     → Stands new.core (did.Sent link bytes (sent.Took (length bytes)) ∷ s.history) → Keeps rest kept s → Keeps rest new (acted (Offers link bytes) s)
 unfolding trace_of
 sent_keeps rest kept new link bytes s is conf stands keeps = record {
   setting = ap setting_of conf ∙ keeps.setting;
+  plain = keeps.plain;
   stands = stands;
   listens = ap (λ (k : ServerKept). k.listens) is ∙ keeps.listens;
   arrivals = ap (λ (k : ServerKept). k.arrivals) is ∙ keeps.arrivals;

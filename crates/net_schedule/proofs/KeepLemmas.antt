@@ -1,7 +1,8 @@
 -- What is kept of a server goes on as the model does, while no round of it comes.
-use Rattle.std.proofs.Common.{◌≡◌, ℕ, zero, suc, ◌+◌, List, [], ◌∷◌, ◌++◌, length, map, refl, sym, ap, ◌∙◌, subst, Option, Some, None, inl, inr, ⊎_elim, append_assoc}
-use Rattle.std.specs.Prelude.{slice_get}
-use Rattle.std.specs.List.{AllZip}
+use Rattle.std.proofs.Common.{◌≡◌, ℕ, zero, suc, ◌+◌, Bool, true, false, List, [], ◌∷◌, ◌++◌, length, map, refl, sym, ap, ◌∙◌, subst, Option, Some, None, inl, inr, ⊎_elim, append_assoc}
+use Rattle.std.specs.Prelude.{slice_get, not, if◌then◌else◌}
+use Rattle.std.specs.List.{AllZip, list_all}
+use Rattle.std.proofs.lemmas.Bool.{and_parts}
 use Rattle.aprs_base.specs.declared.events.Event.{Event}
 use Rattle.aprs_base.specs.declared.events.Event.TheVariants as event
 use Rattle.aprs_base.specs.declared.texts.Addr.{Addr}
@@ -10,12 +11,13 @@ use Rattle.aprs_base.specs.PacketSeen.{PacketSeen}
 use Rattle.aprs_base.specs.declared.events.Happening.TheVariants as did
 use Rattle.aprs_base.specs.declared.packets.ListenSpec.{ListenSpec}
 use Rattle.aprs_conf.specs.Seen.{ConfSeen}
+use Rattle.aprs_conf.specs.declared.types.Listen.{Listen}
 use Rattle.aprs_history.specs.Casting.{casts_to_peer}
 use Rattle.aprs_history.specs.History.{History, trace_of}
 use Rattle.aprs_history.specs.Rounds.{listens_after, only_listens}
 use Rattle.aprs_history.specs.Scenes.{accepted_of}
 use Rattle.aprs_history.specs.Setting.{Setting}
-use Rattle.server_core.specs.Meaning.{CoreMeaning, Stands, listeners, setting_of}
+use Rattle.server_core.specs.Meaning.{CoreMeaning, Stands, idle_specs, kind_in, listeners, setting_of}
 use Rattle.net_history.specs.Network.{End, ForClient, ForPair, Made, ServerSeen, changed_at, new_server, with_arrival}
 use Rattle.net_history.specs.Openings.{IsOpening}
 use Rattle.net_history.specs.Steps.{but_first_of, login_line, next_link, with_client, with_downlink, with_link, with_uplink}
@@ -24,6 +26,7 @@ use Rattle.net_history.proofs.PlaceLemmas.{some_same}
 use Rattle.net_history.proofs.TieLemmas.{at_last}
 use Rattle.net_schedule.specs.declared.servers.MadeFor.{MadeFor}
 use Rattle.net_schedule.specs.declared.servers.MadeFor.TheVariants as made_for
+use Rattle.net_schedule.specs.Asked.{AreBusy}
 use Rattle.net_schedule.specs.Kept.{kept_arrival, kept_client, kept_downlink, kept_link, kept_uplink, next_number}
 use Rattle.net_schedule.specs.Running.{ServerKept}
 use Rattle.net_schedule.specs.Standing.{IsMadeFor, Keeps, WaitsToOpen}
@@ -87,6 +90,7 @@ waits_last listener link (x ∷ events) e is = inr (waits_last listener link eve
 pub arrives_behind : (rest : List Event) (kept : ServerKept) (e : Event) (s : ServerSeen) → Keeps rest kept s → Keeps rest (kept_arrival e kept) (with_arrival e s)
 arrives_behind rest kept e s keeps = record {
   setting = keeps.setting;
+  plain = keeps.plain;
   stands = keeps.stands;
   listens = keeps.listens;
   arrivals = ap (λ events. events ++ e ∷ []) keeps.arrivals;
@@ -113,6 +117,7 @@ pub linked : (kept : ServerKept) (m : MadeFor) (made : Made) (e : Event) (s : Se
     → Keeps [] (kept_link m e kept) (with_link made (with_arrival e s))
 linked kept m made e s is opens keeps = record {
   setting = keeps.setting;
+  plain = keeps.plain;
   stands = keeps.stands;
   listens = keeps.listens;
   arrivals = ap (λ events. events ++ e ∷ []) keeps.arrivals;
@@ -148,6 +153,7 @@ uplink_kept kept uplink at other s keeps =
     let now = linked kept made_for.Pair (ForPair other) joining s tt (λ listener is. absurd (no_client listener is)) keeps in
     record {
       setting = now.setting;
+      plain = now.plain;
       stands = now.stands;
       listens = now.listens;
       arrivals = now.arrivals;
@@ -165,6 +171,20 @@ downlink_kept kept listener from other s keeps =
 
 -- ---- a new server
 
+-- no listener is idle, so lines are cast from none
+pub none_idle : (listens : List Listen) → AreBusy listens → idle_specs listens ≡ []
+none_idle [] busy = refl
+none_idle (listen ∷ listens) busy =
+    let parts = and_parts (not listen.idle) (list_all (λ (listen : Listen). not listen.idle) listens) busy in
+    ap (λ b. if b then listen.spec ∷ idle_specs listens else idle_specs listens) (by listen.idle parts.0) ∙ none_idle listens parts.1
+  where
+    by : (b : Bool) → not b ≡ true → b ≡ false
+    by true wrong = cc
+    by false is = refl
+
+pub none_cast_from : (conf : ConfSeen) → AreBusy conf.listens → (setting_of conf).downs ≡ []
+none_cast_from conf busy = ap (map kind_in) (none_idle conf.listens busy)
+
 none_cast : (n : ℕ) (specs : List ListenSpec) (h : History) → casts_to_peer h 0 ≡ [] → casts_to_peer (listens_after n specs h) 0 ≡ []
 none_cast n [] h none = none
 none_cast n (spec ∷ specs) h none = none_cast (n + 1) specs (did.Listen n ∷ h) none
@@ -174,12 +194,13 @@ unfolding trace_of
 none_traced s n [] h none = none
 none_traced s n (spec ∷ specs) h none = none_traced s (n + 1) specs (did.Listen n ∷ h) none
 
-pub new_keeps : (core : CoreMeaning) (conf : ConfSeen) (listens : List ListenSpec) (arrivals : List Event) (made : List MadeFor) (dialled : List ℕ) (casts accepted : List (List ℕ)) → core.conf ≡ conf → Stands core (only_listens (setting_of conf))
+pub new_keeps : (core : CoreMeaning) (conf : ConfSeen) (listens : List ListenSpec) (arrivals : List Event) (made : List MadeFor) (dialled : List ℕ) (casts accepted : List (List ℕ)) → core.conf ≡ conf → (setting_of conf).downs ≡ [] → Stands core (only_listens (setting_of conf))
     → listens ≡ listeners conf → arrivals ≡ [] → made ≡ [] → dialled ≡ [] → casts ≡ [] → accepted ≡ []
     → Keeps [] (record { core = core; listens = listens; arrivals = arrivals; made = made; dialled = dialled; casts = casts; accepted = accepted }) (new_server (setting_of conf))
 unfolding trace_of
-new_keeps core conf listens arrivals made dialled casts accepted same stands are none_waits none_made none_dialled none_cast' none_accepted = record {
+new_keeps core conf listens arrivals made dialled casts accepted same plain stands are none_waits none_made none_dialled none_cast' none_accepted = record {
   setting = ap setting_of same;
+  plain = plain;
   stands = stands;
   listens = are;
   arrivals = none_waits;

@@ -6,7 +6,7 @@ use Rattle.std.proofs.lemmas.Bool.{and_parts, false≢true, not-true, true≢fal
 use Rattle.aprs_base.specs.declared.events.Event.{Event}
 use Rattle.aprs_base.specs.declared.events.Event.TheVariants as event
 use Rattle.aprs_base.specs.declared.events.Happening.TheVariants as did
-use Rattle.aprs_history.specs.Acts.{Act, Casts, Closes, Dials, Listens, Offers, acts_after, due}
+use Rattle.aprs_history.specs.Acts.{Act, Casts, Closes, Dials, Listens, Offers, SendsLine, acts_after, due}
 use Rattle.aprs_history.specs.History.{History, ends_round, is_round_event, open_events, trace_of}
 use Rattle.aprs_history.specs.Rounds.{is_whole, with_events}
 use Rattle.aprs_history.specs.Setting.{Setting}
@@ -69,6 +69,7 @@ act_alone server (Listens number) n alone = refl
 act_alone server (Dials uplink) n alone = at_twice (with_dial uplink) (with_happening (did.Dialled uplink)) server n
 act_alone server (Casts peer bytes) n alone = refl
 act_alone server (Offers link bytes) n alone = refl
+act_alone server (SendsLine link line) n alone = refl
 act_alone server (Closes link) n alone = absurd (true≢false alone)
 
 pub changed_none : {X : Type 0} (i : ℕ) (xs : List X) → changed_at (λ x. x) i xs ≡ xs

@@ -7,7 +7,7 @@ use Rattle.aprs_base.specs.Outside.{new_link}
 use Rattle.aprs_base.specs.declared.events.Event.{Event}
 use Rattle.aprs_base.specs.declared.events.Event.TheVariants as event
 use Rattle.aprs_base.specs.declared.events.Happening.TheVariants as did
-use Rattle.aprs_history.specs.Acts.{Act, Casts, Closes, Dials, Listens, Offers, due}
+use Rattle.aprs_history.specs.Acts.{Act, Casts, Closes, Dials, Listens, Offers, SendsLine, due}
 use Rattle.aprs_history.specs.History.{History, greater_link, greatest_link, is_round_event, is_stop, is_stopped, open_events}
 use Rattle.aprs_history.specs.Rounds.{AreFresh, greatest_after, is_whole, with_events}
 use Rattle.net_history.specs.Network.{End, NetSeen, ServerSeen, at_server, changed_at, end_beyond, number_of, parted_at, with_arrival}
@@ -84,6 +84,7 @@ act_greatest (Listens n) h = (refl, refl)
 act_greatest (Dials n) h = (refl, refl)
 act_greatest (Casts peer bytes) h = (refl, refl)
 act_greatest (Offers link bytes) h = (refl, refl)
+act_greatest (SendsLine link line) h = (refl, refl)
 act_greatest (Closes link) h = (refl, refl)
 
 holds_effect : (g number server : ℕ) (act : Act) (n : NetSeen) → Holds g number n → Holds g number (with_effect server act n)
@@ -91,6 +92,7 @@ holds_effect g number server (Listens k) n holds = holds
 holds_effect g number server (Dials uplink) n holds = holds_changed g number server (with_dial uplink) n (λ s. refl) (λ s. refl) holds
 holds_effect g number server (Casts peer bytes) n holds = holds
 holds_effect g number server (Offers link bytes) n holds = holds
+holds_effect g number server (SendsLine link line) n holds = holds
 holds_effect g number server (Closes link) n holds =
     holds_told g number (end_beyond server link n.pairs) (record n { pairs = map (parted_at server link) n.pairs }) (record { server = holds.server; there = holds.there; greatest = holds.greatest; going = holds.going })
 
@@ -123,6 +125,7 @@ ready_next number k rest n ready finished ends whole =
 begins : (kept : ServerKept) (s : ServerSeen) (moment : ℕ) → Keeps [] kept s → Keeps (kept.arrivals ++ event.Tick moment ∷ []) (record kept { arrivals = [] }) (without_arrivals s)
 begins kept s moment keeps = record {
   setting = keeps.setting;
+  plain = keeps.plain;
   stands = keeps.stands;
   listens = keeps.listens;
   arrivals = refl;

@@ -4,11 +4,12 @@ use Rattle.std.specs.Prelude.{if◌then◌else◌, codes}
 use Rattle.std.specs.Fmt.{decimal}
 use Rattle.std.proofs.lemmas.List.{map-append}
 use Rattle.std.specs.List.{AllZip, flat_map}
+use Rattle.aprs_base.specs.declared.packets.ListenSpec.{ListenSpec}
 use Rattle.aprs_base.specs.declared.packets.PortKind.TheVariants as kind
 use Rattle.aprs_base.specs.declared.texts.Addr.{Addr}
 use Rattle.aprs_conf.specs.Seen.{ConfSeen}
 use Rattle.aprs_history.specs.Setting.{Setting}
-use Rattle.server_core.specs.Meaning.{group_listens, numbered, setting_of}
+use Rattle.server_core.specs.Meaning.{caster, group_listens, numbered, serving, setting_of}
 use Rattle.net_history.specs.declared.events.NetEvent.{NetEvent}
 use Rattle.net_history.specs.declared.events.Pair.{Pair}
 use Rattle.net_history.specs.Network.{Layout, NetSeen, ServerSeen, new_network, new_server, unjoined}
@@ -23,7 +24,7 @@ use Rattle.net_schedule.specs.Reported.{ended_by_feed, kept_report}
 use Rattle.net_schedule.specs.Running.{NetKept, ServerKept, joins_of, layout_of, setting_in}
 use Rattle.net_schedule.specs.Standing.{IsNetwork, IsOnItsWay, Keeps, StandsFor, brought_in, taken_in}
 use Rattle.net_schedule.proofs.FactLemmas.{facts_of}
-use Rattle.net_schedule.proofs.KeepLemmas.{zip_push}
+use Rattle.net_schedule.proofs.KeepLemmas.{none_idle, zip_push}
 use Rattle.net_schedule.proofs.ThereLemmas.{there_same}
 
 -- ---- a new network
@@ -118,9 +119,13 @@ told_there net steps stands peers e = there_same (layout_of net) net (network_of
 -- each configuration has few listeners
 few_of : (confs : List ConfSeen) → Each CanServe confs → Each (λ (setting : Setting). length setting.listens ≤ 65536) (map setting_of confs)
 few_of [] serve = tt
-few_of (conf ∷ confs) serve = (of conf.group, few_of confs serve.1)
+few_of (conf ∷ confs) serve = (
+  subst (λ (idle : List ListenSpec). length (serving conf ++ map caster idle) ≤ 65536) (sym (none_idle conf.listens serve.0.busy))
+      (let long = length-append (serving conf) (map caster []) in let short = of conf.group in omega (arith, long, short)),
+  few_of confs serve.1,
+)
   where
-    of : (group : Option Addr) → length (numbered conf.listens ++ group_listens group) ≤ 65536
+    of : (group : Option Addr) → length (numbered conf.listens ++ group_listens group) ≤ 17
     of None = let long = length-append (numbered conf.listens) [] in let short = serve.0.listens in omega (arith, long, short)
     of (Some at) = let long = length-append (numbered conf.listens) (record { kind = kind.Core; at = at } ∷ []) in let short = serve.0.listens in omega (arith, long, short)
 

@@ -20,7 +20,7 @@ use Rattle.net_history.specs.declared.events.NetEvent.TheVariants as net
 use Rattle.net_history.specs.declared.events.Pair.{Pair}
 use Rattle.net_history.specs.declared.events.PeerPair.{PeerPair}
 use Rattle.net_history.specs.Network.{ForClient, ForPair, Layout, Made, NetSeen, ServerSeen, trace_at}
-use Rattle.net_history.specs.Openings.{WasOpened, is_heard}
+use Rattle.net_history.specs.Openings.{WasOpened, is_heard, serves_clients}
 use Rattle.net_history.specs.Steps.{has_ended, has_room, is_dialled, is_for_client, is_there, joined_at, may_carry, may_cast, may_join, may_open, may_say, peering}
 use Rattle.net_schedule.specs.declared.servers.MadeFor.{MadeFor}
 use Rattle.net_schedule.specs.declared.servers.MadeFor.TheVariants as made_for
@@ -31,6 +31,7 @@ use Rattle.net_schedule.specs.Standing.{IsMadeFor, IsNetwork, Keeps, WaitsToOpen
 use Rattle.net_history.proofs.BetweenLemmas.{none_some}
 use Rattle.net_history.proofs.CountLemmas.{not_less}
 use Rattle.net_history.proofs.PlaceLemmas.{some_same}
+use Rattle.net_history.proofs.PlainLemmas.{kind_at_plain}
 use Rattle.net_history.proofs.RunLemmas.{Comes}
 use Rattle.net_schedule.proofs.CarryLemmas.{datagram_kept, kept_flight}
 use Rattle.net_schedule.proofs.FactLemmas.{AtServer, Facts}
@@ -71,7 +72,7 @@ module _ (layout : Layout) (place : ℕ) (s : ServerSeen) (facts : AtServer layo
   came listener link (inr waits) le = let lt = waits_above (greatest_link s.history) (length s.made) s.arrivals listener link facts.come waits in absurd (omega (arith, le, lt))
 
   heard_same : (listener : ℕ) → is_heard_by (slice_get kept.listens listener) ≡ is_heard s.setting listener
-  heard_same listener = ap (λ listens. is_heard_by (slice_get listens listener)) keeps.listens
+  heard_same listener = ap (λ listens. is_heard_by (slice_get listens listener)) keeps.listens ∙ sym (ap serves_clients (kind_at_plain s.setting keeps.plain listener))
 
   ended_same : (listener link : ℕ) → WasOpened listener link s.history ⊎ WaitsToOpen listener link s.arrivals → kept_ended listener link kept ≡ has_ended (trace_at s) link
   ended_same listener link opened = of (nat_le link kept.core.seen.greatest) refl

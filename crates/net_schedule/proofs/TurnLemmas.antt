@@ -9,7 +9,7 @@ use Rattle.aprs_base.specs.declared.events.Event.{Event}
 use Rattle.aprs_base.specs.declared.events.Event.TheVariants as event
 use Rattle.aprs_base.specs.declared.events.Happening.TheVariants as did
 use Rattle.aprs_base.specs.declared.events.Sent.TheVariants as sent
-use Rattle.aprs_history.specs.Acts.{Closes, Offers, cast_act, dials, offer_to}
+use Rattle.aprs_history.specs.Acts.{Closes, Offers, cast_act, dials}
 use Rattle.aprs_history.specs.Dials.{CastSeen}
 use Rattle.aprs_history.specs.Headline.{taken_bytes}
 use Rattle.aprs_history.specs.History.{History, open_events, trace_of}
@@ -17,6 +17,7 @@ use Rattle.aprs_history.specs.Rounds.{is_whole, with_events}
 use Rattle.aprs_history.specs.Setting.{Setting}
 use Rattle.aprs_history.specs.Texts.{untaken}
 use Rattle.aprs_history.specs.Trace.{Trace, is_member}
+use Rattle.aprs_history.proofs.DownLemmas.{all_plain_offers}
 use Rattle.server_core.specs.ActsSeen.{ActsSeen}
 use Rattle.server_core.proofs.OfferLemmas.{left_by_other, member_differs}
 use Rattle.server_core.specs.Meaning.{AreActs}
@@ -27,7 +28,7 @@ use Rattle.net_history.proofs.BetweenLemmas.{changed_here, none_some, same_or_ot
 use Rattle.net_history.proofs.PlaceLemmas.{some_same}
 use Rattle.net_history.proofs.StreamLemmas.{eqb_other, eqb_same}
 use Rattle.net_schedule.specs.Kept.{kept_arrival, kept_told}
-use Rattle.net_schedule.specs.Rounds.{Drives, LeftSame, Sends, acted, all_acted, first_acts, next_bytes, ways_sent, with_round_events}
+use Rattle.net_schedule.specs.Rounds.{Drives, LeftSame, Sends, acted, all_acted, first_acts, next_bytes, offer_to, ways_sent, with_round_events}
 use Rattle.net_schedule.specs.Running.{ServerKept, WayKept, all_with_taken, joined_of, joins_of, way_parted_at}
 use Rattle.net_schedule.specs.Standing.{AllKeep, IsOnItsWay, Keeps, Turns, taken_in}
 use Rattle.net_schedule.proofs.DriveLemmas.{close_keeps}
@@ -344,12 +345,12 @@ sends_end number rest round offers left s kept before after none sends =
     (subst (Keeps rest kept) acts sends.keeps, ap (λ links. ways_sent number s.setting round links after) (sym none) ∙ sends.ways)
 
 -- a whole round came, and all is done but the closes
-pub drives_so : (number : ℕ) (events rest : List Event) (s : ServerSeen) (acts : ActsSeen) (new : ServerKept) (before after : List (Option WayKept)) → AreActs s.setting (with_events events s.history) acts
+pub drives_so : (number : ℕ) (events rest : List Event) (s : ServerSeen) (acts : ActsSeen) (new : ServerKept) (before after : List (Option WayKept)) → s.setting.downs ≡ [] → AreActs s.setting (with_events events s.history) acts
     → (let now = all_acted (map cast_act acts.casts) (all_acted (dials acts.dial) (with_round_events events s)) in
     let round = trace_of s.setting (with_events events s.history) in
     Keeps rest new (all_acted (map (offer_to now.setting round) acts.offers) now) × (after ≡ ways_sent number now.setting round acts.offers before))
     → Drives number events rest s acts new before after
-drives_so number events rest s acts new before after are sent =
+drives_so number events rest s acts new before after plain are sent =
     let round = trace_of s.setting (with_events events s.history) in
     let now = all_acted (map cast_act acts.casts) (all_acted (dials acts.dial) (with_round_events events s)) in
     let setting : now.setting ≡ s.setting = (left_first acts (with_round_events events s)).1 in
@@ -359,7 +360,7 @@ drives_so number events rest s acts new before after are sent =
     let whole : all_acted (first_acts s.setting round acts) (with_round_events events s) ≡ all_acted offers now =
     acted_both (dials acts.dial) (casts ++ offers) (with_round_events events s) ∙ acted_both casts offers (all_acted (dials acts.dial) (with_round_events events s)) in
     record {
-      due = are.due ∙ ap (λ xs. dials acts.dial ++ xs) (sym (append_assoc casts offers closes)) ∙ sym (append_assoc (dials acts.dial) (casts ++ offers) closes);
+      due = are.due ∙ ap (λ xs. dials acts.dial ++ (casts ++ (xs ++ closes))) (all_plain_offers s.setting plain round acts.offers) ∙ ap (λ xs. dials acts.dial ++ xs) (sym (append_assoc casts offers closes)) ∙ sym (append_assoc (dials acts.dial) (casts ++ offers) closes);
       keeps = subst (Keeps rest new) (ap (λ c. all_acted (map (offer_to c round) acts.offers) now) setting ∙ sym whole) sent.0;
       ways = sent.1 ∙ ap (λ c. ways_sent number c round acts.offers before) setting;
     }

@@ -1,11 +1,12 @@
 -- What is asked of a running network: whether a step is there.
-use Rattle.std.specs.Prelude.{◌≡◌, ℕ, ◌+◌, ◌-◌, ◌<◌, ◌≤◌, ◌==◌, ◌&&◌, Bool, true, false, nat_le, List, length, Option, Some, None, is_some, slice_get, if◌then◌else◌, IsTrue}
-use Rattle.std.specs.List.{list_any}
+use Rattle.std.specs.Prelude.{◌≡◌, ℕ, ◌+◌, ◌-◌, ◌<◌, ◌≤◌, ◌==◌, ◌&&◌, Bool, true, false, nat_le, List, length, Option, Some, None, is_some, not, slice_get, if◌then◌else◌, IsTrue}
+use Rattle.std.specs.List.{list_all, list_any}
 use Rattle.net_history.specs.Places.{Each}
 use Rattle.std.specs.Option.{option_and_then}
 use Rattle.aprs_base.specs.Bytes.{is_station}
 use Rattle.aprs_conf.specs.Seen.{ConfSeen}
 use Rattle.aprs_conf.specs.Sound.{IsGroup, IsWithin}
+use Rattle.aprs_conf.specs.declared.types.Listen.{Listen}
 use Rattle.aprs_history.specs.Setting.{Setting}
 use Rattle.server_core.specs.Meaning.{numbered}
 use Rattle.net_history.specs.declared.events.Pair.{Pair}
@@ -70,13 +71,19 @@ kept_is_there kept (net.Cast from to k) = kept_may_cast kept.servers from k (pee
 
 -- ---- what a network is made of
 
--- a core serves by such a configuration
+-- none of these is idle
+abbrev pub AreBusy : List Listen → Type 0
+AreBusy listens = IsTrue (list_all (λ (listen : Listen). not listen.idle) listens)
+
+-- a core serves by such a configuration, and casts no lines to its links
 pub record CanServe (conf : ConfSeen) : Type 0 where
   pub listens : length (numbered conf.listens) ≤ 16
   pub station : IsTrue (is_station conf.server)
   pub uplinks : length conf.uplinks ≤ 8
   pub peers : IsGroup conf.group conf.peers
   pub window : IsWithin 10 300 conf.dupe_window
+  -- no listener is idle: those of the clients' kinds would be cast from
+  pub busy : AreBusy conf.listens
 
 -- the listeners of each server have numbers of 16 bits
 abbrev pub HaveFewListens : Layout → Type 0

@@ -2,7 +2,7 @@
 use Rattle.std.specs.Prelude.{◌≡◌, ℕ, ◌==◌, true, List, [], ◌∷◌, ◌++◌, map, take, Option, Some, None, if◌then◌else◌}
 use Rattle.aprs_base.specs.declared.events.Event.{Event}
 use Rattle.aprs_base.specs.declared.events.Happening.TheVariants as did
-use Rattle.aprs_history.specs.Acts.{Act, Dials, Closes, cast_act, dials, due, offer_to}
+use Rattle.aprs_history.specs.Acts.{Act, Dials, Offers, Closes, cast_act, dials, due}
 use Rattle.aprs_history.specs.Dials.{CastSeen}
 use Rattle.aprs_history.specs.History.{trace_of}
 use Rattle.aprs_history.specs.Rounds.{with_events}
@@ -39,6 +39,10 @@ LeftSame round offers s = (link : ℕ) → is_member link offers ≡ true → un
 
 abbrev pub next_bytes : Setting → Trace → ℕ → List ℕ
 next_bytes setting round link = take 65536 (untaken setting round link)
+
+-- a link is offered its next bytes at once
+abbrev pub offer_to : Setting → Trace → ℕ → Act
+offer_to setting round link = Offers link (next_bytes setting round link)
 
 -- the bytes that these links take are on their way
 abbrev pub ways_sent : ℕ → Setting → Trace → List ℕ → List (Option WayKept) → List (Option WayKept)

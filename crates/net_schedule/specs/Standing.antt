@@ -28,6 +28,8 @@ IsMadeFor made other = ⊥
 -- a server is kept as it is in the model, where these events come before those that wait
 pub record Keeps (rest : List Event) (server : ServerKept) (s : ServerSeen) : Type 0 where
   pub setting : setting_of server.core.conf ≡ s.setting
+  -- no lines are cast to its links
+  pub plain : s.setting.downs ≡ []
   pub stands : Stands server.core s.history
   pub listens : server.listens ≡ s.setting.listens
   pub arrivals : server.arrivals ≡ s.arrivals

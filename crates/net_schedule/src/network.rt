@@ -137,7 +137,7 @@ fn next_number(servers: &[Server], server: u16) -> u32
 }
 
 impl Network {
-    /// A network of servers with these configurations, none of which is joined or has a client yet.
+    /// A network of servers with these configurations, which have no idle listeners. None is joined or has a client yet.
     pub fn new(
         alloc: Global,
         hasher: &RandomState,

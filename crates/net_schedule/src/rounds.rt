@@ -3,7 +3,7 @@ ghost use Rattle.std.specs.Prelude.{◌≡◌, ◌≢◌, ◌<◌, ◌++◌, ◌
 ghost use Rattle.std.specs.Arc.{arc_value};
 ghost use Rattle.aprs_base.specs.PacketSeen.{PacketSeen};
 ghost use Rattle.aprs_base.specs.declared.events.Event.{Event};
-ghost use Rattle.aprs_history.specs.Acts.{Closes, offer_to};
+ghost use Rattle.aprs_history.specs.Acts.{Closes};
 ghost use Rattle.aprs_history.specs.Rounds.{AreFresh, is_whole, with_events};
 ghost use Rattle.aprs_history.specs.Trace.{Trace};
 ghost use Rattle.net_history.specs.Network.{End, NetSeen, ServerSeen, changed_at, end_beyond};
@@ -12,7 +12,7 @@ ghost use Rattle.server_core.specs.LinkSteps.{AreServed, Rises, has_number, numb
 ghost use Rattle.server_core.specs.Meaning.{AreActs};
 ghost use Rattle.server_core.specs.Steps.{SameRest};
 ghost use Rattle.net_schedule.specs.Kept.{kept_arrival, kept_told};
-ghost use Rattle.net_schedule.specs.Rounds.{Drives, LeftSame, acted, all_acted, next_bytes, with_casts, with_dialled, with_round_events, ways_sent};
+ghost use Rattle.net_schedule.specs.Rounds.{Drives, LeftSame, acted, all_acted, next_bytes, offer_to, with_casts, with_dialled, with_round_events, ways_sent};
 ghost use Rattle.net_schedule.specs.Running.{all_with_taken, joins_of, way_parted_at};
 ghost use Rattle.net_schedule.specs.Standing.{Goes, Keeps, Turns};
 ghost use Rattle.net_schedule.specs.Waiting.{EndsByTick, IsReady, Ready, Waits};

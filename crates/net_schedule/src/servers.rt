@@ -10,6 +10,7 @@ ghost use Rattle.net_history.specs.Report.{report_on};
 ghost use Rattle.net_history.specs.Steps.{but_first_of};
 ghost use Rattle.server_core.specs.Meaning.{numbered, setting_of};
 ghost use Rattle.server_core.specs.LinkSteps.{has_number};
+ghost use Rattle.net_schedule.specs.Asked.{AreBusy};
 ghost use Rattle.net_schedule.specs.Kept.{is_heard_by, kept_arrival, kept_client, kept_downlink, kept_ended, kept_link, kept_may_open, kept_may_say, kept_speaks, kept_uplink};
 ghost use Rattle.net_schedule.specs.Standing.{Keeps};
 
@@ -90,6 +91,7 @@ impl Server {
         requires uplinks { length conf.uplinks ≤ 8 }
         requires peers { IsGroup conf.group conf.peers }
         requires window { IsWithin 10 300 conf.dupe_window }
+        requires busy { AreBusy conf.listens }
         ensures keeps { IfOk result (λ server. Keeps [] server (new_server (setting_of conf))) }
         ensures conf { IfOk result (λ server. server.core.conf ≡ conf) }
     {

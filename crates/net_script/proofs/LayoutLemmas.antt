@@ -13,13 +13,16 @@ use Rattle.std.proofs.lemmas.Result.{IfOk-at_ok}
 use Rattle.std.proofs.lemmas.Option.{slice_get-map, slice_get_within}
 use Rattle.aprs_base.specs.Bytes.{base_of, is_station}
 use Rattle.aprs_base.specs.OptionSteps.{◌>>=◌}
-use Rattle.aprs_history.specs.Setting.{Peer, Setting}
+use Rattle.aprs_base.specs.declared.packets.PortKind.{PortKind}
+use Rattle.aprs_base.specs.declared.packets.PortKind.TheVariants as kind
+use Rattle.aprs_history.specs.Setting.{Peer, Setting, kind_at, kind_of_spec}
 use Rattle.aprs_history.specs.Sound.{IsSound}
 use Rattle.login_pass.specs.Passcode.{folded, passcode_of}
 use Rattle.net_history.specs.declared.events.Pair.{Pair}
 use Rattle.net_history.specs.declared.events.PeerPair.{PeerPair}
 use Rattle.net_history.specs.Network.{address_of}
 use Rattle.net_history.specs.Premises.{IsLaidOut}
+use Rattle.net_history.proofs.PlainLemmas.{kind_at_plain}
 use Rattle.net_script.specs.declared.types.ScriptServer.{ScriptServer}
 use Rattle.net_script.specs.Grammar.{has_peer, joins, lines_of, joins_peers, peers_of, uplinks_of}
 use Rattle.net_script.specs.Laws.{IsPair, IsPeerPair, IsWired, peer_number}
@@ -271,5 +274,12 @@ laid_out script has = record {
     peers = peers_stations script (limits script has) k;
   }));
   codes = λ k setting e. (let made = setting_made script k setting e in rw made.is refl);
-  listeners = λ n pair setting e there. (let made = setting_made script pair.high setting there in rw (made.is, (has.pairs n pair e).listener) (λ wrong. cc));
+  listeners = λ n pair setting e there wrong. (
+      let made = setting_made script pair.high setting there in
+      let high = setting_at script pair.high made.server in
+      let full : ◌≡◌ {A = Option PortKind} (Some kind.Full) (Some kind.Dupe) =
+      ap (λ listener. kind_of_spec (slice_get high.listens listener)) (sym (has.pairs n pair e).listener) ∙ sym (kind_at_plain high refl pair.listener)
+      ∙ ap (λ one. kind_at one pair.listener) (sym made.is) ∙ wrong in
+      cc
+      );
 }

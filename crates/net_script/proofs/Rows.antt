@@ -46,8 +46,8 @@ leaf_and_hub_read = refl
 
 leaf_and_hub_laid_out : layout_of leaf_and_hub ≡ record {
   servers =
-      record { server = codes "T2LEAF"; code = 10963; listens = port kind.Full 10152 ∷ port kind.Igate 14580 ∷ []; uplinks = some_uplink ∷ []; peers = []; up_timeout = 15; client_timeout = 172800; max_clients = 500; window = 30 }
-      ∷ record { server = codes "T2TEST"; code = 8385; listens = port kind.Full 10152 ∷ port kind.Igate 14580 ∷ []; uplinks = []; peers = []; up_timeout = 15; client_timeout = 172800; max_clients = 500; window = 30 }
+      record { server = codes "T2LEAF"; code = 10963; listens = port kind.Full 10152 ∷ port kind.Igate 14580 ∷ []; downs = []; uplinks = some_uplink ∷ []; peers = []; up_timeout = 15; client_timeout = 172800; max_clients = 500; window = 30 }
+      ∷ record { server = codes "T2TEST"; code = 8385; listens = port kind.Full 10152 ∷ port kind.Igate 14580 ∷ []; downs = []; uplinks = []; peers = []; up_timeout = 15; client_timeout = 172800; max_clients = 500; window = 30 }
       ∷ [];
   pairs = record { low = 0; uplink = 0; high = 1; listener = 0 } ∷ [];
   peers = [];

@@ -60,6 +60,7 @@ setting_at script number server = record {
   server = server.call;
   code = passcode_of server.call;
   listens = port kind.Full 10152 ∷ port kind.Igate 14580 ∷ group_ports (group_of number script.peers);
+  downs = [];
   uplinks = uplinks_at number script.pairs;
   peers = peers_at script number;
   up_timeout = 15;
@@ -102,12 +103,13 @@ plain_conf = record {
 abbrev pub peer_of : PeerSpec → Peer
 peer_of peer = record { call = peer.call; at = peer.at }
 
--- the configuration has this setting: no listener of it is idle, and behind them comes that of its peer group
+-- the configuration has this setting: no listener of it is idle, so none is only cast from, and behind them comes that of its peer group
 pub record HasSetting (conf : ConfSeen) (setting : Setting) : Type 0 where
   pub server : conf.server ≡ setting.server
   pub code : conf.code ≡ setting.code
   pub busy : IsTrue (list_all (λ (listen : Listen). not listen.idle) conf.listens)
   pub listens : map (λ (listen : Listen). listen.spec) conf.listens ++ group_ports conf.group ≡ setting.listens
+  pub downs : setting.downs ≡ []
   pub uplinks : conf.uplinks ≡ setting.uplinks
   pub peers : map peer_of conf.peers ≡ setting.peers
   pub up_timeout : conf.up_timeout ≡ setting.up_timeout

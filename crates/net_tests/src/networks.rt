@@ -30,7 +30,9 @@ fn no_text(alloc: Global) -> Text {
     }
 }
 
-fn full_feed(alloc: Global) -> Listen {
+fn full_feed(alloc: Global) -> Listen
+    ensures { result.idle ≡ false }
+{
     Listen {
         name: no_text(alloc),
         spec: ListenSpec {

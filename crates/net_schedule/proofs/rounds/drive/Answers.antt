@@ -3,7 +3,7 @@ use Rattle.aprs_history.specs.Acts.{cast_act, dials}
 use Rattle.aprs_history.specs.Rounds.{with_events}
 use Rattle.aprs_history.specs.History.{trace_of}
 use Rattle.server_core.specs.ActsSeen.{ActsSeen}
-use Rattle.net_schedule.specs.Rounds.{LeftSame, all_acted, with_round_events}
+use Rattle.net_schedule.specs.Rounds.{LeftSame, all_acted, offer_to, with_round_events}
 use Rattle.net_schedule.specs.Standing.{Keeps}
 use Rattle.net_schedule.proofs.DriveLemmas.{casts_keep, dialled_keeps}
 use Rattle.net_schedule.proofs.TurnLemmas.{drives_so, left_first}
@@ -27,5 +27,5 @@ returns g c = λ s rest keeps.
     let round = trace_of s.setting (with_events events s.history) in
     let left = subst (λ os. LeftSame round os s3) (sym offers) (left_first acts s1).0 in
     let sent = c.in_ok-send_all.ensures s3 rest round cast' left in
-    drives_so c.args.number events rest s acts c.send_all.new.server c.args.ways.now c.send_all.new.ways (c.in_ok-acts.ensures.due s (events ++ rest) keeps)
-    (subst (λ os. Keeps rest c.send_all.new.server (all_acted (map (Rattle.aprs_history.specs.Acts.offer_to s3.setting round) os) s3) × (Rattle.std.proofs.Common.◌≡◌ c.send_all.new.ways (Rattle.net_schedule.specs.Rounds.ways_sent c.args.number s3.setting round os c.args.ways.now))) offers sent)
+    drives_so c.args.number events rest s acts c.send_all.new.server c.args.ways.now c.send_all.new.ways keeps.plain (c.in_ok-acts.ensures.due s (events ++ rest) keeps)
+    (subst (λ os. Keeps rest c.send_all.new.server (all_acted (map (offer_to s3.setting round) os) s3) × (Rattle.std.proofs.Common.◌≡◌ c.send_all.new.ways (Rattle.net_schedule.specs.Rounds.ways_sent c.args.number s3.setting round os c.args.ways.now))) offers sent)
