@@ -36,7 +36,7 @@ use Rattle.aprsc_daemon.proofs.BringLemmas.{events_join}
 newest_first : (done : List Happening) (x : Happening) → reverse (done ++ x ∷ []) ≡ x ∷ reverse done
 newest_first done x = reverse-append done (x ∷ [])
 
-told_in_order : (s : Setting) (told : Told) (more : History) → (told_after s told more).done ≡ told.done ++ reverse more
+told_in_order : (s : Setting) (told : Told) (more : History) → (told_after s s told more more).done ≡ told.done ++ reverse more
 told_in_order s told [] = sym (append-nil told.done)
 told_in_order s told (x ∷ more) =
     ap (λ done. done ++ x ∷ []) (told_in_order s told more)
@@ -120,7 +120,7 @@ pub counts_of_run : (plan : Plan) (wire : WireScript) (taken : ℕ) (core : Core
     → ((h : History) → StandsFor drill_setting core.seen h → counts.totals ≡ totals_of drill_setting (trace_of drill_setting h)) → counts.taken ≡ taken → HasCounts plan counts
 counts_of_run plan wire taken core counts driven run totals taken_is =
     let more = run.0 in
-    let tells : wire.told ≡ told_after drill_setting (record { done = []; listened = []; dialled = []; cast_to = [] }) more = some_inside wire.told _ run.1 in
+    let tells : wire.told ≡ told_after drill_setting drill_setting (record { done = []; listened = []; dialled = []; cast_to = [] }) more more = some_inside wire.told _ run.1 in
     let done : wire.told.done ≡ reverse more = ap (λ told. told.done) tells ∙ told_in_order drill_setting (record { done = []; listened = []; dialled = []; cast_to = [] }) more in
     let back : reverse wire.told.done ≡ more = ap reverse done ∙ reverse-reverse more in
     record {

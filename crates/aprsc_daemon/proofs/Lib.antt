@@ -9,6 +9,7 @@ pub mod PortLemmas
 pub mod ReachLemmas
 mod Rows
 pub mod RunLemmas
+pub mod SendingLemmas
 pub mod ServeLemmas
 pub mod WordsLemmas
 pub mod WriteLemmas

@@ -47,7 +47,7 @@ seen_of_run conf old new code runs =
     record {
       more = more;
       seen = seen;
-      told = serves.2 ∙ ap (λ at. Some (told_after (wired_at at s) old more)) runs.1;
+      told = serves.2 ∙ ap (λ at. Some (told_after (wired_at at s) s old more seen)) runs.1;
       view = servers_see_views s more seen state ports serves.3 runs.1 (have_ports conf) serves.4 ended.fresh;
       run = serves.4;
       posts = links_are_paid s more seen state ports serves.3 runs.1 (have_ports conf) serves.4 ended.fresh;

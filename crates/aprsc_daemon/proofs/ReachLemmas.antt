@@ -14,7 +14,7 @@ use Rattle.link_queue.specs.Lines.{ended_line}
 use Rattle.aprs_base.specs.Journals.{JournalLineSeen}
 use Rattle.aprs_history.specs.Setting.{Setting}
 use Rattle.aprs_history.specs.History.{History, is_stopped, trace_of}
-use Rattle.aprs_history.specs.Acts.{Act, Casts, Closes, Dials, MayCome, but_first, cast_act, due, offer_to}
+use Rattle.aprs_history.specs.Acts.{Act, Casts, Closes, Dials, MayCome, all_offers, but_first, cast_act, due}
 use Rattle.aprs_history.specs.Dials.{CastSeen}
 use Rattle.aprs_history.specs.Runs.{address_of}
 use Rattle.status_page.specs.PageFronts.{PageSeen, counting}
@@ -38,6 +38,10 @@ ok_both (Err e) p q both = tt
 pub err_then : {T E P Q : Type 0} (result : Result T E) → OnErr result P → (P → Q) → OnErr result Q
 err_then (Ok x) p then = tt
 err_then (Err e) p then = then p
+
+pub err_both : {T E P Q R : Type 0} (result : Result T E) → OnErr result P → OnErr result Q → (P → Q → R) → OnErr result R
+err_both (Ok x) p q both = tt
+err_both (Err e) p q both = both p q
 
 -- what a search by number gave
 pub found_at : {X : Type 0} (xs : List X) (i n : ℕ) (x : X) → i ≡ n → i < length xs → x ≡ get_or xs i x → slice_get xs n ≡ Some x
@@ -65,13 +69,13 @@ stands_dialled core uplink h stands = record { finished = stands.finished; follo
 
 owing_dialled : (conf : ConfSeen) (uplink : ℕ) (casts : List CastSeen) (offers closes : List ℕ) (more : History) → Owing conf (Some uplink) casts offers closes more → Owing conf None casts offers closes (did.Dialled uplink ∷ more)
 unfolding due trace_of
-owing_dialled conf uplink casts offers closes more owing = record { round = owing.round; owed = ap but_first owing.owed; same = owing.same; all = owing.all; fresh = owing.fresh }
+owing_dialled conf uplink casts offers closes more owing = record { round = owing.round; owed = ap but_first owing.owed; same = record { left = owing.same.left; down = owing.same.down }; all = owing.all; fresh = owing.fresh }
 
 due_dial : {lines : List JournalLineSeen} (s : Setting) (core : CoreMeaning) (uplink : ℕ) (casts : List CastSeen) (offers closes : List ℕ) (more : History) → setting_of core.conf ≡ s → Acting lines core (Some uplink) casts offers closes more
     → MayCome (due s more) (is_stopped more) (did.Dialled uplink)
 due_dial s core uplink casts offers closes more same phase =
     subst (λ t. MayCome (due t more) (is_stopped more) (did.Dialled uplink)) same
-    (dial_comes (due (setting_of core.conf) more) (is_stopped more) uplink (map cast_act casts ++ (map (offer_to (setting_of core.conf) phase.owing.round) offers ++ map Closes closes)) phase.owing.owed)
+    (dial_comes (due (setting_of core.conf) more) (is_stopped more) uplink (map cast_act casts ++ (all_offers (setting_of core.conf) phase.owing.round offers ++ map Closes closes)) phase.owing.owed)
 
 pub run_dials : (lines : List JournalLineSeen) (s : Setting) (now next : Option Told) (core : CoreMeaning) (uplink : ℕ) (spec : UplinkSeen) (casts : List CastSeen) (offers closes : List ℕ) → setting_of core.conf ≡ s
     → slice_get core.conf.uplinks uplink ≡ Some spec → next ≡ option_map (with_dial uplink spec) now
@@ -93,9 +97,6 @@ dial_there lines s now core uplink casts offers closes same none state (Some old
 
 -- ---- a cast
 
-tells_cast : (s : Setting) (n : ℕ) (to : Addr) (bytes : List ℕ) → option_map address_of (slice_get s.peers n) ≡ Some to → Tells s (did.Cast n bytes) (with_cast n to bytes)
-tells_cast s n to bytes at told = rw (at, append-nil told.listened, append-nil told.dialled) refl
-
 cast_comes : (acts : List Act) (stopped : Bool) (n : ℕ) (bytes owed : List ℕ) (rest : List Act) → acts ≡ Casts n owed ∷ rest → bytes ≡ owed → MayCome acts stopped (did.Cast n bytes)
 cast_comes acts stopped n bytes owed rest is same = subst (λ xs. MayCome xs stopped (did.Cast n bytes)) (sym is) (refl, same)
 
@@ -106,13 +107,13 @@ stands_cast core n bytes h stands = record { finished = stands.finished; follows
 owing_cast : (conf : ConfSeen) (cast : CastSeen) (bytes : List ℕ) (casts : List CastSeen) (offers closes : List ℕ) (more : History) → Owing conf None (cast ∷ casts) offers closes more
     → Owing conf None casts offers closes (did.Cast cast.peer bytes ∷ more)
 unfolding due trace_of
-owing_cast conf cast bytes casts offers closes more owing = record { round = owing.round; owed = ap but_first owing.owed; same = owing.same; all = owing.all; fresh = owing.fresh }
+owing_cast conf cast bytes casts offers closes more owing = record { round = owing.round; owed = ap but_first owing.owed; same = record { left = owing.same.left; down = owing.same.down }; all = owing.all; fresh = owing.fresh }
 
 due_cast : {lines : List JournalLineSeen} (s : Setting) (core : CoreMeaning) (cast : CastSeen) (bytes : List ℕ) (casts : List CastSeen) (offers closes : List ℕ) (more : History) → setting_of core.conf ≡ s → bytes ≡ ended_line cast.line
     → Acting lines core None (cast ∷ casts) offers closes more → MayCome (due s more) (is_stopped more) (did.Cast cast.peer bytes)
 due_cast s core cast bytes casts offers closes more same line phase =
     subst (λ t. MayCome (due t more) (is_stopped more) (did.Cast cast.peer bytes)) same
-    (cast_comes (due (setting_of core.conf) more) (is_stopped more) cast.peer bytes (ended_line cast.line) (map cast_act casts ++ (map (offer_to (setting_of core.conf) phase.owing.round) offers ++ map Closes closes)) phase.owing.owed line)
+    (cast_comes (due (setting_of core.conf) more) (is_stopped more) cast.peer bytes (ended_line cast.line) (map cast_act casts ++ (all_offers (setting_of core.conf) phase.owing.round offers ++ map Closes closes)) phase.owing.owed line)
 
 pub run_casts : (lines : List JournalLineSeen) (s : Setting) (now next : Option Told) (page after : PageSeen) (core : CoreMeaning) (cast : CastSeen) (peer : PeerSpec) (bytes : List ℕ) (casts : List CastSeen) (offers closes : List ℕ) → setting_of core.conf ≡ s
     → slice_get core.conf.peers cast.peer ≡ Some peer → bytes ≡ ended_line cast.line
@@ -122,8 +123,8 @@ run_casts lines s now next page after core cast peer bytes casts offers closes s
     let to : option_map address_of (slice_get s.peers cast.peer) ≡ Some peer.at =
     ap (λ t. option_map address_of (slice_get t.peers cast.peer)) (sym same)
     ∙ ap (option_map address_of) (slice_get-map peer_of core.conf.peers cast.peer ∙ ap (option_map peer_of) at) in
-    cast_on s now next cast.peer bytes (with_cast cast.peer peer.at bytes) page after (Acting lines core None (cast ∷ casts) offers closes) (Acting lines core None casts offers closes)
-    counted (λ state. tells_cast (wired_for state s) cast.peer peer.at bytes to) is (λ more phase. (
+    cast_on s now next cast.peer peer.at bytes page after (Acting lines core None (cast ∷ casts) offers closes) (Acting lines core None casts offers closes)
+    to counted is (λ more phase. (
       due_cast s core cast bytes casts offers closes more same line phase,
       record { stands = stands_cast core cast.peer bytes more phase.stands; journal = phase.journal; owing = owing_cast core.conf cast bytes casts offers closes more phase.owing },
     ))

@@ -69,7 +69,7 @@ pub run_listens : (s : Setting) (fronts : Fronts) (start now next : Option Told)
     → next ≡ option_map (with_listen n (asked_by fronts n spec)) now → Opens s fronts.page fronts.http start now (Listening s n) → Opens s fronts.page fronts.http start next (Listening s (n + 1))
 unfolding due
 run_listens s fronts start now next n spec left at is opens page_fresh fresh =
-    server_acts_at s now next (did.Listen n) (with_listen n (asked_by fronts n spec)) (state_of fronts) (Listening s n) (Listening s (n + 1)) tt (tells_listen s (state_of fronts) n spec at) is (λ more phase.
+    server_acts_at s now next (did.Listen n) (with_listen n (asked_by fronts n spec)) (state_of fronts) (Listening s n) (Listening s (n + 1)) tt tt (tells_listen s (state_of fronts) n spec at) is (λ more phase.
     let owed : due s more ≡ Listens n ∷ listens_from (n + 1) (drop (n + 1) s.listens) = phase.due ∙ ap (listens_from n) left in (
       listen_comes (due s more) n (listens_from (n + 1) (drop (n + 1) s.listens)) (is_stopped more) owed,
       record {

@@ -1,7 +1,8 @@
 -- From one round to the next.
-use Rattle.std.proofs.Common.{Some, None, length-append, drop, le_refl, arith, ◌≡◌, ℕ, ◌≤◌, true, false, List, [], ◌++◌, length, refl, sym, ap, ◌∙◌, subst, Option}
-use Rattle.std.proofs.lemmas.List.{drop_all}
+use Rattle.std.proofs.Common.{Some, None, length-append, drop, le_refl, arith, ◌≡◌, ℕ, ◌+◌, ◌≤◌, Bool, true, false, List, [], ◌∷◌, ◌++◌, length, refl, sym, ap, ◌∙◌, subst, Option}
+use Rattle.std.proofs.lemmas.List.{drop_all, length-map}
 use Rattle.aprs_conf.specs.Seen.{ConfSeen}
+use Rattle.aprs_conf.specs.declared.types.Listen.{Listen}
 use Rattle.aprs_conf.specs.Sound.{IsSound}
 use Rattle.aprs_base.specs.Outside.{Told}
 use Rattle.aprs_base.specs.declared.events.Event.{Event}
@@ -9,6 +10,7 @@ use Rattle.aprs_base.specs.declared.texts.Addr.{Addr}
 use Rattle.aprs_base.specs.Journals.{JournalLineSeen}
 use Rattle.aprs_history.specs.Setting.{Setting}
 use Rattle.aprs_history.specs.History.{History, trace_of}
+use Rattle.aprs_history.specs.Downs.{down_of}
 use Rattle.aprs_history.specs.Texts.{untaken}
 use Rattle.aprs_history.specs.Rounds.{AreFresh, is_whole, with_events, listens_after, only_listens}
 use Rattle.aprs_history.specs.Journal.{journal_of}
@@ -26,9 +28,8 @@ use Rattle.aprsc_daemon.specs.Runs.{RunsFor, ports_named, setting_named}
 use Rattle.aprsc_daemon.specs.declared.fronts.Fronts.{Fronts}
 use Rattle.aprsc_daemon.proofs.RunLemmas.{opened_at, served_at}
 use Rattle.front_history.proofs.ServesLemmas.{serves_so}
-use Rattle.server_core.proofs.OfferLemmas.{numbered_short}
 use Rattle.server_core.specs.ActsSeen.{ActsSeen}
-use Rattle.server_core.specs.Meaning.{AreActs, CoreMeaning, Stands, group_listens, listeners, numbered, setting_of}
+use Rattle.server_core.specs.Meaning.{AreActs, CoreMeaning, Stands, caster, casters, group_listens, idle_specs, listeners, numbered, serving, setting_of}
 use Rattle.aprs_history.specs.Stands.{StandsFor}
 use Rattle.aprsc_daemon.specs.Phases.{Acting, AreOfRound, Finished, Gathering, Listening, Offering, Resting, Served}
 use Rattle.aprsc_daemon.specs.declared.serving.End.TheVariants as ended
@@ -48,7 +49,10 @@ begins_acts lines s now core new events acts told conf whole are fresh stands ac
       owing = record {
         round = trace_of (setting_of new.conf) (with_events events phase.before);
         owed = ap (due (setting_of new.conf)) phase.since ∙ (acts_are phase.before phase.resting.stands).due;
-        same = λ link member. ap (λ h. untaken (setting_of new.conf) (trace_of (setting_of new.conf) h) link) phase.since;
+        same = record {
+          left = λ link member. ap (λ h. untaken (setting_of new.conf) (trace_of (setting_of new.conf) h) link) phase.since;
+          down = λ link member. ap (λ h. down_of (setting_of new.conf) (trace_of (setting_of new.conf) h) link) phase.since;
+        };
         all = phase.all ∙ ap (λ c. length (setting_of c).listens) (sym conf);
         fresh = gathered_fresh core events more fresh phase;
       };
@@ -109,13 +113,23 @@ listening_rests core conf more same stands phase =
       fresh = phase.fresh;
     }
 
+-- a listener has a number before that of the peer group, or is idle and has one behind it
+each_once : (listens : List Listen) → length (numbered listens) + length (idle_specs listens) ≡ length listens
+each_once [] = refl
+each_once (listen ∷ listens) = by listen.idle refl (each_once listens)
+  where
+    by : (idle : Bool) → listen.idle ≡ idle → length (numbered listens) + length (idle_specs listens) ≡ length listens → length (numbered (listen ∷ listens)) + length (idle_specs (listen ∷ listens)) ≡ length (listen ∷ listens)
+    by true is later = rw is (omega arith)
+    by false is later = rw is (omega arith)
+
 -- with the peer group's there is one more at most
 pub few_listeners : (conf : ConfSeen) → IsSound conf → length (listeners conf) ≤ 17
 few_listeners conf sound =
     let few = sound.listens.1 in
-    let short = numbered_short conf.listens in
+    let once = each_once conf.listens in
     let last = group_short conf.group in
-    omega (arith, length-append (numbered conf.listens) (group_listens conf.group))
+    let idle : length (casters conf) ≡ length (idle_specs conf.listens) = length-map (idle_specs conf.listens) caster in
+    omega (arith, length-append (serving conf) (casters conf), length-append (numbered conf.listens) (group_listens conf.group))
   where
     group_short : (group : Option Addr) → length (group_listens group) ≤ 1
     group_short None = omega arith
@@ -144,8 +158,8 @@ run_ended conf served fronts after start mid now core Q is fresh after_is conf_i
     served_at s (ports_named conf) fronts start mid now (Resting [] core) (Q s) fresh (subst (λ k. Opens (setting_of k) fronts.page fronts.http start mid (Resting [] core)) is opens)
     (subst (λ f. EndsOn s mid (state_of f) now (Resting [] core) (Q s)) after_is (ends s (ap setting_of (conf_is ∙ is))))
 
--- behind fronts without a port
-pub run_alone : (s : Setting) (fronts after : Fronts) (start mid now : Option Told) (P Q : History → Type 0) → AreNew no_ports s.server fronts → after ≡ fronts → Opens s fronts.page fronts.http start mid P
+-- behind fronts without a port, where no line is cast to a link
+pub run_alone : (s : Setting) (fronts after : Fronts) (start mid now : Option Told) (P Q : History → Type 0) → s.downs ≡ [] → AreNew no_ports s.server fronts → after ≡ fronts → Opens s fronts.page fronts.http start mid P
     → EndsOn s mid (state_of after) now P Q → AppendsRun s start now Q
-run_alone s fronts after start mid now P Q fresh after_is opens ends =
-    appends_alone s start now Q (served_at s no_ports fronts start mid now P Q fresh opens (subst (λ f. EndsOn s mid (state_of f) now P Q) after_is ends))
+run_alone s fronts after start mid now P Q none fresh after_is opens ends =
+    appends_alone s start now Q none (served_at s no_ports fronts start mid now P Q fresh opens (subst (λ f. EndsOn s mid (state_of f) now P Q) after_is ends))

@@ -27,6 +27,7 @@ drill_setting = record {
   server = codes "DRILL";
   code = 13052;
   listens = port kind.Full 1 ∷ port kind.Igate 2 ∷ [];
+  downs = [];
   uplinks = [];
   peers = [];
   up_timeout = 15;

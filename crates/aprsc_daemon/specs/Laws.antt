@@ -10,6 +10,7 @@ use Rattle.front_history.specs.Answers.{wired}
 use Rattle.front_history.specs.Replies.{PagesArePaid, PostsArePaid}
 use Rattle.front_history.specs.Serving.{Ports}
 use Rattle.front_history.specs.Views.{HavePorts, IsView}
+use Rattle.front_history.specs.Wired.{on_wire}
 use Rattle.aprsc_daemon.specs.Causes.{Ended}
 use Rattle.aprsc_daemon.specs.Runs.{RunsFor, ports_named, setting_named}
 
@@ -17,13 +18,14 @@ use Rattle.aprsc_daemon.specs.Runs.{RunsFor, ports_named, setting_named}
 abbrev pub wired_at : Ports → Setting → Setting
 wired_at ports setting = wired ports.upload (wired ports.page setting)
 
--- what a wire tells grew by what happened, and the server's run is the view of that: all but what links of the fronts' ports are
--- sent, with a datagram in the place of each whole submission. These links are sent one reply each, and the page tells its counts.
+-- what a wire tells grew by what happened, and the wire shows the server's run as the view of that: all but what links of the fronts'
+-- ports are sent, with a datagram in the place of each whole submission. Each line that the server sends to a downlink is cast to its
+-- address. Links of the fronts' ports are sent one reply each, and the page tells its counts.
 pub record IsSeen (setting : Setting) (ports : Ports) (old : Told) (new : Option Told) : Type 0 where
   pub more : History
   pub seen : History
-  pub told : new ≡ Some (told_after (wired_at ports setting) old more)
-  pub view : IsView ports more seen
+  pub told : new ≡ Some (told_after (wired_at ports setting) setting old more seen)
+  pub view : IsView ports more (on_wire setting seen)
   pub run : IsRun setting seen
   pub posts : PostsArePaid ports more
   pub pages : PagesArePaid setting ports more

@@ -13,7 +13,8 @@ use Rattle.aprs_history.specs.Texts.{untaken}
 use Rattle.aprs_history.specs.History.{History, ends_round, is_stopped, open_events, trace_of}
 use Rattle.aprs_history.specs.Journal.{journal_of, round_lines}
 use Rattle.aprs_history.specs.Rounds.{AreFresh, greatest_after, listens_after, only_listens, with_events}
-use Rattle.aprs_history.specs.Acts.{Closes, cast_act, dials, due, listens_from, offer_to}
+use Rattle.aprs_history.specs.Acts.{Act, SendsLine, Closes, all_offers, cast_act, dials, due, listens_from}
+use Rattle.aprs_history.specs.Downs.{DownSeen, down_of}
 use Rattle.aprs_history.specs.Dials.{CastSeen}
 use Rattle.aprs_history.specs.Headline.{HasFreshLinks}
 use Rattle.aprs_history.specs.Runs.{are_listens, listens_in}
@@ -21,6 +22,7 @@ use Rattle.aprsc_daemon.specs.declared.serving.End.{End}
 use Rattle.aprsc_daemon.specs.declared.serving.End.TheVariants as ended
 use Rattle.aprs_conf.specs.Seen.{ConfSeen}
 use Rattle.server_core.specs.Meaning.{CoreMeaning, Stands, setting_of}
+use Rattle.server_core.specs.Sending.{with_lines}
 
 -- so many listeners were opened, and nothing else happened
 pub record Listening (setting : Setting) (n : ℕ) (more : History) : Type 0 where
@@ -57,13 +59,17 @@ pub record Gathering (lines : List JournalLineSeen) (core : CoreMeaning) (events
   pub going : is_stopped before ≡ false
   pub all : listens_in more ≡ length (setting_of core.conf).listens
 
+-- what is left to these links, and which of them are downlinks, has not changed since
+pub record AreAsAt (setting : Setting) (round : Trace) (offers : List ℕ) (more : History) : Type 0 where
+  pub left : (link : ℕ) → is_member link offers ≡ true → untaken setting (trace_of setting more) link ≡ untaken setting round link
+  pub down : (link : ℕ) → is_member link offers ≡ true → down_of setting (trace_of setting more) link ≡ down_of setting round link
+
 -- a dial, these casts, offers to these links, and then closes of those are due
 pub record Owing (conf : ConfSeen) (dial : Option ℕ) (casts : List CastSeen) (offers closes : List ℕ) (more : History) : Type 0 where
   -- the trace at the round's end, for which the offers are due
   pub round : Trace
-  pub owed : due (setting_of conf) more ≡ dials dial ++ (map cast_act casts ++ (map (offer_to (setting_of conf) round) offers ++ map Closes closes))
-  -- what is left to the links has not changed since
-  pub same : (link : ℕ) → is_member link offers ≡ true → untaken (setting_of conf) (trace_of (setting_of conf) more) link ≡ untaken (setting_of conf) round link
+  pub owed : due (setting_of conf) more ≡ dials dial ++ (map cast_act casts ++ (all_offers (setting_of conf) round offers ++ map Closes closes))
+  pub same : AreAsAt (setting_of conf) round offers more
   pub all : listens_in more ≡ length (setting_of conf).listens
   pub fresh : HasFreshLinks more
 
@@ -76,6 +82,23 @@ pub record Acting (lines : List JournalLineSeen) (core : CoreMeaning) (dial : Op
 -- the dial and the casts are done
 abbrev pub Offering : List JournalLineSeen → CoreMeaning → (offers closes : List ℕ) → History → Type 0
 Offering lines core offers closes more = Acting lines core None [] offers closes more
+
+-- lines to a downlink, then offers to these links, and then closes of those are due
+pub record OwingLines (conf : ConfSeen) (link : ℕ) (left : List (List ℕ)) (offers closes : List ℕ) (more : History) : Type 0 where
+  pub round : Trace
+  pub owed : due (setting_of conf) more ≡ map (SendsLine link) left ++ (all_offers (setting_of conf) round offers ++ map Closes closes)
+  pub same : AreAsAt (setting_of conf) round offers more
+  pub all : listens_in more ≡ length (setting_of conf).listens
+  pub fresh : HasFreshLinks more
+
+-- some lines of an offer went to a downlink, which the core is told once all have gone; the others are still to go
+pub record Sending (lines : List JournalLineSeen) (core : CoreMeaning) (link : ℕ) (down : DownSeen) (sent left : List (List ℕ)) (offers closes : List ℕ) (more : History) : Type 0 where
+  pub before : History
+  pub since : more ≡ with_lines link sent before
+  pub stands : Stands core before
+  pub journal : journal_of (setting_of core.conf) more ≡ lines
+  pub is_down : down_of (setting_of core.conf) (trace_of (setting_of core.conf) more) link ≡ Some down
+  pub owing : OwingLines core.conf link left offers closes more
 
 -- a part of a round: none of the events ends it
 abbrev pub is_partial : ℕ → List Event → Bool

@@ -17,7 +17,8 @@ abbrev pub ports_named : ConfSeen → Ports
 ports_named conf = record { page = page_number conf; upload = upload_number conf }
 
 -- what a wire tells grew by what happened, and what the server saw of it is a run for the configuration, of which something
--- holds: that is all but the replies to those who come by HTTP, with each whole request for a submission as a datagram. Those
--- replies were sent, too, and a page in them tells each number as it stood by then.
+-- holds: that is all but the replies to those who come by HTTP, with each whole request for a submission as a datagram, and with
+-- each line that was cast to a downlink as one that this took. Those replies were sent, too, and a page in them tells each number
+-- as it stood by then.
 abbrev pub RunsFor : ConfSeen → Option Told → Option Told → (History → Type 0) → Type 0
 RunsFor conf old new P = ServesAt (setting_named conf) (ports_named conf) old new P

@@ -1,9 +1,10 @@
 //! The serving of a wire: listeners first, then round after round.
-ghost use Rattle.std.specs.Prelude.{◌≡◌, ◌≤◌, ◌<◌, ◌+◌, ℕ, List, [], ◌∷◌, ◌++◌, IfOk, OnOk, OnErr, IfErr, IsErrOf, MatchBool, Option, None, length, true, false, take};
+ghost use Rattle.std.specs.Prelude.{◌≡◌, ◌≤◌, ◌<◌, ◌+◌, ℕ, List, [], ◌∷◌, ◌++◌, IfOk, IfSome, OnOk, OnErr, IfErr, IsErrOf, MatchBool, Option, None, Some, length, true, false, take};
 ghost use Rattle.aprs_base.specs.Outside.{Told, CountsLink, failed_after, new_link};
 ghost use Rattle.aprs_conf.specs.Sound.{IsSound};
 ghost use Rattle.aprs_history.specs.Setting.{Setting};
 ghost use Rattle.aprs_history.specs.Stands.{StandsFor};
+ghost use Rattle.aprs_history.specs.Downs.{down_of, whole_lines};
 ghost use Rattle.aprs_history.specs.Texts.{untaken};
 ghost use Rattle.aprs_history.specs.Dials.{CastSeen};
 ghost use Rattle.link_queue.specs.Lines.{ended_line};
@@ -13,11 +14,13 @@ ghost use Rattle.aprs_history.specs.Rounds.{AreFresh, greatest_after, is_whole, 
 ghost use Rattle.front_history.specs.Serving.{ActsOn, EndsOn, GoesOn, Opens, SendsOn, ports_of};
 ghost use Rattle.aprs_history.specs.Trace.{is_member};
 ghost use Rattle.server_core.specs.LinkSteps.{AreServed, Rises, has_number, numbers, pending_at};
+ghost use Rattle.server_core.specs.Sending.{bytes_in};
+ghost use Rattle.served_links.specs.Links.{down_at};
 ghost use Rattle.server_core.specs.Meaning.{CoreMeaning, listeners, setting_of};
 ghost use Rattle.aprsc_daemon.specs.Causes.{OpensOnly};
 ghost use Rattle.aprsc_daemon.specs.Failing.{FailsNot, failed_by_opening, failed_by_serving};
 ghost use Rattle.aprsc_daemon.specs.Fronts.{state_of};
-ghost use Rattle.aprsc_daemon.specs.Phases.{Acting, AreOfRound, Brings, BringsUp, Broken, Counted, Finished, Gathering, Idling, Listening, Offering, Resting, Served, is_partial};
+ghost use Rattle.aprsc_daemon.specs.Phases.{Acting, AreOfRound, Brings, BringsUp, Broken, Counted, Finished, Gathering, Idling, Listening, Offering, Resting, Sending, Served, is_partial};
 ghost use Rattle.aprs_base.specs.Journals.{JournalLineSeen};
 ghost use Rattle.aprs_base.specs.Slots.{TakesLines};
 ghost use Rattle.aprs_history.specs.Runs.{are_listens};
@@ -27,10 +30,12 @@ ghost use Rattle.server_core.specs.Steps.{SameRest};
 
 use crate::fronts::Fronts;
 use crate::journals::tell_all;
-use aprs_base::{Event, Gate, Line, ListenSpec, Memory, Sent, Slot, UplinkSpec, Wire, WireError};
+use aprs_base::{
+    Event, Gate, Line, ListenSpec, Memory, Sent, Slot, UplinkSpec, Wire, WireError, first_place,
+};
 use aprs_conf::{Conf, PeerSpec};
 use arrayvec::ArrayVec;
-use server_core::{Acts, CastOut, Core, listeners};
+use server_core::{Acts, CastOut, Core, Down, listeners};
 use std::alloc::Global;
 use std::hash::RandomState;
 use std::marker::Sync;
@@ -39,6 +44,9 @@ use std::thread::Threads;
 
 /// The most bytes of one offer.
 const MOST_OFFERED: usize = 65_536;
+
+/// The first number of a downlink on the wire. Those before it are the peers'.
+const FIRST_DOWN: u16 = 256;
 
 /// Why not every listener was opened.
 #[derive(Clone, Copy)]
@@ -194,7 +202,7 @@ fn next_bytes<'a>(core: &'a Core, link: u32, buffer: &'a mut [u8]) -> &'a [u8]
 }
 
 /// Offers a link its next bytes, and tells the core what became of them.
-fn send_one<W: Wire>(
+fn offer_one<W: Wire>(
     core: &mut Core,
     fronts: &mut Fronts,
     wire: &mut W,
@@ -202,6 +210,8 @@ fn send_one<W: Wire>(
     buffer: &mut [u8],
 ) -> Result<(), Memory>
     requires served { has_number link core.old.seen.links ≡ true }
+    requires plain { down_at link core.old.seen.links ≡ None }
+    requires same { (h : History) → Stands core.old h → down_of (setting_of core.old.conf) (trace_of (setting_of core.old.conf) h) link ≡ None }
     requires room { length buffer.old ≡ 65536 }
     ensures run { (s : Setting) (lines : List JournalLineSeen) (offers closes : List ℕ) → setting_of core.old.conf ≡ s → is_member link offers ≡ false
         → OnOk result (SendsOn s (W.shown wire.old).told fronts.old.page (W.shown wire.new).told fronts.new.page (Offering lines core.old (link ∷ offers) closes) (Offering lines core.new offers closes)) }
@@ -222,6 +232,136 @@ fn send_one<W: Wire>(
         Sent::Gone => core.gone(link),
     }
     Ok(())
+}
+
+/// The bytes up to the first LF and with it, and those behind it. `None` where there is no LF.
+fn first_line(bytes: &[u8]) -> Option<(&[u8], &[u8])>
+    ensures some { IfSome result (λ cut. (whole_lines bytes.now ≡ cut.0.now ∷ whole_lines cut.1.now) × (bytes.now ≡ cut.0.now ++ cut.1.now)) }
+    ensures shorter { IfSome result (λ cut. length cut.1.now < length bytes.now) }
+    ensures none { result ≡ None → whole_lines bytes.now ≡ [] }
+{
+    let end = first_place(b'\n', bytes);
+    if end == bytes.len() {
+        return None;
+    }
+    Some(bytes.split_at(end + 1))
+}
+
+/// Casts a line to a downlink, in a datagram.
+fn cast_line<W: Wire>(
+    fronts: &mut Fronts,
+    wire: &mut W,
+    down: Down,
+    line: &[u8],
+) -> Result<(), Memory>
+    ensures run { (s : Setting) (lines : List JournalLineSeen) (core : CoreMeaning) (link : ℕ) (sent left : List (List ℕ)) (offers closes : List ℕ) → setting_of core.conf ≡ s → is_member link offers ≡ false
+        → OnOk result (SendsOn s (W.shown wire.old).told fronts.old.page (W.shown wire.new).told fronts.new.page
+        (Sending lines core link down sent (line.now ∷ left) offers closes) (Sending lines core link down (sent ++ line.now ∷ []) left offers closes)) }
+    ensures err { OnErr result ((W.shown wire.new).told ≡ (W.shown wire.old).told) }
+    ensures uncounted { OnErr result (fronts.new ≡ fronts.old) }
+    ensures brings { OnOk result (Brings [] (W.shown wire.old).told (W.shown wire.new).told) }
+    ensures front { fronts.new.http ≡ fronts.old.http }
+    ensures port { fronts.new.page.at ≡ fronts.old.page.at }
+    ensures failures { FailsNot (W.shown wire.old) (W.shown wire.new) }
+    ensures links { (W.shown wire.new).links ≡ (W.shown wire.old).links }
+{
+    match FIRST_DOWN.checked_add(down.number) {
+        Some(number) => fronts
+            .page
+            .cast(&mut fronts.http, wire, number, down.to, line),
+        None => Ok(()),
+    }
+}
+
+/// Casts the whole lines of the bytes to a downlink, each in a datagram of its own, and says how many bytes they have.
+fn cast_lines<W: Wire>(
+    fronts: &mut Fronts,
+    wire: &mut W,
+    down: Down,
+    bytes: &[u8],
+) -> Result<usize, Memory>
+    ensures run { (s : Setting) (lines : List JournalLineSeen) (core : CoreMeaning) (link : ℕ) (offers closes : List ℕ) → setting_of core.conf ≡ s → is_member link offers ≡ false
+        → OnOk result (SendsOn s (W.shown wire.old).told fronts.old.page (W.shown wire.new).told fronts.new.page
+        (Sending lines core link down [] (whole_lines bytes.now) offers closes) (Sending lines core link down (whole_lines bytes.now) [] offers closes)) }
+    ensures err { (s : Setting) (lines : List JournalLineSeen) (core : CoreMeaning) (link : ℕ) (offers closes : List ℕ) → setting_of core.conf ≡ s → is_member link offers ≡ false
+        → OnErr result (SendsOn s (W.shown wire.old).told fronts.old.page (W.shown wire.new).told fronts.new.page
+        (Sending lines core link down [] (whole_lines bytes.now) offers closes) (Broken s lines)) }
+    ensures count { IfOk result (λ count. count ≡ bytes_in (whole_lines bytes.now)) }
+    ensures within { IfOk result (λ count. count ≤ length bytes.now) }
+    ensures brings { OnOk result (Brings [] (W.shown wire.old).told (W.shown wire.new).told) }
+    ensures front { fronts.new.http ≡ fronts.old.http }
+    ensures port { fronts.new.page.at ≡ fronts.old.page.at }
+    ensures failures { FailsNot (W.shown wire.old) (W.shown wire.new) }
+    ensures links { (W.shown wire.new).links ≡ (W.shown wire.old).links }
+{
+    let mut rest = bytes;
+    while let Some((line, behind)) = first_line(rest) {
+        cast_line(fronts, wire, down, line)?;
+        rest = behind;
+    }
+    Ok(bytes.len() - rest.len())
+}
+
+/// Casts a downlink its next lines, and tells the core that it took them.
+fn stream_one<W: Wire>(
+    core: &mut Core,
+    fronts: &mut Fronts,
+    wire: &mut W,
+    link: u32,
+    down: Down,
+    buffer: &mut [u8],
+) -> Result<(), Memory>
+    requires served { has_number link core.old.seen.links ≡ true }
+    requires down { down_at link core.old.seen.links ≡ Some down }
+    requires same { (h : History) → Stands core.old h → down_of (setting_of core.old.conf) (trace_of (setting_of core.old.conf) h) link ≡ Some down }
+    requires room { length buffer.old ≡ 65536 }
+    ensures run { (s : Setting) (lines : List JournalLineSeen) (offers closes : List ℕ) → setting_of core.old.conf ≡ s → is_member link offers ≡ false
+        → OnOk result (SendsOn s (W.shown wire.old).told fronts.old.page (W.shown wire.new).told fronts.new.page (Offering lines core.old (link ∷ offers) closes) (Offering lines core.new offers closes)) }
+    ensures err { (s : Setting) (lines : List JournalLineSeen) (offers closes : List ℕ) → setting_of core.old.conf ≡ s → is_member link offers ≡ false
+        → OnErr result (SendsOn s (W.shown wire.old).told fronts.old.page (W.shown wire.new).told fronts.new.page (Offering lines core.old (link ∷ offers) closes) (Broken s lines)) }
+    ensures brings { OnOk result (Brings [] (W.shown wire.old).told (W.shown wire.new).told) }
+    ensures rest { SameRest core.old core.new }
+    ensures numbers { numbers core.new.seen.links ≡ numbers core.old.seen.links }
+    ensures front { fronts.new.http ≡ fronts.old.http }
+    ensures port { fronts.new.page.at ≡ fronts.old.page.at }
+    ensures failures { FailsNot (W.shown wire.old) (W.shown wire.new) }
+    ensures links { (W.shown wire.new).links ≡ (W.shown wire.old).links }
+{
+    let bytes = next_bytes(core, link, buffer);
+    let offered = bytes.len();
+    let count = cast_lines(fronts, wire, down, bytes)?;
+    if count > 0 {
+        core.took(link, offered, count);
+    }
+    Ok(())
+}
+
+/// Offers a link its next bytes, or casts it the whole lines of them where it is a downlink.
+fn send_one<W: Wire>(
+    core: &mut Core,
+    fronts: &mut Fronts,
+    wire: &mut W,
+    link: u32,
+    buffer: &mut [u8],
+) -> Result<(), Memory>
+    requires served { has_number link core.old.seen.links ≡ true }
+    requires room { length buffer.old ≡ 65536 }
+    ensures run { (s : Setting) (lines : List JournalLineSeen) (offers closes : List ℕ) → setting_of core.old.conf ≡ s → is_member link offers ≡ false
+        → OnOk result (SendsOn s (W.shown wire.old).told fronts.old.page (W.shown wire.new).told fronts.new.page (Offering lines core.old (link ∷ offers) closes) (Offering lines core.new offers closes)) }
+    ensures err { (s : Setting) (lines : List JournalLineSeen) (offers closes : List ℕ) → setting_of core.old.conf ≡ s → is_member link offers ≡ false
+        → OnErr result (SendsOn s (W.shown wire.old).told fronts.old.page (W.shown wire.new).told fronts.new.page (Offering lines core.old (link ∷ offers) closes) (Broken s lines)) }
+    ensures brings { OnOk result (Brings [] (W.shown wire.old).told (W.shown wire.new).told) }
+    ensures rest { SameRest core.old core.new }
+    ensures numbers { numbers core.new.seen.links ≡ numbers core.old.seen.links }
+    ensures front { fronts.new.http ≡ fronts.old.http }
+    ensures port { fronts.new.page.at ≡ fronts.old.page.at }
+    ensures failures { FailsNot (W.shown wire.old) (W.shown wire.new) }
+    ensures links { (W.shown wire.new).links ≡ (W.shown wire.old).links }
+{
+    match core.down(link) {
+        Some(down) => stream_one(core, fronts, wire, link, down, buffer),
+        None => offer_one(core, fronts, wire, link, buffer),
+    }
 }
 
 /// Makes each offer, in rising number.

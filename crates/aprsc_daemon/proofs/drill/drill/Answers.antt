@@ -18,7 +18,7 @@ returns-in-Some g c =
     let start = Some c.in_ok-wire.wire.wire.told in
     let Q : History → Type 0 = λ more. Finished drill_setting more × StandsFor drill_setting c.serve-end.new.core.seen more in
     let opened = subst (λ s. Opens s c.in_ok-fronts.fronts.page c.in_ok-fronts.fronts.http start (Some c.open.new.wire.wire.told) (Resting [] c.in-Ok.core)) same c.in-Ok.ensures.run in
-    let run = run_alone drill_setting c.in_ok-fronts.fronts c.open.new.fronts start (Some c.open.new.wire.wire.told) (Some c.serve-end.new.wire.wire.told) (Resting [] c.in-Ok.core) Q (subst (λ server. AreNew no_ports server c.in_ok-fronts.fronts) (c.copy_call.ensures ∙ ap (λ k. k.server) c.conf.view_is ∙ ap (λ s. s.server) same) c.in_ok-fronts.ensures) c.open.ensures.same opened
+    let run = run_alone drill_setting c.in_ok-fronts.fronts c.open.new.fronts start (Some c.open.new.wire.wire.told) (Some c.serve-end.new.wire.wire.told) (Resting [] c.in-Ok.core) Q refl (subst (λ server. AreNew no_ports server c.in_ok-fronts.fronts) (c.copy_call.ensures ∙ ap (λ k. k.server) c.conf.view_is ∙ ap (λ s. s.server) same) c.in_ok-fronts.ensures) c.open.ensures.same opened
     (c.in-Stopped.ensures.stands refl drill_setting [] (ap setting_of c.in-Ok.ensures.conf ∙ same)) in
     counts_of_run c.args.asked.plan c.serve-end.new.wire.wire c.in-Some.taken c.serve-end.new.core _ c.in-Some.ensures
     (subst (λ begun. AppendsRun drill_setting begun (Some c.serve-end.new.wire.wire.told) Q) c.in_ok-wire.ensures run)

@@ -1,4 +1,4 @@
-use Rattle.std.proofs.Common.{◌+◌, [], None, drop, sym, ap, ◌∙◌, subst, get_or}
+use Rattle.std.proofs.Common.{◌+◌, [], drop, sym, ap, ◌∙◌, subst, get_or}
 use Rattle.std.proofs.lemmas.List.{drop_all}
 use Rattle.aprs_history.specs.Trace.{is_member}
 use Rattle.front_history.specs.Answers.{front_state}
@@ -11,7 +11,6 @@ use Rattle.server_core.proofs.OfferLemmas.{first_differs, member_at, same_at}
 use Rattle.aprsc_daemon.specs.Phases.{Broken}
 use Rattle.aprsc_daemon.proofs.BringLemmas.{brings_on}
 use Rattle.aprsc_daemon.proofs.EventLemmas.{err_any}
-use Rattle.aprsc_daemon.proofs.JournalLemmas.{sends_broken}
 use Rattle.aprsc_daemon.proofs.serving.send_all.Goals as goal
 
 pub send_one-requires-clause-served : goal.send_one-requires-clause-served
@@ -46,9 +45,12 @@ loop-link-preserved g c =
 
 pub returns-in_err-send_one-clause-err : goal.returns-in_err-send_one-clause-err
 returns-in_err-send_one-clause-err g c = λ s lines closes same.
+    let offers = c.args.offers.now in
+    let i = c.loop-link.link-index in
+    let left = next_item offers i (get_or offers i 0) c.loop-link-test.true (same_at offers i 0 _ c.loop-link-test.true) in
     err_any {P = SendsOn s (g.W.Wire.shown c.args.wire.now).told c.args.fronts.now.page (g.W.Wire.shown c.send_one.new.wire).told c.send_one.new.fronts.page (Offering lines c.args.core.now c.args.offers.now closes) (Broken s lines)} c.from_residual.result (λ front start run.
-    sends_broken lines s (g.W.Wire.shown c.loop-link.wire).told (g.W.Wire.shown c.send_one.new.wire).told c.loop-link.fronts.page c.send_one.new.fronts.page c.loop-link.core None [] (drop c.loop-link.link-index c.args.offers.now) closes
-    (ap setting_of c.loop-link.invariant.0.conf ∙ same) c.in_err-send_one.ensures.err (ap (λ f. f.page) c.in_err-send_one.ensures.uncounted) front start (c.loop-link.invariant.8 s lines closes same front start run))
+    c.in_err-send_one.ensures.err s lines (drop (i + 1) offers) closes (ap setting_of c.loop-link.invariant.0.conf ∙ same) (first_differs 0 c.requires.rising.0 offers i (get_or offers i 0) (drop (i + 1) offers) c.requires.rising.1 left) front start
+    (subst (λ links. Serves s start (g.W.Wire.shown c.loop-link.wire).told (front_state c.loop-link.fronts.page front) (Offering lines c.loop-link.core links closes)) left (c.loop-link.invariant.8 s lines closes same front start run)))
 
 pub returns-clause-run : goal.returns-clause-run
 returns-clause-run g c = λ s lines closes same front start run.
