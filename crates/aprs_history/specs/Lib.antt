@@ -26,3 +26,4 @@ pub mod Trace
 pub mod Verdicts
 pub mod Wanting
 pub mod Dials
+pub mod Wired

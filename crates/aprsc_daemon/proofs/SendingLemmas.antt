@@ -18,7 +18,7 @@ use Rattle.aprs_history.proofs.DownLemmas.{down_small}
 use Rattle.aprs_history.proofs.NumberLemmas.{member_first}
 use Rattle.aprs_conf.specs.Seen.{ConfSeen}
 use Rattle.status_page.specs.PageFronts.{PageSeen, counting}
-use Rattle.front_history.specs.Wired.{first_down}
+use Rattle.aprs_history.specs.Wired.{first_down}
 use Rattle.front_history.specs.Serving.{ActsOn, SendsOn}
 use Rattle.front_history.proofs.ServesLemmas.{acts_uncounted, line_on, serves_same, serves_so}
 use Rattle.server_core.specs.Sending.{bytes_in, with_lines}

@@ -10,7 +10,7 @@ use Rattle.front_history.specs.Answers.{wired}
 use Rattle.front_history.specs.Replies.{PagesArePaid, PostsArePaid}
 use Rattle.front_history.specs.Serving.{Ports}
 use Rattle.front_history.specs.Views.{HavePorts, IsView}
-use Rattle.front_history.specs.Wired.{on_wire}
+use Rattle.aprs_history.specs.Wired.{on_wire}
 use Rattle.aprsc_daemon.specs.Causes.{Ended}
 use Rattle.aprsc_daemon.specs.Runs.{RunsFor, ports_named, setting_named}
 

@@ -12,7 +12,7 @@ use Rattle.status_page.specs.PageFronts.{PageSeen, moment_after, reply_by}
 use Rattle.status_page.proofs.CountLemmas.{counts_go_on, counts_in_any_order}
 use Rattle.front_history.specs.Answers.{Answers, Duty, FrontState, Hands, Steps, noting, paid_by, published}
 use Rattle.front_history.specs.Replies.{moment_in, page_reply_of}
-use Rattle.front_history.specs.Wired.{on_wire, wired_as}
+use Rattle.aprs_history.specs.Wired.{on_wire, wired_as}
 use Rattle.front_history.proofs.ServesLemmas.{IsAct}
 use Rattle.front_history.proofs.WaitingLemmas.{act_moment}
 use Rattle.front_history.proofs.WiredLemmas.{act_shown}

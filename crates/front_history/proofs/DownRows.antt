@@ -14,7 +14,7 @@ use Rattle.aprs_history.proofs.EndingRows.{at_moment}
 use Rattle.aprs_history.proofs.JournalRows.{opens, says}
 use Rattle.aprs_history.proofs.Rows.{client, crlf, listen, server_on}
 use Rattle.status_page.specs.Counting.{counts_after, no_counts}
-use Rattle.front_history.specs.Wired.{on_wire}
+use Rattle.aprs_history.specs.Wired.{on_wire}
 
 -- clients come to listener 0, and lines are cast from listener 1
 unfoldable setting : Setting

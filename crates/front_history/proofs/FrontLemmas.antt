@@ -27,7 +27,7 @@ use Rattle.status_page.specs.Paying.{Pays as PaysPages}
 use Rattle.http_submit.specs.declared.pool.Owed.{Owed}
 use Rattle.front_history.specs.Answers.{Answers, Duty, FrontState, FulfilsDuty, FulfilsFirst, FulfilsNext, Hands, Steps, acts_for, duties_for, front_state, noted, open_page, paid, published, wired, wired_for, wired_from}
 use Rattle.front_history.specs.Serving.{EndsOn, GoesOn, Ports, Serves, ServesAt, ports_of}
-use Rattle.front_history.specs.Wired.{on_wire}
+use Rattle.aprs_history.specs.Wired.{on_wire}
 use Rattle.front_history.proofs.ServesLemmas.{IsAct, IsIdle, Tells, event_comes, front_acts, paid_at, ports_noted, tells_done}
 use Rattle.front_history.proofs.WiredLemmas.{all_shown}
 

@@ -26,7 +26,7 @@ use Rattle.front_history.specs.Replies.{GetStatus, IsClosedNext, IsGetPart, IsNo
 use Rattle.front_history.specs.Answers.{published}
 use Rattle.front_history.specs.Serving.{Ports}
 use Rattle.front_history.specs.Views.{IsView, is_waiting, request_of}
-use Rattle.front_history.specs.Wired.{on_wire}
+use Rattle.aprs_history.specs.Wired.{on_wire}
 use Rattle.front_history.proofs.WiredLemmas.{all_shown}
 
 -- clients come to listener 0; the port for the page is listener 1

@@ -19,7 +19,7 @@ use Rattle.http_submit.specs.Fronts.{FrontSeen, Turns, fresh_front}
 use Rattle.status_page.specs.PageFronts.{PageSeen, PageTurns, counting, fresh_page}
 use Rattle.front_history.specs.Answers.{Answers, Duty, FrontState, FulfilsNext, Steps, finished, front_state, noted, noting, paid, paid_by, published, wired, wired_for}
 use Rattle.front_history.specs.Serving.{ActsOn, EndsOn, GoesOn, SendsOn, Serves, ports_of}
-use Rattle.front_history.specs.Wired.{first_down, sent_as, wired_as}
+use Rattle.aprs_history.specs.Wired.{first_down, sent_as, wired_as}
 
 -- what is told once this has happened too, with a datagram to each of these addresses
 abbrev pub told_more : Setting → Happening → List Addr → Told → Told

@@ -20,7 +20,7 @@ use Rattle.front_history.specs.Answers.{Answers, Duty, FrontState, FulfilsDuty, 
 use Rattle.front_history.specs.Replies.{GetStatus, IsGetPart, IsPageReply, IsPostPart, IsPostReply, LinksArePaid, PageLinksArePaid, PostStatus, moment_in}
 use Rattle.front_history.specs.Serving.{Ports, ports_of}
 use Rattle.front_history.specs.Views.{HavePorts, IsNotTo, IsSeenAs, IsView, ServersSeeAll, ServersSeeViews, Views, is_theirs, opened_at, opened_from}
-use Rattle.front_history.specs.Wired.{on_wire, wired_as}
+use Rattle.aprs_history.specs.Wired.{on_wire, wired_as}
 use Rattle.front_history.proofs.CountedLemmas.{Counted, counted, page_is}
 use Rattle.front_history.proofs.FrontLemmas.{hands_keep, steps_keep, unseen}
 use Rattle.front_history.proofs.TurnLemmas.{IsAlike, SameOpenings, alike, front_moment, get_apart, opened_once, page_goes, post_apart, post_goes, same_link, same_moment, same_openings, seen_as}

@@ -8,7 +8,7 @@ use Rattle.aprs_history.specs.Downs.{DownSeen, down_of}
 use Rattle.aprs_history.specs.History.{History, trace_of}
 use Rattle.aprs_history.proofs.DownLemmas.{no_down}
 use Rattle.front_history.specs.Views.{IsNotTo}
-use Rattle.front_history.specs.Wired.{on_wire, sent_as, wired_as}
+use Rattle.aprs_history.specs.Wired.{on_wire, sent_as, wired_as}
 use Rattle.front_history.proofs.ServesLemmas.{IsAct}
 
 -- ---- what is shown of one act

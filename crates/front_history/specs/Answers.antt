@@ -14,7 +14,7 @@ use Rattle.aprs_history.specs.Acts.{Act, Closes, Offers, Fulfils, but_first, due
 use Rattle.http_submit.specs.Fronts.{FrontSeen, Turns, fresh_front, listened_as, paid_front}
 use Rattle.http_submit.specs.Owing.{reply_of}
 use Rattle.http_submit.specs.declared.pool.Owed.{Owed}
-use Rattle.front_history.specs.Wired.{wired_as}
+use Rattle.aprs_history.specs.Wired.{wired_as}
 use Rattle.status_page.specs.PageFronts.{PageSeen, PageTurns, counting, fresh_page, no_totals, paid_page, reply_by}
 
 -- ---- what is owed

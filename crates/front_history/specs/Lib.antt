@@ -2,4 +2,3 @@ pub mod Answers
 pub mod Replies
 pub mod Serving
 pub mod Views
-pub mod Wired

@@ -23,7 +23,7 @@ use Rattle.status_page.specs.declared.requests.Get.TheVariants as get
 use Rattle.front_history.specs.Answers.{Answers, FrontState, published}
 use Rattle.front_history.specs.Serving.{Ports, ports_of}
 use Rattle.front_history.specs.Views.{HavePorts, IsView, is_waiting, opened_at, request_of}
-use Rattle.front_history.specs.Wired.{on_wire}
+use Rattle.aprs_history.specs.Wired.{on_wire}
 
 -- ---- moments, in seconds
 

@@ -19,7 +19,7 @@ use Rattle.http_submit.specs.declared.requests.Post.{Post}
 use Rattle.http_submit.specs.declared.requests.Post.TheVariants.{Whole}
 use Rattle.front_history.specs.Answers.{Answers, FrontState}
 use Rattle.front_history.specs.Serving.{Ports, ports_of}
-use Rattle.front_history.specs.Wired.{on_wire}
+use Rattle.aprs_history.specs.Wired.{on_wire}
 
 -- ---- the links of a front's port, where it has one
 

@@ -1,7 +1,7 @@
 -- What a send leaves of the core, and the history with it.
-use Rattle.std.proofs.Common.{◌≡◌, ℕ, ◌+◌, ◌-◌, ◌≤◌, nat_lt, true, false, None, List, [], ◌∷◌, length, map, refl, sym, ap, ◌∙◌, subst, arith, ⊎_elim, eq-eqb, le_refl, length-drop, if◌then◌else◌}
+use Rattle.std.proofs.Common.{◌≡◌, ℕ, ◌+◌, ◌-◌, ◌≤◌, nat_lt, true, false, None, Some, is_some, List, [], ◌∷◌, length, map, refl, sym, ap, ◌∙◌, subst, arith, ⊎_elim, eq-eqb, le_refl, length-drop, if◌then◌else◌}
 use Rattle.std.proofs.lemmas.Simd.{map-map}
-use Rattle.std.proofs.lemmas.Bool.{cases_Bool}
+use Rattle.std.proofs.lemmas.Bool.{cases_Bool, true≢false}
 use Rattle.std.specs.declared.random_state.RandomState.{RandomState}
 use Rattle.aprs_base.specs.declared.events.Sent.TheVariants as sent
 use Rattle.aprs_base.specs.declared.events.Happening.TheVariants as did
@@ -15,7 +15,8 @@ use Rattle.aprs_history.specs.Counts.{totals_of}
 use Rattle.aprs_history.specs.Setting.{Setting}
 use Rattle.aprs_history.specs.Trace.{Trace, served_links, is_member}
 use Rattle.aprs_history.specs.Links.{taken_by}
-use Rattle.aprs_history.specs.Downs.{down_of}
+use Rattle.aprs_history.specs.Downs.{DownSeen, down_of}
+use Rattle.aprs_history.specs.Wired.{on_wire, sent_as}
 use Rattle.link_queue.specs.Lines.{Queued, queued, text_bytes}
 use Rattle.aprs_history.specs.Texts.{lines_of, untaken}
 use Rattle.aprs_history.specs.History.{History, trace_of}
@@ -24,7 +25,7 @@ use Rattle.aprs_history.specs.Stands.{LinkSeen, CoreSeen, link_seen, reach_of, F
 use Rattle.served_links.specs.Changes.{at_link, with_taken, when_gone}
 use Rattle.served_links.specs.Links.{down_at, down_kept, has_number, has_that, pending_at, pending_of}
 use Rattle.server_core.specs.Meaning.{CoreMeaning, setting_of, Stands}
-use Rattle.server_core.specs.Sending.{bytes_in, with_lines}
+use Rattle.server_core.specs.Sending.{bytes_in, with_casts, with_lines}
 use Rattle.server_core.proofs.FollowLemmas.{not_below, queued-bytes, queued-more, picked_seen, picked_missing}
 use Rattle.server_core.proofs.WalkLemmas.{at_twice, follows_took, follows_lost}
 use Rattle.server_core.proofs.CoreLemmas.{number_member, relinked}
@@ -44,6 +45,15 @@ module _ (s : Setting) (core : CoreSeen) (t : Trace) (follows : Follows s core t
   down_now here =
       let member = sym (number_member s t k (served_links t)) ∙ ap (has_number k) (sym follows.links) ∙ here in
       ap (down_at k) follows.links ∙ picked_seen down_kept None s t k (served_links t) member
+
+  -- a downlink that the core keeps is one of the history
+  pub down_here : (down : DownSeen) → down_at k core.links ≡ Some down → down_of s t k ≡ Some down
+  unfolding link_seen
+  down_here down is =
+      ⊎_elim
+      (λ served. sym (picked_seen down_kept None s t k (served_links t) served) ∙ sym (ap (down_at k) follows.links) ∙ is)
+      (λ missing. absurd (true≢false (sym (ap is_some (sym (picked_missing down_kept None s t k (served_links t) missing) ∙ sym (ap (down_at k) follows.links) ∙ is)))))
+      (cases_Bool (is_member k (served_links t)))
 
   within : (n : ℕ) → n ≤ length (pending_at k core.links) → taken_by t k + n ≤ length (text_bytes (lines_of s t k))
   within n le =
@@ -154,6 +164,15 @@ stands_lines core links k offered n line lines h total stands part pending new =
     let are : links ≡ after_lines k (line ∷ lines) core.seen.links =
     new ∙ ap (λ m. map (at_link k (with_taken m m)) core.seen.links) (sym total) ∙ sym (lines_as_one k line lines core.seen.links) in
     subst (λ ls. Stands (relinked ls core) (with_lines k (line ∷ lines) h)) (sym are) all
+
+-- the wire shows the lines that a downlink takes as casts
+pub lines_shown : (s : Setting) (k : ℕ) (down : DownSeen) (lines : List (List ℕ)) (h : History) → down_of s (trace_of s h) k ≡ Some down
+    → on_wire s (with_lines k lines h) ≡ with_casts down.number lines (on_wire s h)
+unfolding trace_of
+lines_shown s k down [] h is = refl
+lines_shown s k down (line ∷ lines) h is =
+    lines_shown s k down lines (did.Sent k line (sent.Took (length line)) ∷ h) is
+    ∙ ap (λ shown. with_casts down.number lines (sent_as shown k line (sent.Took (length line)) ∷ on_wire s h)) is
 
 pub stands_gone : (core : CoreMeaning) (links : List LinkSeen) (k : ℕ) (bytes : List ℕ) (h : History) → Stands core h
     → links ≡ map (at_link k when_gone) core.seen.links → Stands (relinked links core) (did.Sent k bytes sent.Gone ∷ h)

@@ -14,7 +14,7 @@ ghost use Rattle.server_core.specs.LinkSteps.{AreServed, Rises, has_number, numb
 ghost use Rattle.aprs_base.specs.declared.events.Happening.{Happening};
 ghost use Rattle.aprs_base.specs.declared.events.Sent.{Sent};
 ghost use Rattle.server_core.specs.Meaning.{AreActs, Stands, numbered, setting_of};
-ghost use Rattle.server_core.specs.Sending.{bytes_in, with_lines};
+ghost use Rattle.server_core.specs.Sending.{StandsAsShown, bytes_in, with_casts, with_lines};
 ghost use Rattle.server_core.specs.Steps.{SameRest};
 
 use crate::acts::Acts;
@@ -193,7 +193,7 @@ impl Core {
     }
 
     /// The link took the first `n` of the `offered` bytes, which were its last offer. A downlink took them as whole lines, each in a
-    /// datagram of its own.
+    /// datagram of its own: the wire shows these lines as casts.
     pub fn took(&mut self, link: u32, offered: usize, n: usize)
         requires part { n ≤ offered }
         requires small { offered ≤ 65536 }
@@ -201,6 +201,8 @@ impl Core {
         ensures stands { (h : History) (bytes : List ℕ) → down_at link self.old.seen.links ≡ None → length bytes ≡ offered → Stands self.old h → Stands self.new (Happening.Sent link bytes (Sent.Took n) ∷ h) }
         ensures sends { (h : History) (down : DownSeen) (line : List ℕ) (lines : List (List ℕ)) → down_at link self.old.seen.links ≡ Some down → bytes_in (line ∷ lines) ≡ n
             → Stands self.old h → Stands self.new (with_lines link (line ∷ lines) h) }
+        ensures casts { (wired : History) (down : DownSeen) (line : List ℕ) (lines : List (List ℕ)) → down_at link self.old.seen.links ≡ Some down → bytes_in (line ∷ lines) ≡ n
+            → StandsAsShown self.old wired → StandsAsShown self.new (with_casts down.number (line ∷ lines) wired) }
         ensures numbers { numbers self.new.seen.links ≡ numbers self.old.seen.links }
         ensures rest { SameRest self.old self.new }
     {

@@ -3,7 +3,7 @@ use Rattle.std.specs.Option.{option_map}
 use Rattle.aprs_base.specs.Outside.{with_cast}
 use Rattle.aprs_base.specs.declared.events.Happening.TheVariants as did
 use Rattle.aprs_history.specs.Downs.{DownSeen}
-use Rattle.front_history.specs.Wired.{first_down}
+use Rattle.aprs_history.specs.Wired.{first_down}
 use Rattle.aprsc_daemon.proofs.BringLemmas.{brings_told}
 use Rattle.aprsc_daemon.proofs.ReachLemmas.{ok_both, ok_then}
 use Rattle.aprsc_daemon.proofs.SendingLemmas.{line_fits, line_goes}
