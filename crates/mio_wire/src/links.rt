@@ -98,6 +98,8 @@ impl<S: Write> Link<S> {
 pub(crate) struct Links<S> {
     pub(crate) list: VecDeque<Link<S>>,
     pub(crate) made: u32,
+    /// The place behind the link that was written to last: writes come in rising order, so the next one likely stands there.
+    pub(crate) near: usize,
     ghost rising: { IsRising (numbers list.items) },
     ghost counted: { IsCounted made (numbers list.items) },
 }
@@ -109,6 +111,7 @@ impl<S: Drop> Links<S> {
         Links {
             list: VecDeque::new(alloc),
             made: 0,
+            near: 0,
         }
     }
 
@@ -141,6 +144,19 @@ impl<S: Drop> Links<S> {
 
     /// Where the link with a number stands.
     pub(crate) fn place_of(&self, number: u32) -> Option<usize>
+        ensures within { IfSome result (λ place. place < length self.now.list.items) }
+        ensures number { IfSome result (λ place. option_map (λ l. l.number) (slice_get self.now.list.items place) ≡ Some number) }
+        ensures there { OnSome result (Contains (numbers self.now.list.items) number) }
+        ensures none { IfNone result (All (λ n. n ≢ number) (numbers self.now.list.items)) }
+    {
+        match self.list.get(self.near) {
+            Some(link) if link.number == number => Some(self.near),
+            _ => self.search(number),
+        }
+    }
+
+    /// Where the link with a number stands, by halving.
+    fn search(&self, number: u32) -> Option<usize>
         ensures within { IfSome result (λ place. place < length self.now.list.items) }
         ensures number { IfSome result (λ place. option_map (λ l. l.number) (slice_get self.now.list.items place) ≡ Some number) }
         ensures there { OnSome result (Contains (numbers self.now.list.items) number) }
@@ -226,6 +242,7 @@ impl<S: Write + Drop> Links<S> {
         ensures within { IfSome result (λ w. w.taken ≤ length bytes.now) }
         ensures bytes { IfSome result (λ w. Appends (at_place S.contents self.old.list.items place) (at_place S.contents self.new.list.items place) (take w.taken bytes.now)) }
     {
+        self.near = place.saturating_add(1);
         self.list[place].write(bytes)
     }
 }

@@ -3,7 +3,7 @@ use Rattle.std.specs.List.Sorted.{IsSearchInRange}
 use Rattle.std.proofs.lemmas.List.Sorted.{answers_always}
 use Rattle.mio_wire.proofs.FindLemmas.{found, unfound}
 use Rattle.mio_wire.proofs.HeldLemmas.{found_there}
-use Rattle.mio_wire.proofs.links.Links.place_of.Goals as goal
+use Rattle.mio_wire.proofs.links.Links.search.Goals as goal
 
 pub returns-clause-number : goal.returns-clause-number
 returns-clause-number g c =
