@@ -32,7 +32,7 @@ module _ (number high : ℕ) (links : List LinkSeen) (rises : Rises 0 (numbers l
       ]
 
   -- the place of a link with the number is the first of such a one
-  place_found : (place : ℕ) (d : LinkSeen) → place < length links → (get_or links place d).link ≡ number → Some place ≡ position (has_that number) links
+  pub place_found : (place : ℕ) (d : LinkSeen) → place < length links → (get_or links place d).link ≡ number → Some place ≡ position (has_that number) links
   place_found place d within is =
       let first : position_or_len (has_that number) links ≡ place = position_or_len_is (has_that number) links place d (omega arith)
       (λ k lt. not_that number (get_or links k d) (λ same. let more = later_above 0 high links k place d rises lt within in omega arith))

@@ -33,15 +33,34 @@ pub(crate) fn place_of(links: &[LinkSession], number: u32) -> Option<usize>
     links.binary_search_by_key(&number, |link| link.number).ok()
 }
 
+/// Where the link of that number stands, which may be at `near`: there it is looked for first.
+pub(crate) fn place_near(links: &[LinkSession], near: usize, number: u32) -> Option<usize>
+    requires { Rises 0 (numbers links.now) (2 ^ 32) }
+    ensures { result ≡ position (has_that number) links.now }
+{
+    match links.get(near) {
+        Some(link) if link.number == number => Some(near),
+        _ => place_of(links, number),
+    }
+}
+
+/// Where the link of that number stands, if it hasn't left. It is looked for at `near` first.
+pub(crate) fn place_here_near(links: &[LinkSession], near: usize, number: u32) -> Option<usize>
+    requires { Rises 0 (numbers links.now) (2 ^ 32) }
+    ensures { result ≡ position (is_at number) links.now }
+{
+    match place_near(links, near, number) {
+        Some(place) if links[place].is_here() => Some(place),
+        _ => None,
+    }
+}
+
 /// Where the link of that number stands, if it hasn't left.
 pub(crate) fn place_here(links: &[LinkSession], number: u32) -> Option<usize>
     requires { Rises 0 (numbers links.now) (2 ^ 32) }
     ensures { result ≡ position (is_at number) links.now }
 {
-    match place_of(links, number) {
-        Some(place) if links[place].is_here() => Some(place),
-        _ => None,
-    }
+    place_here_near(links, links.len(), number)
 }
 
 /// A copy of that link's cutter.
@@ -235,12 +254,12 @@ pub(crate) fn opened_by(links: &[LinkSession], number: u32) -> Option<(LinkKind,
     }
 }
 
-/// The downlink that this link is.
-pub(crate) fn down_at(links: &[LinkSession], number: u32) -> Option<Down>
+/// The downlink that this link is, which is looked for at `near` first.
+pub(crate) fn down_at(links: &[LinkSession], near: usize, number: u32) -> Option<Down>
     requires { Rises 0 (numbers links.now) (2 ^ 32) }
     ensures { result ≡ down_at number (here links.now) }
 {
-    match place_here(links, number) {
+    match place_here_near(links, near, number) {
         Some(place) => links[place].down(),
         None => None,
     }

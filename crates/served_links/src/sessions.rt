@@ -33,6 +33,8 @@ pub struct Sessions {
     clients: usize,
     /// Whether some may have left.
     parted: bool,
+    /// The place behind the link that took last: offers are made in rising order, so the next one likely stands there.
+    near: usize,
 }
 
 impl Model for Sessions {
@@ -58,6 +60,7 @@ impl Sessions {
             counts: IndexMap::with_hasher(alloc, *hasher),
             clients: 0,
             parted: false,
+            near: 0,
         }
     }
 
@@ -65,6 +68,11 @@ impl Sessions {
         ensures value { result.now ≡ self.now }
     {
         self.links.as_slice()
+    }
+
+    /// Where the link that is offered bytes next likely stands: a guess, and any would do.
+    pub fn near(&self) -> usize {
+        self.near
     }
 
     /// How many clients there are.
@@ -197,6 +205,7 @@ impl Sessions {
         ensures { (link : LinkSeen) → slice_get self.old place ≡ Some link → self.new ≡ slice_set self.old place (record link { blocked = nat_lt count offered }) }
     {
         self.links[place].take(offered, count);
+        self.near = place + 1;
     }
 
     /// The link at that place leaves.

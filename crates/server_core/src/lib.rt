@@ -9,6 +9,7 @@ mod numbers;
 mod places;
 mod reach;
 mod server;
+mod spares;
 mod telling;
 
 pub use acts::{Acts, CastOut};

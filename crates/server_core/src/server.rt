@@ -29,6 +29,7 @@ mod verdicts;
 
 use crate::conf::{dupe_window, uplink_timeout};
 use crate::reach::Reach;
+use crate::spares::Spares;
 use aprs_base::{Event, Gate, JournalLine, Memory, Totals};
 use aprs_conf::Conf;
 use dupe_window::Window;
@@ -94,6 +95,7 @@ pub(crate) struct State {
     hasher: RandomState,
     /// How many links became downlinks, ended ones too.
     downs: u32,
+    spares: Spares,
 }
 
 impl Model for State {
@@ -141,6 +143,7 @@ impl State {
             ahead: Ahead::none(alloc),
             hasher: *hasher,
             downs: 0,
+            spares: Spares::new(alloc),
         })
     }
 

@@ -58,7 +58,7 @@ impl Served {
     pub fn down(&self, number: u32) -> Option<Down>
         ensures { result ≡ down_at number self.now.links }
     {
-        down_at(self.sessions.as_slice(), number)
+        down_at(self.sessions.as_slice(), self.sessions.near(), number)
     }
 
     /// Whether what comes from there was submitted here.

@@ -2,7 +2,6 @@
 ghost use Rattle.std.specs.Prelude.{◌≡◌, ◌⊎◌, ℕ, [], IfOk, None, OnErr, OnOk, false, filter, length, map, true};
 ghost use Rattle.std.specs.Arc.{arc_value};
 ghost use Rattle.std.specs.List.Sorted.{IsStrictlyIncreasing};
-ghost use Rattle.aprs_base.specs.PacketSeen.{PacketSeen};
 ghost use Rattle.link_feeds.specs.Feeds.{met_by};
 ghost use Rattle.served_links.specs.Fed.{refused_of};
 ghost use Rattle.served_links.specs.Links.{Rises, numbers};
@@ -16,7 +15,7 @@ use super::Served;
 use crate::link::SourcePlace;
 use crate::links::{offered, shows_any};
 use crate::sessions::Sessions;
-use aprs_base::{Body, Line, Memory, Packet, Parts, Shared, Source};
+use aprs_base::{Line, Memory, Packet, Shared};
 use link_feeds::Feeds;
 use std::alloc::Global;
 use std::sync::Arc;
@@ -57,45 +56,33 @@ impl Served {
         come(&mut self.sessions, &mut self.feeds, self.rests, item)
     }
 
-    /// The links that are shown a duplicate that is refused there take it, and are counted. After `Memory` no link is left, or all
-    /// are as they were.
-    pub fn show(
-        &mut self,
-        alloc: Global,
-        from: &Source,
-        parts: Parts,
-        line: Line,
-    ) -> Result<(), Memory>
+    /// The links that are shown a duplicate that is refused take it, and are counted. After `Memory` no link is left, or all are
+    /// as they were.
+    pub fn show(&mut self, alloc: Global, packet: &Shared) -> Result<(), Memory>
         ensures rises { (high : ℕ) → Rises 0 (numbers self.old.links) high → Rises 0 (numbers self.new.links) high }
-        ensures ok { OnOk result ((self.new.links ≡ map (with_shown from.now line) self.old.links)
-            × (self.new.queued ≡ more (length (filter (takes_shown from.now) self.old.links)) self.old.queued) × (self.new.rests ≡ self.old.rests)) }
+        ensures ok { OnOk result ((self.new.links ≡ map (with_shown (arc_value packet.now).from (arc_value packet.now).line) self.old.links)
+            × (self.new.queued ≡ more (length (filter (takes_shown (arc_value packet.now).from) self.old.links)) self.old.queued) × (self.new.rests ≡ self.old.rests)) }
         ensures err { OnErr result (IsEmptied self.old self.new ⊎ (self.new ≡ self.old)) }
     {
         if shows_any(self.sessions.as_slice()) {
-            self.show_all(alloc, *from, parts, line)
+            self.show_all(alloc, packet)
         } else {
             Ok(())
         }
     }
 
-    /// A duplicate that is refused there comes to the links, where some are shown such. After `Memory` no link is left, or all
-    /// are as they were.
-    fn show_all(
-        &mut self,
-        alloc: Global,
-        from: Source,
-        parts: Parts,
-        line: Line,
-    ) -> Result<(), Memory>
+    /// A duplicate that is refused comes to the links, where some are shown such. After `Memory` no link is left, or all are as
+    /// they were.
+    fn show_all(&mut self, alloc: Global, packet: &Shared) -> Result<(), Memory>
         ensures rises { (high : ℕ) → Rises 0 (numbers self.old.links) high → Rises 0 (numbers self.new.links) high }
         ensures ok { OnOk result (self.new ≡ record self.old {
-          links = map (with_shown from line) self.old.links;
-          queued = more (length (filter (takes_shown from) self.old.links)) self.old.queued;
+          links = map (with_shown (arc_value packet.now).from (arc_value packet.now).line) self.old.links;
+          queued = more (length (filter (takes_shown (arc_value packet.now).from) self.old.links)) self.old.queued;
           waiting = waiting_after self.old.rests self.old.waiting;
         }) }
         ensures err { OnErr result (IsEmptied self.old self.new ⊎ (self.new ≡ self.old)) }
     {
-        let item = refused(alloc, from, parts, line)?;
+        let item = refused(alloc, packet)?;
         come(&mut self.sessions, &mut self.feeds, self.rests, item)
     }
 
@@ -159,24 +146,11 @@ fn bring_to(feeds: &mut Feeds, rests: bool, item: Item) -> Result<(), Memory>
 }
 
 /// A duplicate that is refused, as it is offered to all links.
-fn refused(alloc: Global, from: Source, parts: Parts, line: Line) -> Result<Item, Memory>
-    ensures exact { IfOk result (λ item. (packet : PacketSeen) × (item_seen item ≡ Came (refused_of packet)) × (packet.from ≡ from) × (packet.line ≡ line)) }
+fn refused(alloc: Global, packet: &Shared) -> Result<Item, Memory>
+    ensures { IfOk result (λ item. item_seen item ≡ Came (refused_of (arc_value packet.now))) }
 {
-    let packet = Packet {
-        from,
-        moment: 0,
-        parts,
-        body: Body {
-            class: 0,
-            place: None,
-            name: None,
-            live: false,
-            to: None,
-        },
-        line: Arc::new(alloc, line)?,
-    };
     Ok(Item::Packet {
-        packet: Arc::new(alloc, packet)?,
+        packet: packet.clone()?,
         dupe: true,
         submitted: false,
         known: None,

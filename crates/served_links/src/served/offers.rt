@@ -7,7 +7,7 @@ ghost use Rattle.worker_match.specs.Seen.{FeedSeen};
 
 use super::Served;
 use crate::link::LinkSession;
-use crate::links::place_of;
+use crate::links::place_near;
 use aprs_base::Memory;
 use link_feeds::Feeds;
 use std::alloc::Global;
@@ -28,7 +28,7 @@ impl Served {
         ensures bytes { take result out.new ≡ take (length out.old) (pending_at number self.now.links) }
         ensures rest { drop result out.new ≡ drop result out.old }
     {
-        match place_of(self.sessions.as_slice(), number) {
+        match place_near(self.sessions.as_slice(), self.sessions.near(), number) {
             Some(place) => self.feeds.front_bytes(place, out),
             None => 0,
         }
@@ -39,7 +39,7 @@ impl Served {
         requires { self.now.rests ≡ true }
         ensures { IfSome result (λ bytes. bytes.now ≡ pending_at number self.now.links) }
     {
-        match place_of(self.sessions.as_slice(), number) {
+        match place_near(self.sessions.as_slice(), self.sessions.near(), number) {
             Some(place) => self.feeds.shared_front(place),
             None => None,
         }
@@ -51,7 +51,7 @@ impl Served {
         requires pending { count ≤ length (pending_at number self.old.links) }
         ensures { self.new ≡ record self.old { links = map (at_link number (with_taken offered count)) self.old.links } }
     {
-        match place_of(self.sessions.as_slice(), number) {
+        match place_near(self.sessions.as_slice(), self.sessions.near(), number) {
             Some(place) => {
                 self.sessions.take(place, offered, count);
                 self.feeds.taken(place, count);

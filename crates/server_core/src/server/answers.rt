@@ -1,5 +1,6 @@
 //! What a verdict that accepts no packet comes to: refusals, logins and filters.
 ghost use Rattle.std.specs.Prelude.{◌≡◌, ◌≤◌, ◌<◌, ◌+◌, ◌++◌, ◌&&◌, nat_lt, IfOk, IfSome, IsTrue, OnOk, length, None, Some, filter, if◌then◌else◌, map};
+ghost use Rattle.std.specs.Arc.{arc_value};
 ghost use Rattle.aprs_base.specs.Bytes.{is_station};
 ghost use Rattle.aprs_base.specs.declared.packets.Source.TheVariants as Source;
 ghost use Rattle.line_verdict.specs.Fit.{all_few, has_few};
@@ -18,7 +19,8 @@ use super::verdicts::{Objection, refusal_for};
 use super::{State, raised};
 use crate::conf::{asked_addr, server_of};
 use crate::places::friends_found;
-use aprs_base::{Addr, JournalLine, Line, Memory, Parts, Source};
+use aprs_base::{Addr, JournalLine, Line, Memory, Shared, Source};
+use aprs_body::classify;
 use aprs_history::{FilterAnswer, Refusal, Session, Verdict};
 use filter_lang::FilterSet;
 use line_verdict::{denied_line, login_line, refusal_line};
@@ -38,21 +40,15 @@ fn port_where(free: bool, port: Option<u16>) -> Option<u16>
 
 impl State {
     /// A duplicate is refused, and is counted: the links that are shown such take it.
-    pub(super) fn show(
-        &mut self,
-        alloc: Global,
-        from: &Source,
-        parts: Parts,
-        line: Line,
-    ) -> Result<(), Memory>
+    pub(super) fn show(&mut self, alloc: Global, packet: &Shared) -> Result<(), Memory>
         ensures { OnOk result (self.new ≡ record self.old {
           seen = record self.old.seen {
-            links = map (with_shown from.now line) self.old.seen.links;
-            totals = with_duplicate (length (filter (takes_shown from.now) self.old.seen.links)) self.old.seen.totals;
+            links = map (with_shown (arc_value packet.now).from (arc_value packet.now).line) self.old.seen.links;
+            totals = with_duplicate (length (filter (takes_shown (arc_value packet.now).from) self.old.seen.links)) self.old.seen.totals;
           };
         }) }
     {
-        self.links.show(alloc, from, parts, line)?;
+        self.links.show(alloc, packet)?;
         self.counts.duplicate = raised(self.counts.duplicate, 1);
         Ok(())
     }
@@ -87,7 +83,11 @@ impl State {
         ensures { OnOk result (self.new ≡ with_port from.now None (Verdict.Refused refusal) self.old) }
     {
         match refusal {
-            Refusal::Duplicate(parts, line) => self.show(alloc, from, parts, line),
+            Refusal::Duplicate(parts, line) => {
+                let body = classify(&parts.dest, parts.body.as_slice());
+                let packet = self.packet_of(alloc, *from, parts, body, line)?;
+                self.show(alloc, &packet)
+            }
             other => {
                 self.count_refused();
                 match refusal_line(&other) {

@@ -1,5 +1,5 @@
 //! What an accepted packet comes to.
-ghost use Rattle.std.specs.Prelude.{◌≡◌, ◌++◌, IsTrue, IfOk, OnOk, false, map};
+ghost use Rattle.std.specs.Prelude.{◌≡◌, ◌≤◌, ◌++◌, ℕ, IsTrue, IfOk, List, Ok, OnOk, false, length, map};
 ghost use Rattle.std.specs.Arc.{arc_value};
 ghost use Rattle.aprs_base.specs.declared.cutting.Cut.TheVariants as Cut;
 ghost use Rattle.std.specs.List.Sorted.{IsStrictlyIncreasing};
@@ -8,14 +8,16 @@ ghost use Rattle.dupe_window.specs.Keys.{key_of};
 ghost use Rattle.dupe_window.specs.Windows.{has_copy};
 ghost use Rattle.aprs_history.specs.Verdicts.{packet_verdict, read_and_routed};
 ghost use Rattle.aprs_history.specs.Scenes.{packet_of};
+ghost use Rattle.server_core.specs.Objections.{Makes, Routes};
 ghost use Rattle.server_core.specs.LinkSteps.{after_packet, cast_with, noted_from, owed_in, promised_all, source_found, spent};
 ghost use Rattle.served_links.specs.Links.{others_from, submitted_from};
 ghost use Rattle.server_core.specs.Meaning.{peer_of};
 ghost use Rattle.q_construct.specs.Rule.{has_station};
 ghost use Rattle.server_core.specs.Steps.{with_verdict};
 ghost use Rattle.server_core.specs.Telling.{said_lines};
-ghost use Rattle.tnc2_line.specs.Packet.{parts_of};
+ghost use Rattle.tnc2_line.specs.Packet.{IsParts, parts_of, text_of};
 
+use super::verdicts::Objection;
 use super::{State, raised};
 use crate::conf::peers_of;
 use crate::messages::{hearers_of, is_position, note_from, owed_to, promise_all, receiver_of};
@@ -102,7 +104,7 @@ impl State {
     }
 
     /// A packet that came from there now, with this body and this line, to be shared.
-    fn packet_of(
+    pub(super) fn packet_of(
         &self,
         alloc: Global,
         from: Source,
@@ -160,6 +162,84 @@ impl State {
         Ok(())
     }
 
+    /// Writes a packet over another: that of a line from there, as it goes on. Says what there is against the line otherwise.
+    fn write_over(
+        &mut self,
+        alloc: Global,
+        packet: &mut Packet,
+        from: Source,
+        origin: &Origin,
+        line: &Line,
+    ) -> Result<Result<(), Objection>, Memory>
+        requires station { IsTrue (has_station origin.now) }
+        ensures exact { IfOk result (λ routed. Routes routed packet.new.parts (read_and_routed self.old.conf.server origin.now (others_from from self.old.seen.links) (parts_of line.now))) }
+        ensures packet { IfOk result (λ routed. OnOk routed (packet.new ≡ packet_of from self.old.seen.moment packet.new.parts (text_of packet.new.parts))) }
+        ensures same { self.new ≡ self.old }
+    {
+        packet.parts.vias.clear();
+        packet.parts.body.clear();
+        match self.route(&mut packet.parts, from, origin, line) {
+            Err(objection) => Ok(Err(objection)),
+            Ok(body) => {
+                packet.from = from;
+                packet.moment = self.moment;
+                packet.body = body;
+                put_line(alloc, &mut packet.line, &packet.parts)?;
+                Ok(Ok(()))
+            }
+        }
+    }
+
+    /// The packet of a line from there, as it goes on, in room of its own, or what there is against the line.
+    fn make(
+        &mut self,
+        alloc: Global,
+        from: Source,
+        origin: &Origin,
+        line: &Line,
+    ) -> Result<Result<Shared, Objection>, Memory>
+        requires station { IsTrue (has_station origin.now) }
+        ensures exact { IfOk result (λ made. Makes arc_value made from self.old.seen.moment (read_and_routed self.old.conf.server origin.now (others_from from self.old.seen.links) (parts_of line.now))) }
+        ensures same { self.new ≡ self.old }
+    {
+        let mut parts = Parts::unfilled();
+        match self.route(&mut parts, from, origin, line) {
+            Err(objection) => Ok(Err(objection)),
+            Ok(body) => {
+                let text = line_of(&parts);
+                Ok(Ok(self.packet_of(alloc, from, parts, body, text)?))
+            }
+        }
+    }
+
+    /// The packet of a line from there, as it goes on, or what there is against the line. It is written over one that nobody shares any
+    /// more, where there is such.
+    fn made_of(
+        &mut self,
+        alloc: Global,
+        from: Source,
+        origin: &Origin,
+        line: &Line,
+    ) -> Result<Result<Shared, Objection>, Memory>
+        requires station { IsTrue (has_station origin.now) }
+        ensures exact { IfOk result (λ made. Makes arc_value made from self.old.seen.moment (read_and_routed self.old.conf.server origin.now (others_from from self.old.seen.links) (parts_of line.now))) }
+        ensures same { self.new ≡ self.old }
+    {
+        let Some(mut spare) = self.spares.take() else {
+            return self.make(alloc, from, origin, line);
+        };
+        let Some(packet) = Arc::get_mut(&mut spare) else {
+            return self.make(alloc, from, origin, line);
+        };
+        match self.write_over(alloc, packet, from, origin, line)? {
+            Ok(()) => Ok(Ok(spare)),
+            Err(objection) => {
+                self.spares.give_back(spare)?;
+                Ok(Err(objection))
+            }
+        }
+    }
+
     /// A packet came from there: it is refused, as a copy too, or accepted.
     pub(super) fn take_packet(
         &mut self,
@@ -173,19 +253,33 @@ impl State {
         ensures core { OnOk result (self.new ≡ with_verdict from (Cut.Line line.now) (packet_verdict (has_copy self.old.seen.moment self.old.seen.window) (read_and_routed self.old.conf.server origin.now (others_from from self.old.seen.links) (parts_of line.now))) self.old) }
         ensures lines { OnOk result (lines.new.items ≡ lines.old.items ++ said_lines self.old from (packet_verdict (has_copy self.old.seen.moment self.old.seen.window) (read_and_routed self.old.conf.server origin.now (others_from from self.old.seen.links) (parts_of line.now)))) }
     {
-        let mut parts = Parts::unfilled();
-        match self.route(&mut parts, from, origin, line) {
+        match self.made_of(alloc, from, origin, line)? {
             Err(objection) => self.object(alloc, &from, objection, lines),
-            Ok(body) => {
-                let text = line_of(&parts);
-                let key = Key::of(&parts);
+            Ok(packet) => {
+                let key = Key::of(&packet.parts);
                 if self.has_copy(&key) {
                     self.tell_duplicate(&from, lines)?;
-                    return self.show(alloc, &from, parts, text);
+                    self.show(alloc, &packet)?;
+                    self.spares.give_back(packet)
+                } else {
+                    self.accept(alloc, &packet, &packet, key)?;
+                    self.spares.keep(packet)
                 }
-                let packet = self.packet_of(alloc, from, parts, body, text)?;
-                self.accept(alloc, &packet, &packet, key)
             }
         }
     }
+}
+
+/// Puts the line of a packet into room that nobody else shares.
+fn put_line(alloc: Global, line: &mut Arc<Line>, parts: &Parts) -> Result<(), Memory>
+    requires sound { IsParts parts.now }
+    requires short { length (text_of parts.now) ≤ 510 }
+    ensures { OnOk result (arc_value line.new ≡ text_of parts.now) }
+{
+    let text = line_of(parts);
+    match Arc::get_mut(line) {
+        Some(place) => *place = text,
+        None => *line = Arc::new(alloc, text)?,
+    }
+    Ok(())
 }

@@ -145,11 +145,12 @@ impl State {
         Ok(())
     }
 
-    /// What was parsed ahead is let go.
-    fn let_ahead_go(&mut self, alloc: Global)
-        ensures { self.new ≡ self.old }
+    /// The events have been walked: what was parsed ahead is let go, and the room of the packets is for those of the next round.
+    fn let_walked_go(&mut self, alloc: Global) -> Result<(), Memory>
+        ensures { OnOk result (self.new ≡ self.old) }
     {
         self.ahead.clear(alloc);
+        self.spares.turn()
     }
 
     /// A round ends.
@@ -168,7 +169,7 @@ impl State {
         ensures rest { OnOk result (SameRest self.old self.new) }
         ensures rests { OnOk result (self.new.rests ≡ true) }
     {
-        self.let_ahead_go(alloc);
+        self.let_walked_go(alloc)?;
         self.rest(crew)?;
         self.end_refused(alloc, events, lines)?;
         self.end_stopped(alloc, lines)

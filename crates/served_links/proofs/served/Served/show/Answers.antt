@@ -1,4 +1,5 @@
 use Rattle.std.proofs.Common.{◌≡◌, ap, length, sym, ◌∙◌, false, refl}
+use Rattle.std.specs.Arc.{arc_value}
 use Rattle.std.specs.List.{list_any}
 use Rattle.served_links.specs.Fed.{shows_kept}
 use Rattle.served_links.specs.Halves.{more}
@@ -16,7 +17,7 @@ hidden c =
 
 pub returns-else-shows_any-clause-ok : goal.returns-else-shows_any-clause-ok
 returns-else-shows_any-clause-ok c = (
-  none_shown c.args.from.now c.args.line c.args.self.now.links (hidden c),
-  sym (ap (λ ls. more (length ls) c.args.self.now.queued) (none_taken c.args.from.now c.args.line c.args.self.now.links (hidden c)) ∙ none_more c.self.inside.sessions c.self.inside.feeds c.self.inside.queued c.self.inside.rests c.args.self.now c.self.view_is),
+  none_shown (arc_value c.args.packet.now).from (arc_value c.args.packet.now).line c.args.self.now.links (hidden c),
+  sym (ap (λ ls. more (length ls) c.args.self.now.queued) (none_taken (arc_value c.args.packet.now).from (arc_value c.args.packet.now).line c.args.self.now.links (hidden c)) ∙ none_more c.self.inside.sessions c.self.inside.feeds c.self.inside.queued c.self.inside.rests c.args.self.now c.self.view_is),
   refl,
 )

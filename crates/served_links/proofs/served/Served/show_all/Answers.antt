@@ -1,11 +1,11 @@
-use Rattle.std.proofs.Common.{◌≡◌, ap, filter, inl, length, map, subst, sym, ◌∙◌, OnOk, List, ℕ}
+use Rattle.std.proofs.Common.{◌≡◌, ap, filter, inl, length, subst, sym, ◌∙◌, OnOk}
 use Rattle.std.proofs.lemmas.Result.{on_err_weaker}
-use Rattle.aprs_base.specs.declared.packets.Source.{Source}
+use Rattle.std.specs.Arc.{arc_value}
 use Rattle.aprs_base.specs.PacketSeen.{PacketSeen}
 use Rattle.link_feeds.specs.Feeds.{met_by, put_in}
 use Rattle.worker_match.specs.Seen.{Came}
 use Rattle.served_links.specs.Fed.{joined_all, refused_of}
-use Rattle.served_links.specs.Halves.{ServedSeen, served_seen, more, waiting_after}
+use Rattle.served_links.specs.Halves.{ServedSeen, more}
 use Rattle.served_links.specs.Changes.{takes_shown, with_shown}
 use Rattle.served_links.proofs.FedLemmas.{offer_matches}
 use Rattle.served_links.proofs.ServedSteps.{emptied, met_are, met_rises, met_seen, more_later, shown_links, shown_put}
@@ -13,10 +13,10 @@ use Rattle.served_links.proofs.HereLemmas.{named_shown, none_showing}
 use Rattle.served_links.proofs.served.Served.show_all.Goals as goal
 
 abbrev packet : goal.After-come → PacketSeen
-packet c = c.in_ok-item.ensures.exact.0
+packet c = arc_value c.args.packet.now
 
 met : (c : goal.After-come) → OnOk c.come.result (c.come.new.feeds.links ≡ met_by (Came (refused_of (packet c))) c.self.inside.feeds.links)
-met c = subst (λ i. OnOk c.come.result (c.come.new.feeds.links ≡ met_by i c.self.inside.feeds.links)) c.in_ok-item.ensures.exact.1 c.come.ensures.links
+met c = subst (λ i. OnOk c.come.result (c.come.new.feeds.links ≡ met_by i c.self.inside.feeds.links)) c.in_ok-item.ensures c.come.ensures.links
 
 pub invariant_of-self : goal.invariant_of-self
 invariant_of-self c =
@@ -32,19 +32,12 @@ returns-clause-ok c =
     let hs = c.self.inside.sessions in
     let ss = c.self.inside.feeds.links in
     let seen = packet c in
-    let shown : Source → List ℕ → Type 0 = λ from line. OnOk c.come.result (served_seen c.come.new.sessions c.come.new.feeds c.self.inside.queued c.self.inside.rests ≡ record c.args.self.now {
-      links = map (with_shown from line) c.args.self.now.links;
-      queued = more (length (filter (takes_shown from) c.args.self.now.links)) c.args.self.now.queued;
-      waiting = waiting_after c.args.self.now.rests c.args.self.now.waiting;
-    }) in
-    subst (λ from. shown from c.args.line) c.in_ok-item.ensures.exact.2
-    (subst (shown seen.from) c.in_ok-item.ensures.exact.3
-    (met_seen c.come.result (with_shown seen.from seen.line) (λ (s : ServedSeen). more (length (filter (takes_shown seen.from) s.links)) s.queued)
+    met_seen c.come.result (with_shown seen.from seen.line) (λ (s : ServedSeen). more (length (filter (takes_shown seen.from) s.links)) s.queued)
     c.self.inside c.come.new.sessions c.come.new.feeds (Came (refused_of seen)) (named_shown seen.from seen.line)
     (shown_links seen hs ss c.self.invariant.0.match)
     (ap (λ put. more put c.self.inside.queued) (shown_put seen hs ss c.self.invariant.0.match) ∙ more_later (length (filter (takes_shown seen.from) (joined_all hs ss))) (put_in ss) c.self.inside.queued
     ∙ ap (λ ls. more (length ls) (more (put_in ss) c.self.inside.queued)) (sym (none_showing seen.from (joined_all hs ss))))
-    c.come.ensures.sessions (met c) c.come.ensures.waiting c.self.view_is))
+    c.come.ensures.sessions (met c) c.come.ensures.waiting c.self.view_is
 
 pub returns-clause-err : goal.returns-clause-err
 returns-clause-err c = on_err_weaker c.come.result inl (emptied c.come.result c.self.inside c.come.new.sessions c.come.new.feeds c.self.view_is c.come.ensures.cleared)

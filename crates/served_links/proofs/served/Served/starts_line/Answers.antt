@@ -1,6 +1,6 @@
 use Rattle.std.proofs.Common.{ap, sym, true, ◌∙◌}
 use Rattle.served_links.specs.Links.{starts_line}
-use Rattle.served_links.proofs.ServedSteps.{here_nowhere, here_there, links_of, waiting_of, within_feeds, within_here}
+use Rattle.served_links.proofs.ServedSteps.{here_nowhere, here_there, waiting_of, within_feeds, within_here}
 use Rattle.served_links.proofs.served.Served.starts_line.Goals as goal
 
 pub place_here-requires : goal.place_here-requires

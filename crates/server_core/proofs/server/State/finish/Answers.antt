@@ -34,9 +34,9 @@ returns-clause-tells g c = λ t walks known.
     let refused = c.end_refused.new.self in
     let went = c.in_ok-rest.ensures in
     let ends = c.in_ok-end_refused.ensures in
-    let kept : Walks rested t = went.walks t (subst (λ (core : CoreMeaning). Walks core t) (sym c.let_ahead_go.ensures) walks) in
-    let conf : rested.conf ≡ now.conf = went.rest.conf ∙ ap (λ (core : CoreMeaning). core.conf) c.let_ahead_go.ensures in
-    let stops : refused.seen.stopped ≡ now.seen.stopped = ends.rest.stopped ∙ went.rest.stopped ∙ ap (λ (core : CoreMeaning). core.seen.stopped) c.let_ahead_go.ensures in
+    let kept : Walks rested t = went.walks t (subst (λ (core : CoreMeaning). Walks core t) (sym c.in_ok-let_walked_go.ensures) walks) in
+    let conf : rested.conf ≡ now.conf = went.rest.conf ∙ ap (λ (core : CoreMeaning). core.conf) c.in_ok-let_walked_go.ensures in
+    let stops : refused.seen.stopped ≡ now.seen.stopped = ends.rest.stopped ∙ went.rest.stopped ∙ ap (λ (core : CoreMeaning). core.seen.stopped) c.in_ok-let_walked_go.ensures in
     on_ok_weaker c.end_stopped.result
     (tells_ended t now rested refused c.args.lines.now.items c.end_refused.new.lines.items c.end_stopped.new.lines.items conf (ends.rest.conf ∙ conf) stops (ends.tells t kept known))
     (c.end_stopped.ensures.tells (refused_ends rested.conf t) (ends.walks t kept))

@@ -1,4 +1,4 @@
-use Rattle.std.proofs.Common.{map, ◌≤◌, ◌≡◌, Option, None, Some, is_some, length, subst, sym, ap, ◌∙◌, refl, if◌then◌else◌}
+use Rattle.std.proofs.Common.{map, ◌≤◌, Option, is_some, length, subst, sym, ap, ◌∙◌, refl, if◌then◌else◌}
 use Rattle.aprs_history.specs.Downs.{DownSeen}
 use Rattle.served_links.specs.Halves.{ServedSeen}
 use Rattle.served_links.specs.Links.{down_at, numbers, pending_at}
