@@ -1,19 +1,16 @@
 #!/usr/bin/env python3
 """What reading a packet line costs, and what is done with it then, beside a plain reader: tools/reading/run.py [RUNS]
 
-The program reading_costs.rattle is no crate of the repository. It is proved and built in a copy, with the crates below it;
-what checks have left in their out/ is copied too, so that it needn't be proved again.
+The program reading_costs.rattle is no crate of the repository. It is proved and built in a copy.
 """
-import os
 import resource
-import shutil
 import subprocess
 import sys
 import tempfile
 import time
 
-HERE = os.path.dirname(os.path.realpath(__file__))
-TOP = os.path.dirname(os.path.dirname(HERE))
+from building import HERE, build_plain, build_proved
+
 DEPS = "aprs_base tnc2_line aprs_body q_construct parsed_lines"
 BELOW = f"{DEPS} aprs_position mic_e"
 
@@ -39,30 +36,10 @@ def run(words):
     return after.ru_utime + after.ru_stime - before.ru_utime - before.ru_stime, end - start
 
 
-def built(folder):
-    """The two programs, by name."""
-    plain = f"{folder}/plain"
-    subprocess.run(["rustc", "-O", "--edition", "2021", "-o", plain, f"{HERE}/plain.rs"], check=True)
-    copy = f"{folder}/copy"
-    subprocess.run(["git", "clone", "--quiet", TOP, copy], check=True)
-    for name in BELOW.split():
-        if os.path.isdir(f"{TOP}/crates/{name}/out"):
-            shutil.copytree(f"{TOP}/crates/{name}/out", f"{copy}/crates/{name}/out")
-    crate = f"{copy}/crates/reading_costs"
-    os.makedirs(f"{crate}/src")
-    shutil.copy(f"{HERE}/reading_costs.rattle", f"{crate}/src/main.rt")
-    with open(f"{copy}/crates.txt", "a") as crates:
-        crates.write(f"reading_costs: {DEPS}\n")
-    made = subprocess.run(["rt", "run", "--jobs", "1"], cwd=crate, capture_output=True, text=True)
-    if made.returncode != 0:
-        sys.exit(made.stdout + made.stderr)
-    return {"plain": plain, "costs": f"{crate}/out/reading_costs"}
-
-
 def main():
     runs = int(sys.argv[1]) if len(sys.argv) > 1 else 5
     with tempfile.TemporaryDirectory() as folder:
-        programs = built(folder)
+        programs = {"plain": build_plain(folder, f"{HERE}/plain.rs"), "costs": build_proved(folder, "reading_costs", DEPS, BELOW)}
         # The rows in turn, so that what else the machine does meets them all alike.
         found = [[run([programs[program], *words]) for _, program, words in ROWS] for _ in range(runs)]
         print(f"microseconds a line, the best of {runs}     processor     time")
