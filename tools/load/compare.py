@@ -40,6 +40,9 @@ RUNS = {
     "idle9000": "idle clients=9000 seconds=20",
 }
 
+# Lines for the bare server, which adds nothing to them: so they are as long as the server's are when they leave it.
+LONGER = " length=98"
+
 # Drills of the server alone: their time and the most memory that they take.
 DRILLS = ["drill 7 20000 200", "drill 7 100000 40"]
 
@@ -164,7 +167,7 @@ def main():
                 for server, command in servers.items():
                     # The bare server knows no filters.
                     if server == "server" or "filtered" not in RUNS[name]:
-                        runs[server].append(measure(folder, command, RUNS[name]))
+                        runs[server].append(measure(folder, command, RUNS[name] + (LONGER if server == "bare" else "")))
             print(row(name, runs["server"], runs["bare"]), flush=True)
         print("\n| drill | seconds | processor seconds | MB | what it prints |\n|---|---|---|---|---|")
         for words in [] if names != list(RUNS) else DRILLS:

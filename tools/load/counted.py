@@ -185,18 +185,18 @@ def of_feed(room, command, still, load, lines, kept=None):
         return instructions(out)
 
 
-def of_words(room, words):
+def of_words(room, words, kept=None):
     """The instructions of a program that ends by itself."""
     with tempfile.TemporaryDirectory() as folder:
-        out = f"{folder}/callgrind"
+        out = kept or f"{folder}/callgrind"
         subprocess.run([*callgrind(out), *words], check=True, capture_output=True, env=surroundings(room))
         return instructions(out)
 
 
-def of_ends(room, command, still, count):
+def of_ends(room, command, still, count, kept=None):
     """The instructions from before the first of so many links ends to after the last. All end at once, the oldest first."""
     with tempfile.TemporaryDirectory() as folder:
-        out = f"{folder}/callgrind"
+        out = kept or f"{folder}/callgrind"
         with Server(folder, command, still, callgrind(out, "--instr-atstart=no"), room) as server:
             links = server.open_links("C", count, server.igate)
             subprocess.run(["callgrind_control", "-i", "on", str(server.process.pid)], check=True, capture_output=True)

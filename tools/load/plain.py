@@ -12,7 +12,7 @@ import resource
 import sys
 import tempfile
 
-from compare import CONFIGURATION, FULL, RUNS, build, loads, measure, median
+from compare import CONFIGURATION, FULL, LONGER, RUNS, build, loads, measure, median
 
 SERVERS = {"bare": "", "bare, rounds of 400": "read=32120", "packets": "packets", "packets, rounds of 400": "packets read=32120"}
 
@@ -33,7 +33,7 @@ def main():
         runs = {kind: [] for kind in commands}
         for _ in range(times):
             for kind, command in commands.items():
-                runs[kind].append(measure(folder, command, RUNS[name]))
+                runs[kind].append(measure(folder, command, RUNS[name] + (LONGER if kind.startswith("bare") else "")))
     print("| server | delivered a second | to bare's | us of processor a delivered line | to bare's |\n|---|---|---|---|---|")
     delivered, cpu = (median(runs["bare"], figure) for figure in ("delivered", "cpu"))
     for kind, found in runs.items():
