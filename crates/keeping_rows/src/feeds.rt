@@ -4,11 +4,11 @@ ghost use Rattle.std.specs.Prelude.{◌≡◌, ◌≤◌};
 use crate::fields::{Answer, Fault, Fields, all_of, not_allowed, said, shown};
 use crate::items::{FEEDS, read_item};
 use aprs_base::OpenGate;
-use link_feeds::{Crew, Feeds};
 use row_texts::write_bytes;
 use std::alloc::Global;
 use std::marker::Sync;
 use std::thread::Threads;
+use worker_match::{Crew, Feeds};
 
 /// The links that rows speak of.
 #[derive(Drop)]

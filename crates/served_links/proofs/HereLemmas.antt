@@ -21,7 +21,7 @@ use Rattle.filter_eval.specs.declared.seen.Seen.{Seen}
 use Rattle.station_table.specs.Stations.{seen_in}
 use Rattle.aprs_history.specs.Stands.{LinkSeen}
 use Rattle.worker_match.specs.Seen.{FeedSeen}
-use Rattle.link_feeds.specs.Feeds as feeds
+use Rattle.worker_match.specs.Feeds as feeds
 use Rattle.served_links.specs.Changes.{at_link, has_room, is_asked_at, is_shown_at, passes_packet, takes_packet, takes_shown, wants_packet, with_copy, with_date, with_packet, with_seen, with_shown, with_text}
 use Rattle.served_links.specs.declared.link.SourcePlace.{SourcePlace}
 use Rattle.served_links.specs.Fed.{AllMatch, Matches, feed_of, joined, joined_all, opening_feed, shows_kept}

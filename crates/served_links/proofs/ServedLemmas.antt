@@ -10,8 +10,8 @@ use Rattle.std.proofs.lemmas.Option.{get_or_from_slice_get, slice_get-get_or}
 use Rattle.aprs_base.specs.declared.packets.Source.{Source}
 use Rattle.aprs_base.specs.declared.packets.Source.TheVariants as source
 use Rattle.aprs_history.specs.Stands.{LinkSeen}
-use Rattle.link_feeds.specs.Feeds.{counted, is_other, is_over, link_of, put_in, put_of}
-use Rattle.link_feeds.proofs.FeedLemmas.{capped}
+use Rattle.worker_match.specs.Feeds.{counted, is_other, is_over, link_of, put_in, put_of}
+use Rattle.worker_match.proofs.FeedLemmas.{capped}
 use Rattle.worker_match.specs.Seen.{FeedSeen}
 use Rattle.worker_match.specs.Walk.{one_more}
 use Rattle.served_links.specs.Fed.{AllMatch, Matches, joined, joined_all}

@@ -17,7 +17,7 @@ use Rattle.aprs_history.specs.Stands.{LinkSeen}
 use Rattle.aprs_history.specs.Trace.{is_from}
 use Rattle.filter_eval.specs.Passes.{fresh}
 use Rattle.filter_eval.specs.declared.seen.Seen.{Seen}
-use Rattle.link_feeds.specs.Feeds.{FeedsSeen, counted, forgotten, is_other, is_served, met_by, new_feed, put_in, told, with_login, with_taken, with_terms}
+use Rattle.worker_match.specs.Feeds.{FeedsSeen, counted, forgotten, is_other, is_served, met_by, new_feed, put_in, told, with_login, with_taken, with_terms}
 use Rattle.filter_lang.specs.Terms.{TermSeen}
 use Rattle.heard_routing.specs.Heard.{is_among}
 use Rattle.link_queue.specs.Queues as queue

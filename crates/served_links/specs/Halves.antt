@@ -1,7 +1,7 @@
 -- The links that are served, whose halves are kept side by side.
 use Rattle.std.specs.Prelude.{◌≡◌, true, ℕ, ◌+◌, ◌-◌, ◌^◌, ◌≤◌, Bool, List, [], if◌then◌else◌, min}
 use Rattle.aprs_history.specs.Stands.{LinkSeen}
-use Rattle.link_feeds.specs.Feeds.{FeedsSeen, put_in}
+use Rattle.worker_match.specs.Feeds.{FeedsSeen, put_in}
 use Rattle.served_links.specs.Fed.{AllMatch, joined_all}
 use Rattle.served_links.specs.Links.{Rises, here, is_whole, numbers}
 

@@ -12,11 +12,11 @@ mod openings;
 
 use crate::sessions::Sessions;
 use aprs_base::{Gate, Memory};
-use link_feeds::{Crew, Feeds};
 use std::alloc::Global;
 use std::hash::RandomState;
 use std::marker::{Model, Sync};
 use std::thread::Threads;
+use worker_match::{Crew, Feeds};
 
 #[derive(Drop)]
 pub struct Served {

@@ -22,12 +22,12 @@ use crate::server::State;
 use aprs_base::{Event, Gate, JournalLine, Memory, Totals};
 use aprs_conf::Conf;
 use dupe_window::Window;
-use link_feeds::Crew;
 use served_links::Down;
 use std::alloc::Global;
 use std::hash::RandomState;
 use std::marker::{Model, Sync};
 use std::thread::Threads;
+use worker_match::Crew;
 
 /// The core of a server. Outside of a round all that came to its links is matched.
 #[derive(Drop)]

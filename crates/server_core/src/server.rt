@@ -34,7 +34,6 @@ use aprs_base::{Event, Gate, JournalLine, Memory, Totals};
 use aprs_conf::Conf;
 use dupe_window::Window;
 use heard_routing::Heard;
-use link_feeds::Crew;
 use parsed_lines::Ahead;
 use served_links::{Down, Served};
 use station_table::Stations;
@@ -42,6 +41,7 @@ use std::alloc::Global;
 use std::hash::RandomState;
 use std::marker::{Model, Sync};
 use std::thread::Threads;
+use worker_match::Crew;
 
 /// The most bytes of one offer.
 const MOST_OFFERED: usize = 65_536;

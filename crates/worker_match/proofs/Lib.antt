@@ -1,4 +1,5 @@
 pub mod AlongLemmas
+pub mod FeedLemmas
 pub mod FriendLemmas
 pub mod MemberLemmas
 pub mod OthersLemmas

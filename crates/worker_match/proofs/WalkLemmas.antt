@@ -17,14 +17,19 @@ closed_stays (item ∷ items) link is = ap (walked items) (ap (λ b. cond b (met
 pub left_is : (items : List Item) (i : ℕ) (x : Item) → i < length items → x ≡ get_or items i x → drop i items ≡ x ∷ drop (i + 1) items
 left_is items i x lt at = drop_more items i x lt ∙ ap (λ y. y ∷ drop (i + 1) items) (sym at)
 
--- one item more
+-- one item more is taken
+pub take_more : (items : List Item) (i : ℕ) (x : Item) (link new total : FeedSeen) → i < length items → x ≡ get_or items i x → new ≡ after link (item_seen x)
+    → walked (items_seen (drop i items)) link ≡ total → walked (items_seen (drop (i + 1) items)) new ≡ total
+take_more items i x link new total lt at is so_far =
+    ap (walked (items_seen (drop (i + 1) items))) (is ∙ ap (λ y. after link (item_seen y)) at)
+    ∙ sym (ap (λ left. walked (items_seen left) link) (drop_more items i x lt))
+    ∙ so_far
+
+-- and where the link lives and isn't over one more is met
 pub walk_more : (items : List Item) (i : ℕ) (x : Item) (link new total : FeedSeen) → i < length items → x ≡ get_or items i x → is_open link ≡ true
     → new ≡ met (item_seen x) link → walked (items_seen (drop i items)) link ≡ total → walked (items_seen (drop (i + 1) items)) new ≡ total
 walk_more items i x link new total lt at open' is so_far =
-    ap (walked (items_seen (drop (i + 1) items)))
-    (is ∙ sym (ap (λ b. cond b (met (item_seen x) link) link) open') ∙ ap (λ y. after link (item_seen y)) at)
-    ∙ sym (ap (λ left. walked (items_seen left) link) (drop_more items i x lt))
-    ∙ so_far
+    take_more items i x link new total lt at (is ∙ sym (ap (λ b. cond b (met (item_seen x) link) link) open')) so_far
 
 pub ordered_at : (items : List Item) (i : ℕ) (x : Item) → All IsOrdered (items_seen items) → i < length items → x ≡ get_or items i x → IsOrdered (item_seen x)
 ordered_at [] i x all lt at = absurd (omega arith)

@@ -3,3 +3,4 @@ pub mod Items
 pub mod Walk
 pub mod Runs
 pub mod WalkLaws
+pub mod Feeds

@@ -1,15 +1,19 @@
-//! What links are fed, and what comes to them: one walk of each link over a list of items, shared out among workers.
+//! What links are fed, and what comes to them: one walk of each link over a list of items, shared out among workers; and the links
+//! of a server, with what came to them since it was last matched.
 #![tactic(auto)]
 
 mod along;
+mod feeds;
 mod friends;
 mod items;
 mod laws;
 mod links;
 mod offers;
 mod runs;
+mod states;
 mod workers;
 
+pub use feeds::{Crew, Feeds};
 pub use items::Item;
 pub use laws::links_take_what_they_want;
 pub use links::{Feed, LinkFeed};

@@ -344,7 +344,7 @@ impl LinkFeed {
     }
 
     /// What an item leaves of it, where it lives and isn't over. `Memory` changes nothing.
-    pub(crate) fn meet(&mut self, item: &Item) -> Result<(), Memory>
+    fn meet(&mut self, item: &Item) -> Result<(), Memory>
         requires { IsOrdered (item_seen item.now) }
         ensures ok { OnOk result (self.new ≡ met (item_seen item.now) self.old) }
         ensures err { OnErr result (self.new ≡ self.old) }

@@ -27,10 +27,10 @@ const LEAST: usize = 4;
 
 /// How parts are walked.
 #[derive(Clone, Copy)]
-struct Course {
+pub(crate) struct Course {
     /// Other parts are walked at the same time. Then each link takes what it wants from a run of its own part, so that no two
     /// processors count who shares a line. A run stays as long as one of its lines is wanted, so else only links that take most of it do.
-    apart: bool,
+    pub apart: bool,
 }
 
 impl Course {
@@ -133,7 +133,7 @@ fn pass<G: Gate>(
 }
 
 /// Each link meets the items in their order, a block of them after another.
-fn walk(links: &mut [LinkFeed], items: &[Item], course: Course) -> Result<(), Memory>
+pub(crate) fn walk(links: &mut [LinkFeed], items: &[Item], course: Course) -> Result<(), Memory>
     requires { All IsOrdered (items_seen items.now) }
     ensures { OnOk result (links.new ≡ map (walked (items_seen items.now)) links.old) }
 {
@@ -230,7 +230,7 @@ fn walk_link(link: &mut LinkFeed, items: &[Item]) -> Result<(), Memory>
         if !link.is_open() {
             return Ok(());
         }
-        link.meet(item)?;
+        link.take(item)?;
     }
     Ok(())
 }

@@ -2,7 +2,7 @@
 ghost use Rattle.std.specs.Prelude.{◌≡◌, ◌⊎◌, ℕ, [], IfOk, None, OnErr, OnOk, false, filter, length, map, true};
 ghost use Rattle.std.specs.Arc.{arc_value};
 ghost use Rattle.std.specs.List.Sorted.{IsStrictlyIncreasing};
-ghost use Rattle.link_feeds.specs.Feeds.{met_by};
+ghost use Rattle.worker_match.specs.Feeds.{met_by};
 ghost use Rattle.served_links.specs.Fed.{refused_of};
 ghost use Rattle.served_links.specs.Links.{Rises, numbers};
 ghost use Rattle.served_links.specs.Changes.{at_moment, takes_packet, takes_shown, with_date, with_packet, with_shown};
@@ -16,10 +16,9 @@ use crate::link::SourcePlace;
 use crate::links::{offered, shows_any};
 use crate::sessions::Sessions;
 use aprs_base::{Line, Memory, Packet, Shared};
-use link_feeds::Feeds;
 use std::alloc::Global;
 use std::sync::Arc;
-use worker_match::Item;
+use worker_match::{Feeds, Item};
 
 impl Served {
     /// An accepted packet, which is shared, comes to the links: those that want it take it, and are counted. The message rule asks

@@ -7,7 +7,7 @@ use super::Served;
 use crate::links::place_here;
 use crate::sessions::Sessions;
 use aprs_base::Memory;
-use link_feeds::Feeds;
+use worker_match::Feeds;
 
 impl Served {
     /// The links of these numbers leave. After `Memory` no link is left.

@@ -9,8 +9,8 @@ use super::Served;
 use crate::link::LinkSession;
 use crate::links::place_near;
 use aprs_base::Memory;
-use link_feeds::Feeds;
 use std::alloc::Global;
+use worker_match::Feeds;
 
 impl Served {
     /// The numbers of the links that are to be offered their next bytes.

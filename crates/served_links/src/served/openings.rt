@@ -10,9 +10,9 @@ use crate::kinds::{feed_of, is_inbound};
 use crate::sessions::Sessions;
 use aprs_base::{Addr, Line, Memory};
 use aprs_history::LinkKind;
-use link_feeds::Feeds;
 use std::alloc::Global;
 use std::sync::Arc;
+use worker_match::Feeds;
 
 impl Served {
     /// A link comes, with its first line in its queue. After `Memory` no link is left, or all are as they were, and all that came to

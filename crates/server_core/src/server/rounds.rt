@@ -14,10 +14,10 @@ use super::State;
 use crate::acts::Acts;
 use crate::messages::forget_all;
 use aprs_base::{Event, Gate, JournalLine, Memory};
-use link_feeds::Crew;
 use std::alloc::Global;
 use std::marker::Sync;
 use std::thread::Threads;
+use worker_match::Crew;
 
 /// So many things for each worker are matched at once, as many as the lines of a round of the real wire, and no more wait.
 const ENOUGH: usize = 400;

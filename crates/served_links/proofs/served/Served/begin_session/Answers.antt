@@ -9,7 +9,7 @@ use Rattle.filter_eval.specs.declared.seen.Seen.{Seen}
 use Rattle.worker_match.specs.declared.links.Feed.{Feed}
 use Rattle.served_links.specs.Fed.{Matches}
 use Rattle.served_links.proofs.HereLemmas.{named_text}
-use Rattle.link_feeds.specs.Feeds.{told, with_login}
+use Rattle.worker_match.specs.Feeds.{told, with_login}
 use Rattle.worker_match.specs.Seen.{FeedSeen}
 use Rattle.served_links.specs.Links.{has_that}
 use Rattle.served_links.specs.Changes.{with_session}

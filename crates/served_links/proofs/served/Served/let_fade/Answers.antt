@@ -1,5 +1,5 @@
 use Rattle.std.proofs.Common.{◌≡◌, ap, refl, ◌∙◌}
-use Rattle.link_feeds.specs.Feeds.{FeedsSeen, forgotten, put_in}
+use Rattle.worker_match.specs.Feeds.{FeedsSeen, forgotten, put_in}
 use Rattle.served_links.specs.Fed.{joined_all}
 use Rattle.served_links.specs.Changes.{at_moment}
 use Rattle.served_links.proofs.ServedLemmas.{any_half, put_kept, states_changed}

@@ -3,7 +3,7 @@ use Rattle.std.proofs.lemmas.Bool.{eqb-true}
 use Rattle.std.proofs.Common.{ap, filter, sym, ◌∙◌, List, length}
 use Rattle.aprs_history.specs.Stands.{LinkSeen}
 use Rattle.served_links.specs.Links.{is_none_of, is_whole}
-use Rattle.link_feeds.specs.Feeds.{FeedsSeen}
+use Rattle.worker_match.specs.Feeds.{FeedsSeen}
 use Rattle.served_links.proofs.HereLemmas.{whole_filter}
 use Rattle.served_links.proofs.ServedSteps.{left_are, left_seen, none_leaves, waiting_of}
 use Rattle.served_links.proofs.served.Served.part_from.Goals as goal

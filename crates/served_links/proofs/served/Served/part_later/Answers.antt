@@ -1,7 +1,7 @@
 use Rattle.std.proofs.Common.{◌<◌, ◌^◌, ℕ, Some, ap, length, refl, sym, subst, ◌≡◌, ◌∙◌, List}
 use Rattle.std.specs.List.{position}
 use Rattle.aprs_history.specs.Stands.{LinkSeen}
-use Rattle.link_feeds.specs.Feeds.{left}
+use Rattle.worker_match.specs.Feeds.{left}
 use Rattle.served_links.specs.Links.{Rises, has_that, is_at, numbers, when_left}
 use Rattle.served_links.proofs.HereLemmas.{left_matches}
 use Rattle.served_links.proofs.PlaceLemmas.{place_any}

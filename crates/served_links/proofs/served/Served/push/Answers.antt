@@ -2,7 +2,7 @@ use Rattle.std.proofs.Common.{◌≡◌, ◌<◌, ℕ, [], ◌∷◌, ◌++◌, 
 use Rattle.std.specs.Arc.{arc_value}
 use Rattle.aprs_history.specs.Links.{Opening}
 use Rattle.aprs_history.specs.Stands.{LinkSeen}
-use Rattle.link_feeds.specs.Feeds.{FeedsSeen, new_feed}
+use Rattle.worker_match.specs.Feeds.{FeedsSeen, new_feed}
 use Rattle.worker_match.specs.Seen.{FeedSeen}
 use Rattle.served_links.specs.Fed.{new_half}
 use Rattle.served_links.specs.Links.{Rises, is_whole, numbers}

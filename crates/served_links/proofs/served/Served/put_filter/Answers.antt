@@ -1,7 +1,7 @@
 use Rattle.std.proofs.Common.{ap, refl, ◌∙◌, List}
 use Rattle.std.specs.Arc.{arc_value}
 use Rattle.std.specs.List.{position}
-use Rattle.link_feeds.specs.Feeds.{with_terms}
+use Rattle.worker_match.specs.Feeds.{with_terms}
 use Rattle.aprs_history.specs.Stands.{LinkSeen, friends_kept}
 use Rattle.served_links.specs.Links.{has_that}
 use Rattle.served_links.specs.Changes.{with_filter}

@@ -1,7 +1,7 @@
 use Rattle.std.proofs.Common.{◌≡◌, ap, filter, inl, length, subst, sym, ◌∙◌, OnOk, List}
 use Rattle.std.proofs.lemmas.Result.{on_err_weaker}
 use Rattle.aprs_history.specs.Stands.{LinkSeen}
-use Rattle.link_feeds.specs.Feeds.{met_by, put_in}
+use Rattle.worker_match.specs.Feeds.{met_by, put_in}
 use Rattle.worker_match.specs.Seen.{OfferSeen, Came}
 use Rattle.served_links.specs.Fed.{joined_all, offer_of}
 use Rattle.served_links.specs.Halves.{ServedSeen, more}

@@ -2,7 +2,7 @@ use Rattle.std.proofs.Common.{◌≡◌, ap, filter, inl, length, subst, sym, �
 use Rattle.std.proofs.lemmas.Result.{on_err_weaker}
 use Rattle.std.specs.Arc.{arc_value}
 use Rattle.aprs_base.specs.PacketSeen.{PacketSeen}
-use Rattle.link_feeds.specs.Feeds.{met_by, put_in}
+use Rattle.worker_match.specs.Feeds.{met_by, put_in}
 use Rattle.worker_match.specs.Seen.{Came}
 use Rattle.served_links.specs.Fed.{joined_all, refused_of}
 use Rattle.served_links.specs.Halves.{ServedSeen, more}

@@ -1,6 +1,6 @@
 use Rattle.std.proofs.Common.{◌≤◌, ℕ, ap, length, nat_lt, refl, subst, ◌∙◌, List}
 use Rattle.std.specs.List.{position}
-use Rattle.link_feeds.specs.Feeds as feeds
+use Rattle.worker_match.specs.Feeds as feeds
 use Rattle.aprs_history.specs.Stands.{LinkSeen}
 use Rattle.served_links.specs.Links.{has_that}
 use Rattle.served_links.specs.Changes.{with_taken}

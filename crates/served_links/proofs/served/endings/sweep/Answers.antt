@@ -1,5 +1,5 @@
 use Rattle.std.proofs.Common.{ap, refl, sym, ◌∙◌}
-use Rattle.link_feeds.specs.Feeds.{FeedsSeen}
+use Rattle.worker_match.specs.Feeds.{FeedsSeen}
 use Rattle.served_links.specs.Fed.{joined_all}
 use Rattle.served_links.specs.Links.{here, is_whole}
 use Rattle.served_links.proofs.HereLemmas.{here_again, here_whole, whole_here}

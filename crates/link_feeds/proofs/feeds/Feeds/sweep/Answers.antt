@@ -1,9 +1,0 @@
-use Rattle.std.proofs.Common.{filter}
-use Rattle.worker_match.specs.Items.{items_seen}
-use Rattle.link_feeds.specs.Feeds.{is_served}
-use Rattle.link_feeds.proofs.FeedLemmas.{written}
-use Rattle.link_feeds.proofs.feeds.Feeds.sweep.Goals as goal
-
-pub returns : goal.returns
-returns c =
-    written (items_seen c.self.inside.items.items) c.self.inside.states.items c.args.self.now c.self.view_is c.requires (filter is_served) c.sweep.new.states.items c.sweep.ensures

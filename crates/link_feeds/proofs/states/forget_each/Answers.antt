@@ -1,8 +1,0 @@
-use Rattle.link_feeds.specs.Feeds.{forgotten}
-use Rattle.worker_match.proofs.WalkLemmas.{mapped_more}
-use Rattle.link_feeds.proofs.states.forget_each.Goals as goal
-
-pub loop-state-preserved : goal.loop-state-preserved
-loop-state-preserved c =
-    mapped_more (forgotten c.args.now) c.args.states.now c.loop-state.states c.loop-state.state-index c.forget.new.state c.state-item.result
-    c.loop-state-test.true c.loop-state.invariant c.forget.ensures

@@ -1,6 +1,0 @@
-use Rattle.std.proofs.Common.{◌≡◌, take}
-use Rattle.link_feeds.specs.Feeds.{put_in}
-use Rattle.link_feeds.proofs.states.put_by.Given as goal
-
-abbrev pub invariant-loop-state : goal.invariant-loop-state
-invariant-loop-state l = l.sum ≡ put_in (take l.state-index l.states)

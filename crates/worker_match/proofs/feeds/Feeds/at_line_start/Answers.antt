@@ -1,0 +1,12 @@
+use Rattle.std.proofs.Common.{◌==◌, ap, ◌∙◌}
+use Rattle.link_queue.specs.Queues.{QueueSeen}
+use Rattle.worker_match.specs.Items.{items_seen}
+use Rattle.worker_match.specs.Seen.{FeedSeen}
+use Rattle.worker_match.proofs.FeedLemmas.{found_there}
+use Rattle.worker_match.proofs.feeds.Feeds.at_line_start.Goals as goal
+
+pub returns : goal.returns
+returns c link there =
+    let here = found_there (items_seen c.self.inside.items.items) c.self.inside.states.items c.args.self.now c.self.view_is c.requires.settled c.args.place link c.index.result.now there c.index.ensures in
+    let queue = ap (λ (l : FeedSeen). l.queue) (c.behind-self.view_is ∙ here) in
+    c.at_line_start.ensures ∙ ap (λ (queue : QueueSeen). queue.offset == 0) queue

@@ -1,0 +1,12 @@
+use Rattle.std.proofs.Common.{ap, length, map, sym, ◌∙◌}
+use Rattle.worker_match.specs.Items.{items_seen}
+use Rattle.worker_match.specs.Feeds.{counted}
+use Rattle.worker_match.proofs.FeedLemmas.{all_changed}
+use Rattle.worker_match.proofs.feeds.Feeds.count_put.Goals as goal
+
+pub returns-clause-counted : goal.returns-clause-counted
+returns-clause-counted c =
+    all_changed (items_seen c.self.inside.items.items) c.self.inside.states.items c.args.self.now c.self.view_is c.requires (map counted)
+    c.self.inside.states.len c.count_each.new.states c.as_mut_slice.result.now
+    (c.count_each.ensures.many ∙ ap length c.as_mut_slice.ensures.value) (sym c.as_mut_slice.ensures.len ∙ ap length c.as_mut_slice.ensures.value)
+    c.as_mut_slice.ensures.value c.count_each.ensures.counted

@@ -1,0 +1,18 @@
+use Rattle.std.proofs.Common.{ap, length, min, take, ◌∙◌}
+use Rattle.link_queue.specs.Queues.{QueueSeen, pending_bytes}
+use Rattle.worker_match.specs.Items.{items_seen}
+use Rattle.worker_match.specs.Seen.{FeedSeen}
+use Rattle.worker_match.proofs.FeedLemmas.{found_there}
+use Rattle.worker_match.proofs.feeds.Feeds.front_bytes.Goals as goal
+
+pub returns-clause-count : goal.returns-clause-count
+returns-clause-count c link there =
+    let here = found_there (items_seen c.self.inside.items.items) c.self.inside.states.items c.args.self.now c.self.view_is c.requires.settled c.args.place link c.index.result.now there c.index.ensures in
+    let queue = ap (λ (l : FeedSeen). l.queue) (c.behind-self.view_is ∙ here) in
+    c.front_bytes.ensures.count ∙ ap (λ (queue : QueueSeen). min (length c.args.out.now) (length (pending_bytes queue))) queue
+
+pub returns-clause-bytes : goal.returns-clause-bytes
+returns-clause-bytes c link there =
+    let here = found_there (items_seen c.self.inside.items.items) c.self.inside.states.items c.args.self.now c.self.view_is c.requires.settled c.args.place link c.index.result.now there c.index.ensures in
+    let queue = ap (λ (l : FeedSeen). l.queue) (c.behind-self.view_is ∙ here) in
+    c.front_bytes.ensures.bytes ∙ ap (λ (queue : QueueSeen). take (length c.args.out.now) (pending_bytes queue)) queue
