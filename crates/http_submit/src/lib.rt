@@ -7,8 +7,6 @@ mod laws;
 mod pool;
 mod replies;
 mod requests;
-#[cfg(test)]
-mod tests;
 
 pub use front::HttpFront;
 pub use heads::{Beginning, from_text, has_empty_line, read_head};

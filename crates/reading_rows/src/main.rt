@@ -7,6 +7,7 @@ mod confs;
 mod constructs;
 mod fields;
 mod filters;
+mod fronts;
 mod logins;
 mod packets;
 mod parsed;
@@ -61,6 +62,9 @@ fn first_answer(alloc: Global, word: &str, row: &str) -> Result<String, RowError
         "code" => logins::code(alloc, row),
         "downlink" => logins::downlink_port(alloc, row),
         "post" => requests::post(alloc, row),
+        "get" => fronts::get(alloc, row),
+        "get-grown" => fronts::get_grown(alloc, row),
+        "handed-up" => fronts::handed_up(alloc, row),
         "packet" => packets::parts(alloc, row),
         "filled" => packets::filled(alloc, row),
         "construct" => packets::construct_place(alloc, row),

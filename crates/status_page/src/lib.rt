@@ -7,8 +7,6 @@ mod laws;
 mod page;
 mod replies;
 mod requests;
-#[cfg(test)]
-mod tests;
 
 pub use counts::Counts;
 pub use front::PageFront;
