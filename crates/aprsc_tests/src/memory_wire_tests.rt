@@ -1,7 +1,6 @@
 //! A wire in memory, by scripts written here.
 use aprs_base::{
-    Addr, Came, Chunk, Event, Happening, ListenSpec, MemWire, PortKind, Sent, Take, Text,
-    UplinkSpec, Wire,
+    Addr, Came, Chunk, Event, Happening, ListenSpec, MemWire, PortKind, Text, UplinkSpec, Wire,
 };
 use arrayvec::ArrayVec;
 use std::alloc::Global;
@@ -61,27 +60,6 @@ fn tells_what_comes_from_elsewhere(rt: HostRuntime) -> Result<(), Fail> {
     wire.note(&Event::Ended(1))?;
     let done = [came(alloc, &opened)?, came(alloc, &Event::Ended(1))?];
     assert!(rt; wire.done.as_slice() == done.as_slice());
-    Ok(())
-}
-
-#[test]
-fn takes_offers_by_the_list(rt: HostRuntime) -> Result<(), Fail> {
-    let alloc = rt.alloc();
-    let takes = vec![in alloc; Take::All, Take::Most(5), Take::Most(9), Take::Gone]?;
-    let mut wire = MemWire::new(alloc, vec![in alloc]?, takes, None, None)?;
-    let offers: [(&[u8], Sent); 5] = [
-        (b"# aprsc 1.0\r\n", Sent::Took(13)),
-        (b"# aprsc 1.0\r\n", Sent::Took(5)),
-        (b"sc 1.0\r\n", Sent::Took(8)),
-        (b"x", Sent::Gone),
-        (b"abc", Sent::Took(3)),
-    ];
-    let mut want = Vec::new(alloc);
-    for (bytes, sent) in offers {
-        assert!(rt; wire.send(7, bytes) == Ok(sent));
-        want.push(Happening::Sent(7, Text::copied(alloc, bytes)?, sent))?;
-    }
-    assert!(rt; wire.done.as_slice() == want.as_slice());
     Ok(())
 }
 

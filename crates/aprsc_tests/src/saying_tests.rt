@@ -1,17 +1,8 @@
-//! What the program writes over sinks that are written nothing, and over the files and the output of the system.
-use aprs_base::{FileError, Files, MemSink, Sink};
+//! What the program reads and writes over the files and the output of the system.
+use aprs_base::{FileError, Files, Sink};
 use aprsc_daemon::{RealFiles, RealSink, write_all};
 use std::fs;
 use std::test::Fail;
-
-#[test]
-fn writes_nothing_of_an_empty_text(rt: HostRuntime) {
-    for most in [0usize, 100] {
-        let mut sink = MemSink::new(rt.alloc(), Vec::new(rt.alloc()), most);
-        assert!(rt; write_all(&mut sink, b"") == Ok(()));
-        assert!(rt; sink.text.is_empty());
-    }
-}
 
 #[test]
 fn reads_files_of_the_system(rt: HostRuntime) -> Result<(), Fail> {
