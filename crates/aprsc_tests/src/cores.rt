@@ -21,6 +21,14 @@ const HERE: Addr = Addr {
     port: 14580,
 };
 
+/// Where stations send datagrams from.
+const fn far(port: u16) -> Addr {
+    Addr {
+        ip: [10, 0, 0, 8],
+        port,
+    }
+}
+
 fn no_text(alloc: Global) -> Text {
     Text {
         bytes: Vec::new(alloc),
@@ -81,6 +89,14 @@ pub(crate) fn opened(link: u32, listener: u16) -> Event {
         listener,
         link,
         from: HERE,
+    }
+}
+
+pub(crate) fn datagram<R: Abort>(rt: &R, listener: u16, port: u16, text: &[u8]) -> Event {
+    Event::Datagram {
+        listener,
+        from: far(port),
+        bytes: Chunk::new(text).expect(rt, "a chunk"),
     }
 }
 

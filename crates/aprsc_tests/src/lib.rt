@@ -1,5 +1,5 @@
 //! The server over the system's sockets, files and output, and what rows of text can't try: threads that meet, and what a core
-//! keeps. The crate holds nothing but tests.
+//! counts and keeps. The crate holds nothing but tests.
 #![tactic(auto)]
 
 #[cfg(test)]
