@@ -171,7 +171,7 @@ fn put_some(bytes: &[u8], more: &[u8], out: &mut Vec<Cut>) -> Result<(), Memory>
     Ok(())
 }
 
-/// The same where they may be empty.
+/// Appends the cut of a line of these bytes and more; nothing where both are empty.
 fn put_line(bytes: &[u8], more: &[u8], out: &mut Vec<Cut>) -> Result<(), Memory>
     requires bytes { IsInner bytes.now }
     requires more { IsInner more.now }

@@ -70,7 +70,7 @@ item_in text =
     then named item_bit (take (name_len text) text) (slice_index text (name_len text) == byte "!") (either_place (drop (name_len text + 1) text))
     else bare 0
 
--- the same after the first byte
+-- an item after the first byte, which says what the text is
 abbrev pub item_of : List ℕ → Body
 item_of text = item_in (drop 1 text)
 

@@ -17,7 +17,7 @@ stays_great n most digits more whole great =
     let less : most < number_from 0 digits = omega (arith, whole) in
     grind (arith, nat_tests, less)
 
--- also where the next digit makes it too great
+-- a number that the next digit makes too great stays so
 pub too_great : (n most i : ℕ) (digits : List ℕ) (digit : ℕ) → i < length digits → digit ≡ get_or digits i 0 - 48
     → number_from n (drop i digits) ≡ number_from 0 digits → most < n * 10 + digit → nat_le (number_from 0 digits) most ≡ false
 too_great n most i digits digit within is whole great =

@@ -27,7 +27,7 @@ line_put words out new xs i x less is e =
     ∙ append_assoc out (line_text (words x)) rest
     ∙ ap (λ left. out ++ flat_map line_text (map words left)) (sym first)
 
--- and so does a number
+-- a number stands without quotes
 octet_bare : (n : ℕ) → n ≤ 255 → spelled (decimal n) ≡ decimal n
 octet_bare n small = (let plain = decimal_plain n (omega arith) in bare (decimal n) (decimal_some n (omega arith)) plain.1 plain.2)
 

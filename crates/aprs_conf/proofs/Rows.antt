@@ -212,7 +212,7 @@ upload_first : conf_of (codes "HTTPUpload :: 8081" ++ (10 ∷ codes "Listen a fu
 unfolding listen plain conf_of after group_says listen_says uplink_says upload_says
 upload_first = refl
 
--- it alone isn't enough
+-- a port for submissions alone isn't enough
 upload_alone : conf_of (codes "ServerId T2TEST" ++ (10 ∷ codes "PassCode 8385" ++ (10 ∷ codes "HTTPUpload :: 8081"))) ≡ Err (cause.Missing needed.Listen)
 unfolding listen plain conf_of after group_says listen_says uplink_says upload_says
 upload_alone = refl
@@ -262,7 +262,7 @@ sixteen : conf_of (codes "HTTPStatus :: 14501" ++ (10 ∷ codes "Listen a fullfe
 unfolding listen plain conf_of after group_says listen_says page_says uplink_says upload_says
 sixteen = refl
 
--- it alone isn't enough
+-- a port of the status page alone isn't enough
 page_alone : conf_of (codes "ServerId T2TEST" ++ (10 ∷ codes "PassCode 8385" ++ (10 ∷ codes "HTTPStatus :: 14501"))) ≡ Err (cause.Missing needed.Listen)
 unfolding listen plain conf_of after group_says listen_says page_says uplink_says upload_says
 page_alone = refl

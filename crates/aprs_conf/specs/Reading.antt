@@ -29,7 +29,7 @@ Fails line_error.Memory said = Unit {0}
 abbrev pub Becomes : {R A : Type 0} → Result R ConfFault → A → Result A ConfFault → Type 0
 Becomes result new said = MatchResult result (λ _. said ≡ Ok new) (λ f. said ≡ Err f)
 
--- the same, unless memory ran out
+-- what a line says has become this value, or its fault is the result, unless memory ran out
 abbrev pub BecomesUnless : {R A : Type 0} → Result R LineError → A → Result A ConfFault → Type 0
 BecomesUnless result new said = MatchResult result (λ _. said ≡ Ok new) (λ e. Fails e said)
 

@@ -19,7 +19,7 @@ sent_on : totals_of setting (trace_of setting two_clients) ≡ record { accepted
 unfolding totals_of trace_of setting two_clients listening client crlf digits parts_of text_of via_of head_of login_of passcode_of process_of given_drops built_drops built_row rows body_of
 sent_on = refl
 
--- the same packet again, one whose second element is none, and a filter at a port that has none
+-- a packet said again, one whose second element is none, and a filter at a port that has none
 refused : totals_of setting (trace_of setting (says 2 (codes "#filter b/K1") ∷ says 1 (codes "N0CALL>APRS,WIDE1-1,:>hi") ∷ says 1 (codes "N0CALL>APRS:>hi") ∷ two_clients))
     ≡ record { accepted = 1; duplicate = 1; refused = 2; queued = 1 }
 unfolding totals_of trace_of setting two_clients listening client crlf digits parts_of text_of via_of head_of login_of passcode_of process_of given_drops built_drops built_row rows body_of

@@ -78,7 +78,7 @@ found_gone : journal_of setting (at_moment 1002 ∷ did.Sent 1 (codes "# aprsc 1
 unfolding trace_of setting listening client crlf digits
 found_gone = refl
 
--- so it is of the entries, of which the outcome of a send is one
+-- the lines by the entries, of which the outcome of a send is one, tell of that end, too
 found_gone_entries : lines_in setting (trace_of setting (at_moment 1002 ∷ did.Sent 1 (codes "# aprsc 1.0" ++ crlf) sent.Gone ∷ at_moment 1001 ∷ opens 0 1 ∷ at_moment 1000 ∷ listening))
     ≡ step 1000 (codes "open 1 0") ∷ step 1001 (codes "end 1 gone") ∷ []
 unfolding trace_of setting listening client crlf digits

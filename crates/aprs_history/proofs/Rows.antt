@@ -120,7 +120,7 @@ offered_gone : due setting (did.Event (event.Tick 1002) ∷ did.Sent 1 (codes "#
 unfolding due trace_of setting one_client listening client crlf
 offered_gone = refl
 
--- the same bytes, each as an event of its own
+-- bytes of a link, each as an event of its own
 abbrev bytes_one_by_one : ℕ → List ℕ → History → History
 bytes_one_by_one link [] history = history
 bytes_one_by_one link (b ∷ bytes) history = bytes_one_by_one link bytes (did.Event (event.Bytes link (b ∷ [])) ∷ history)

@@ -23,7 +23,7 @@ pub record Arrives (lines : List (List ℕ)) (come left : List ℕ) : Type 0 whe
   pub cuts : cuts_of come ≡ map cut.Line there
   pub whole : left ≡ [] → more ≡ []
 
--- so it is wherever the bytes of the text are cut
+-- lines arrive whole wherever the bytes of their text are cut
 abbrev pub LinesArriveWhole : Type 0
 LinesArriveWhole = (lines : List (List ℕ)) (come left : List ℕ) → All IsLine lines → text_bytes lines ≡ come ++ left → Arrives lines come left
 

@@ -44,7 +44,7 @@ abbrev pub NoneStaysOverfull : Type 0
 NoneStaysOverfull = (setting : Setting) (history : History) (link : ℕ) → open_events history ≡ 0 → IsTrue (is_live (trace_of setting history) link)
     → IsFalse (text_to setting (trace_of setting history) link).over
 
--- and in a run none that a stop ended either, which still has its text to take
+-- once a round of a run is finished, no link that a stop ended and that still has its text to take is overfull either
 abbrev pub NoneServedIsOverfull : Type 0
 NoneServedIsOverfull = (setting : Setting) (history : History) (link : ℕ) → IsRun setting history → HasFreshLinks history → open_events history ≡ 0
     → IsTrue (is_member link (served_links (trace_of setting history))) → IsFalse (text_to setting (trace_of setting history) link).over

@@ -41,7 +41,7 @@ fn millionths(degrees: u32, hundredths: u32, parts: u32) -> u32
     degrees * 1_000_000 + (u64::from(hundredths * 910 + parts) * 1_000_000 / 5_460_000) as u32
 }
 
-/// The same, negative in the south and in the west.
+/// An angle in millionths of a degree, negative in the south and in the west.
 fn value_of(angle: &Angle, parts: u32) -> i32
     requires angle { IsAngle angle.now }
     requires parts { parts < 910 }

@@ -58,7 +58,7 @@ begins_acts lines s now core new events acts told conf whole are fresh stands ac
       };
     })
 
--- the same links, as a slice has them
+-- what is left to be offered and to be closed, as slices have it
 pub offers_listed : (lines : List JournalLineSeen) (s : Setting) (now : Option Told) (core : CoreMeaning) (offers closes links closed : List ℕ) → links ≡ offers → closed ≡ closes
     → ActsOn s now now (Offering lines core offers closes) (Offering lines core links closed)
 offers_listed lines s now core offers closes links closed offers_are closes_are =

@@ -30,7 +30,7 @@ pub record IsSeen (setting : Setting) (ports : Ports) (old : Told) (new : Option
   pub posts : PostsArePaid ports more
   pub pages : PagesArePaid setting ports more
 
--- so it is with every run
+-- every run is seen so
 abbrev pub RunsAreSeen : Type 0
 RunsAreSeen = (conf : ConfSeen) (old : Told) (new : Option Told) (code : ℕ) → RunsFor conf (Some old) new (Ended code (setting_named conf))
     → IsSeen (setting_named conf) (ports_named conf) old new

@@ -176,7 +176,7 @@ Ends setting ended.Stopped more = Finished setting more
 Ends setting ended.Failed more = Idle setting more
 Ends setting ended.Memory more = HasFreshLinks more
 
--- and of the lines that the journals were told
+-- what is so where the serving of a wire ended, and of the lines that the journals were told
 abbrev pub Served : Setting → End → List JournalLineSeen → History → Type 0
 Served setting end lines more = Ends setting end more × AreTold setting end lines more
 

@@ -89,7 +89,7 @@ fn say<S: Sink>(out: &mut S, text: &[u8], wanted: Status) -> Status
     }
 }
 
-/// The same for a text that may be missing for want of memory.
+/// Writes a text, unless memory was wanting for it, and gives the wanted status, or that of what failed.
 fn say_made<S: Sink>(out: &mut S, text: Result<Vec<u8>, Memory>, wanted: Status) -> Status
     ensures { (t : List ℕ) → IfOk text (λ made. made.items ≡ t) → Said (S.shown out.old) (S.shown out.new) t wanted result }
 {
@@ -322,8 +322,8 @@ pub fn aprsc<R: Threads + Sync + Wait, F: Files, W: Wire, S: Sink, G: Gate + Syn
     ensures net { (asked : NetWordsSeen) → net_of (map string_bytes words.now) ≡ Some asked
         → (wire.new ≡ wire.old) × (journals.new ≡ journals.old)
         × NetEnds result asked.file (F.shown files.old).told (S.shown out.old) (S.shown out.new) }
-    // And so the journals do whenever they ask for no run or the file holds no configuration, and whenever the call ended
-    // before it served.
+    // The journals stay as they were whenever the words ask for no run or the file holds no configuration, and whenever
+    // the call ended before it served.
     ensures unnamed { NamesNone (map string_bytes words.now) (F.shown files.old).told → journals.new ≡ journals.old }
     ensures still { is_before_serving result ≡ true → journals.new ≡ journals.old }
     // Each status has its cause, and its text stands on the sink.

@@ -128,7 +128,7 @@ fn fits(packet: &Packet, sight: &Sight, friend: &Option<Seen>, what: &What) -> b
     }
 }
 
-/// The same of a term with what it asks for.
+/// Whether the packet is what this term asks for, with where the call that it names was last seen.
 fn term_fits(packet: &Packet, sight: &Sight, term: &Term, friend: &Option<Seen>) -> bool
     ensures { result ≡ term_fits packet.now sight.now (term.now, friend.now) }
 {

@@ -90,7 +90,7 @@ dotted_is text number h =
     let second = length-drop (p + 1) text in
     dotted_by (length (before_first is_dot text) == length text) text (before_first is_dot text) (after_first is_dot text) number (omega arith) (λ l. omega arith) h
 
--- the same the other way
+-- digits alone, and digits on both sides of a dot, are read as such numbers
 pub dotted_whole : (xs : List ℕ) → list_all is_ascii_digit xs ≡ true → 0 < length xs → dotted_of xs ≡ Some (xs, [])
 unfolding dotted_of
 dotted_whole xs digits some = rw (digits_undotted xs digits, take-length xs, eq-eqb (length xs) (length xs) refl, are_digits_is xs digits some) refl

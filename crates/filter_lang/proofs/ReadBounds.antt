@@ -42,20 +42,20 @@ pub few_terms : (text : List ℕ) (terms : List TermSeen) → terms_of text ≡ 
 unfolding terms_of
 few_terms text terms h = few_added (words_of text) [] terms (omega arith) (cond_not_ok (nat_lt 480 (length text)) fault.Long (added_all [] (words_of text)) terms h).1
 
--- the same of a reading that may answer that memory is wanting
+-- a reading that may answer that memory is wanting gives at most 64 terms
 pub few_read : (r : Result (List TermSeen) FilterError) (words : List (List ℕ)) → Gives r (added_all [] words) → IfOk r (λ terms. length terms ≤ 64)
 few_read (Ok terms) words h = few_added words [] terms (omega arith) h
 few_read (Err e) words h = search rules
 
--- its canonical text has at most 480 bytes
+-- a filter's canonical text has at most 480 bytes
 pub short_canonical : (text : List ℕ) (terms : List TermSeen) → terms_of text ≡ Ok terms → length (canonical terms) ≤ 480
 short_canonical text terms h = (read_is (canonical terms) terms (canonical_again text terms h)).short
 
--- the same of a call that may answer that memory is wanting
+-- a call that may answer that memory is wanting gives a canonical text of at most 480 bytes
 pub short_ok : {E : Type 0} (r : Result (List ℕ) E) (terms : List TermSeen) → IfOk r (λ written. written ≡ canonical terms) → (text : List ℕ) → terms_of text ≡ Ok terms → IfOk r (λ written. length written ≤ 480)
 short_ok r terms h text is = IfOk-weaker r (λ written. written ≡ canonical terms) (λ written. length written ≤ 480) (λ written e. let short = short_canonical text terms is in let same = ap length e in omega arith) h
 
--- it has no line end either
+-- a canonical text has no line end
 pub inner_inside : (text : List ℕ) → list_all is_inside text ≡ true → IsInner text
 inner_inside text h = each_weaker is_inside is_inner (λ b e. (and_parts (not (is_blank b)) (is_inner b) e).1) text h
 
@@ -78,6 +78,6 @@ inner_canonical text terms h =
     let read = read_is text terms h in
     rw read.words.is (inner_words read.words.more read.words.inside)
 
--- the same of a call that may answer that memory is wanting
+-- a call that may answer that memory is wanting gives a canonical text without a line end
 pub inner_ok : {E : Type 0} (r : Result (List ℕ) E) (terms : List TermSeen) → IfOk r (λ written. written ≡ canonical terms) → (text : List ℕ) → terms_of text ≡ Ok terms → IfOk r (λ written. IsInner written)
 inner_ok r terms h text is = IfOk-weaker r (λ written. written ≡ canonical terms) (λ written. IsInner written) (λ written e. subst (λ (t : List ℕ). IsInner t) (sym e) (inner_canonical text terms is)) h

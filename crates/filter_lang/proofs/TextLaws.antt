@@ -174,7 +174,7 @@ words_fault (Err (fault.Term n)) words h e = cc
 words_fault (Err (fault.TooMany letter)) words h e = cc
 words_fault (Err fault.Memory) words h e = cc
 
--- the same of a call that may answer that memory is wanting
+-- a canonical text from a call that may answer that memory is wanting reads as the terms again, and is no longer than their text
 pub again_ok : {E : Type 0} (r : Result (List ℕ) E) (ts : List TermSeen) → IfOk r (λ t. t ≡ canonical ts) → (text : List ℕ) → terms_of text ≡ Ok ts → IfOk r (λ t. terms_of t ≡ Ok ts)
 again_ok r ts h text is = IfOk-weaker r (λ t. t ≡ canonical ts) (λ t. terms_of t ≡ Ok ts) (λ t e. ap terms_of e ∙ canonical_again text ts is) h
 

@@ -71,7 +71,7 @@ pub enum What {
     Class {
         mask: u16,
     },
-    /// The same, near the call's last position.
+    /// A class that has a bit of the mask, near the call's last position.
     ClassNear {
         mask: u16,
         call: Call,

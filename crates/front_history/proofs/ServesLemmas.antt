@@ -34,7 +34,7 @@ told_more asked x to told = record {
 abbrev pub TellsTo : Setting → Happening → List Addr → (Told → Told) → Type 0
 TellsTo asked x to change = (told : Told) → change told ≡ told_more asked x to told
 
--- so it is where nothing is cast
+-- this change of what is told is that of one happening more, with no datagram to an address
 abbrev pub Tells : Setting → Happening → (Told → Told) → Type 0
 Tells asked x change = TellsTo asked x [] change
 
@@ -157,14 +157,14 @@ server_acts_at s old new x change state P Q act none tells is step =
     let stepped = step seen p in
     (shown.0, shown.1, stepped.0, stepped.1))
 
--- however they stand
+-- the server does what no front counts, however the fronts stand
 pub server_acts : (s : Setting) (old new : Option Told) (x : Happening) (change : Told → Told) (P Q : History → Type 0) → IsAct x → IsUncounted x → ((state : FrontState) → Tells (wired_for state s) x change)
     → new ≡ option_map change old
     → ((seen : History) → P seen → MayCome (due s seen) (is_stopped seen) x × Q (x ∷ seen)) → ActsOn s old new P Q
 server_acts s old new x change P Q act none tells is step state =
     subst (λ after. GoesOn s old state new after P Q) (uncounted x state none) (server_acts_at s old new x change state P Q act none (tells state) is step)
 
--- so too, and the front for the page counts it
+-- the server acts, and the front for the page counts what the wire shows of it, however the other front stands
 shows_on : (s : Setting) (old new : Option Told) (y x : Happening) (to : List Addr) (change : Told → Told) (before after : PageSeen) (P Q : History → Type 0) → IsAct y → IsAct x → ((state : FrontState) → TellsTo (wired_for state s) x to change)
     → after ≡ noting x before → new ≡ option_map change old
     → ((seen : History) → P seen → (x ≡ wired_as s (trace_of s seen) y) × (cast_by s y seen ≡ to) × MayCome (due s seen) (is_stopped seen) y × Q (y ∷ seen)) → SendsOn s old before new after P Q

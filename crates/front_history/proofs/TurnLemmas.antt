@@ -253,13 +253,13 @@ alike (Some n) h (event.Room link) up is = inl is
 alike (Some n) h (event.Datagram listener from bytes) up is = inl is
 alike (Some n) h event.Stop up is = inl is
 
--- it brings the same link
+-- what is seen of an event brings the link that came with it
 pub same_link : (u : Option ℕ) (h : History) (e up : Event) → IsAlike u h e up → new_link up ≡ new_link e
 same_link u h e up (inl same) = ap new_link same
 same_link u h (event.Bytes link bytes) up (inr taken) = ap new_link taken.4
 same_link u h e up (inr taken) = absurd taken
 
--- and the same moment
+-- what is seen of an event leaves the moment that the event leaves
 same_moment_after : (e : Event) (seen h : History) → moment_in seen ≡ moment_in h → moment_in (did.Event e ∷ seen) ≡ moment_in (did.Event e ∷ h)
 same_moment_after (event.Tick moment) seen h same = ap (max (min moment last_moment)) same
 same_moment_after e seen h same = same

@@ -148,6 +148,6 @@ wired_from at n (spec ∷ specs) = listened_as at n spec ∷ wired_from at (n + 
 abbrev pub wired : Option ℕ → Setting → Setting
 wired at s = record s { listens = wired_from at 0 s.listens }
 
--- the same by the ports of both fronts
+-- the setting as the wire sees it: it is asked for streams at the ports of both fronts
 abbrev pub wired_for : FrontState → Setting → Setting
 wired_for state s = wired state.front.at (wired state.page.at s)

@@ -138,7 +138,7 @@ IsPostPart request = IsPost request post.More × (length request < most_bytes)
 
 -- ---- the port for the page
 
--- the same of a request for the page, which has 200 where it is whole
+-- the status of a request for the page so far: 200 where it is whole, that with which it is refused, and 413 where it can't be longer and isn't whole
 abbrev pub StatusOfGet : Get → List ℕ → ℕ → Type 0
 StatusOfGet get.Whole request status = status ≡ 200
 StatusOfGet (get.Refused why) request status = status ≡ why

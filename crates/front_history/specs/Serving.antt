@@ -25,7 +25,7 @@ pub record Ports : Type 0 where
 abbrev pub ports_of : FrontState → Ports
 ports_of state = record { page = state.page.at; upload = state.front.at }
 
--- the same, however fronts at these ports stand
+-- a wire is served as `Serves` says, however fronts at these ports stand now
 abbrev pub ServesAt : Setting → Ports → Option Told → Option Told → (History → Type 0) → Type 0
 ServesAt s ports start now P = (state : FrontState) × (ports_of state ≡ ports) × Serves s start now state P
 
@@ -33,15 +33,15 @@ ServesAt s ports start now P = (state : FrontState) × (ports_of state ≡ ports
 abbrev pub GoesOn : Setting → Option Told → FrontState → Option Told → FrontState → (P Q : History → Type 0) → Type 0
 GoesOn s old before new after P Q = (start : Option Told) → Serves s start old before P → Serves s start new after Q
 
--- so too, and the fronts stay as they stand
+-- wherever one thing holds of what the server saw before, another holds of it after, and the fronts stay as they stand
 abbrev pub ActsOn : Setting → Option Told → Option Told → (P Q : History → Type 0) → Type 0
 ActsOn s old new P Q = (state : FrontState) → GoesOn s old state new state P Q
 
--- so too, and the front for the page counts what was sent
+-- wherever one thing holds of what the server saw before, another holds of it after, and the front for the page counts what was sent
 abbrev pub SendsOn : Setting → Option Told → PageSeen → Option Told → PageSeen → (P Q : History → Type 0) → Type 0
 SendsOn s old before new after P Q = (front : FrontSeen) → GoesOn s old (front_state before front) new (front_state after front) P Q
 
--- so too, however the fronts stand then
+-- wherever one thing holds of what the server saw before, another holds of it after, however the fronts stand then
 abbrev pub EndsOn : Setting → Option Told → FrontState → Option Told → (P Q : History → Type 0) → Type 0
 EndsOn s old before new P Q = (start : Option Told) → Serves s start old before P → ServesAt s (ports_of before) start new Q
 

@@ -60,7 +60,7 @@ IsSubmission u history link (Whole start len known) came seen =
     (from : Addr) × (opened_from (Some u) history link ≡ Some from) × (seen ≡ event.Datagram u from (take len (drop start (request_of history link))))
 IsSubmission u history link post came seen = seen ≡ came
 
--- so are bytes seen of a link that waits; those of another one as they came
+-- bytes of a link that waits are seen by what its request is with them; those of another link as they came
 abbrev pub BytesAreSeen : Bool → ℕ → History → ℕ → (came seen : Event) → Type 0
 BytesAreSeen false u history link came seen = seen ≡ came
 BytesAreSeen true u history link came seen = (post : Post) × IsPost (request_of history link) post × IsSubmission u history link post came seen
@@ -71,7 +71,7 @@ IsSeenBehind u earlier (event.Bytes link bytes) seen =
     BytesAreSeen (is_waiting (Some u) earlier link) u (did.Event (event.Bytes link bytes) ∷ earlier) link (event.Bytes link bytes) seen
 IsSeenBehind u earlier came seen = seen ≡ came
 
--- so it is by the port for packets, where there is one
+-- an event, and how it is seen by the port for packets, where there is one
 abbrev pub IsSeenAs : Option ℕ → History → (came seen : Event) → Type 0
 IsSeenAs None earlier came seen = seen ≡ came
 IsSeenAs (Some u) earlier came seen = IsSeenBehind u earlier came seen

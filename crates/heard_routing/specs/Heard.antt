@@ -62,7 +62,7 @@ receivers table to now = links_with heard_age to now table.heard
 abbrev pub courtesies : HeardSeen → List ℕ → ℕ → List ℕ
 courtesies table sender now = links_with promise_age sender now table.promises
 
--- the same by look-ups
+-- by look-ups: the link has the call, at most so old
 abbrev pub has_recent : ℕ → ℕ → List Group → List ℕ → ℕ → Bool
 has_recent age now groups call link = is_some_and (is_recent age now) (moment_at groups link call)
 

@@ -36,12 +36,13 @@ pub record AgreesAt (now : ℕ) (lives : ℕ → Bool) (table : HeardSeen) (pack
   pub heard : (link : ℕ) → lives link ≡ true → (call : List ℕ) → still heard_age now (heard_at table link call) ≡ still heard_age now (last_heard packets link call)
   pub others : (link : ℕ) → lives link ≡ false → (call : List ℕ) → heard_at table link call ≡ None
 
--- the same without regard to age
+-- A table has when the living links last heard each call, without regard to age. It has nothing of other links.
 pub record Agrees (lives : ℕ → Bool) (table : HeardSeen) (packets : List PacketSeen) : Type 0 where
   pub heard : (link : ℕ) → lives link ≡ true → (call : List ℕ) → heard_at table link call ≡ last_heard packets link call
   pub others : (link : ℕ) → lives link ≡ false → (call : List ℕ) → heard_at table link call ≡ None
 
--- the same, where nothing older than three hours is left
+-- A table has when the living links last heard each call, where that is at most three hours old, and nothing older. It has nothing of
+-- other links.
 pub record HasExactly (now : ℕ) (lives : ℕ → Bool) (table : HeardSeen) (packets : List PacketSeen) : Type 0 where
   pub heard : (link : ℕ) → lives link ≡ true → (call : List ℕ) → heard_at table link call ≡ still heard_age now (last_heard packets link call)
   pub others : (link : ℕ) → lives link ≡ false → (call : List ℕ) → heard_at table link call ≡ None

@@ -36,7 +36,7 @@ with_listing link call listed = insert_entry nat_eq listed link (insert_key is_t
 abbrev pub Unlists : ℕ → List ℕ → List Listing → List Listing → Type 0
 Unlists link call old new = (other : ℕ) (text : List ℕ) → is_listed new other text ≡ (not (other == link && is_text call text) && is_listed old other text)
 
--- the same of each of the links
+-- the call is no more listed with any of these links, and all else is as it was
 abbrev pub UnlistsEach : List Entry → List ℕ → List Listing → List Listing → Type 0
 UnlistsEach links call old new = (other : ℕ) (text : List ℕ) → is_listed new other text ≡ (not (is_some (lookup (nat_eq other) links) && is_text call text) && is_listed old other text)
 

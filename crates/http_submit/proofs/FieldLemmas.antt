@@ -36,7 +36,7 @@ named_again field fields named has =
 named_once : (field : List ℕ × List ℕ) (fields : List (List ℕ × List ℕ)) → is_named length_name field ≡ true → has_field length_name fields ≡ false → length_of (field ∷ fields) ≡ length_text field.1
 named_once field fields named none = rw named (ap (λ rest. length_in (field ∷ rest)) (filter_none fields none))
 
--- the same of a list from which the first is taken off
+-- where the first field of a list names the length, and is taken off
 module _ {X : Type 0} (f : X → List ℕ × List ℕ) where
   all_of : (x : X) (xs : List X) → take (length (x ∷ xs) - 1) xs ≡ xs
   all_of x xs = let e : length (x ∷ xs) - 1 ≡ length xs = omega arith in rw (e, take-length) refl

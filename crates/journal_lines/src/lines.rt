@@ -40,7 +40,7 @@ fn refused(group: u16, from: &Source, moment: u64, name: &[u8]) -> JournalLine
     line_of(Kind::Refusal, moment, text)
 }
 
-/// The same for a line that is no packet.
+/// A line that says that what came was refused as no packet, and by which name.
 fn refused_packet(group: u16, from: &Source, moment: u64, fault: LineFault) -> JournalLine
     ensures { result ≡ refusal_line (label group from.now) moment (Refusal.Packet fault) }
 {
@@ -60,7 +60,7 @@ fn is_loop(why: &QDrop) -> bool
     )
 }
 
-/// The same for a packet that the q construct rule drops.
+/// A line that says that the q construct rule dropped a packet, and why.
 fn refused_path(group: u16, from: &Source, moment: u64, why: &QDrop) -> JournalLine
     ensures { result ≡ path_line (label group from.now) moment why.now }
 {

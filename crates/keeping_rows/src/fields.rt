@@ -150,7 +150,7 @@ impl<'a> Fields<'a> {
         Line::new(bytes.as_slice()).ok_or(Fault::Unknown)
     }
 
-    /// The same, to be shared.
+    /// All that is left as a line, to be shared.
     pub fn shared_line(&self) -> Result<Arc<Line>, Fault> {
         Ok(Arc::new(self.alloc, self.line()?)?)
     }

@@ -95,7 +95,7 @@ fn print_lines<R: Print + Threads + Sync>(
     Ok(())
 }
 
-/// The same with tables that are new.
+/// Prints the lines, and with each row what it answers, over tables that are new at first.
 pub fn print_answers<R: AllocGlobal + Print + Threads + Sync>(
     rt: &R,
     hasher: &RandomState,

@@ -39,7 +39,7 @@ fn put_end(out: &mut [u8], at: usize) -> usize
     at + 2
 }
 
-/// The same for a line with its CR and LF, as much of it as fits.
+/// Writes a line with its CR and LF, as much of it as fits.
 pub(crate) fn put_line(out: &mut [u8], at: usize, line: &[u8]) -> usize
     requires { at ≤ length out.old }
     ensures end { result ≡ at + min (length out.old - at) (length line.now + 2) }

@@ -36,7 +36,7 @@ abbrev pub later : List Word → List Word
 later [] = []
 later (word ∷ words) = words
 
--- the same text, letters taken without their case
+-- a text is the keyword, letters taken without their case
 abbrev pub is_keyword : List ℕ → List ℕ → Bool
 is_keyword keyword text = pointwise ◌==◌ (map to_ascii_lowercase text) (map to_ascii_lowercase keyword)
 

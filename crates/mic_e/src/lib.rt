@@ -27,7 +27,7 @@ fn digit(byte: u8) -> Option<u32>
     }
 }
 
-/// The same at the last three places, where `A` to `K` can't stand.
+/// The digit that a byte stands for at the last three places, where `A` to `K` can't stand.
 #[tactic(auto, unfolding(crate::specs::MicE::late_digit_of, crate::specs::MicE::digit_of))]
 fn late_digit(byte: u8) -> Option<u32>
     ensures value { result ≡ late_digit_of byte }

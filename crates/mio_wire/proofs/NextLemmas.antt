@@ -58,7 +58,7 @@ arrived_gives course dials bytes None undue arrives handed =
 arrived_gives course dials bytes (Some e) undue arrives handed =
     arrived_comes course.second (has_stopped course.stop_after course.ended) (is_full course.pace) (is_due course.pace) (dead_at course.second dials) bytes e undue arrives handed
 
--- the same of a step that may fail
+-- where nothing is due, a step that may fail gives what has arrived where it doesn't
 pub arrived_gives_all : {E : Type 0} (course : Course) (dials : List Dial) (bytes : Brought) (r : Result (Option Event) E) → StepGives course dials nothing None → IfOk r IsArrival → IfOk r (HandsUp bytes) → IfOk r (StepGives course dials bytes)
 arrived_gives_all course dials bytes (Ok o) undue arrives handed = arrived_gives course dials bytes o undue arrives handed
 arrived_gives_all course dials bytes (Err e) undue arrives handed = tt
@@ -101,7 +101,7 @@ tick_gives course dials bytes (Some (Tick moment)) undue empty ticks =
     tick_comes course.second (has_stopped course.stop_after course.ended) (is_full course.pace) (is_due course.pace) (dead_at course.second dials) bytes moment undue empty ticks
 tick_gives course dials bytes (Some _) undue empty ticks = absurd ticks
 
--- the same of a step that may fail
+-- where nothing is due and no bytes are left, a step that may fail gives a tick, or nothing, where it doesn't
 pub tick_gives_all : {E : Type 0} (course : Course) (dials : List Dial) (bytes : Brought) (r : Result (Option Event) E) → StepGives course dials nothing None → length bytes.left ≡ 0 → IfOk r (TicksAt course) → IfOk r (StepGives course dials bytes)
 tick_gives_all course dials bytes (Ok o) undue empty ticks = tick_gives course dials bytes o undue empty ticks
 tick_gives_all course dials bytes (Err e) undue empty ticks = tt

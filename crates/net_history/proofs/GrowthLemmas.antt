@@ -55,7 +55,7 @@ grows_both s u v a b = record {
       (first.0 ++ then'.0, then'.1 ∙ ap (λ bytes. bytes ++ then'.0) first.1 ∙ append_assoc (taken_bytes s.history link) first.0 then'.0);
 }
 
--- so it is for each server
+-- each server grows so
 abbrev pub AllGrow : List ServerSeen → List ServerSeen → Type 0
 AllGrow before after = Between (λ j. Grows) before after
 

@@ -48,7 +48,7 @@ abbrev pub TracedAreNamed : Type 0
 TracedAreNamed = (layout : Layout) (steps : List NetEvent) (trail : Trail) (by : Acceptance) → IsLaidOut layout → Descended layout steps trail → IsIn by trail
     → HasConstruct (codes "qAI") by → names by.call by.parts ≡ true
 
--- so it is accepted by none of that call later on: what each server traces visits none twice
+-- what a server sent on with qAI is accepted by none of its call later on: what each server traces visits none twice
 abbrev pub TracedStayAway : Type 0
 TracedStayAway = (layout : Layout) (steps : List NetEvent) (trail : Trail) (earlier later : Acceptance) → IsLaidOut layout → Descended layout steps trail → ComesLater earlier later trail
     → HasConstruct (codes "qAI") earlier → later.call ≢ earlier.call

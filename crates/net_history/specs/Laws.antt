@@ -29,7 +29,7 @@ pub record Rests (s : ServerSeen) : Type 0 where
   pub takes : TakesAll s.history
   pub counts : CountsLinks s.history
 
--- so it is for each server, with the configuration that the network was made with
+-- each server has come to rest, with the configuration that the network was made with
 abbrev pub ServersRun : Type 0
 ServersRun = (layout : Layout) (steps : List NetEvent) (place : ℕ) (s : ServerSeen) → slice_get (network_of layout steps).servers place ≡ Some s
     → Rests s × (slice_get layout.servers place ≡ Some s.setting)

@@ -10,6 +10,6 @@ abbrev pub Streams : NetSeen → Type 0
 Streams n = (server place : ℕ) (s other : ServerSeen) (end : End) → slice_get n.servers server ≡ Some s → slice_get s.made place ≡ Some (ForPair end) → slice_get n.servers end.server ≡ Some other
     → (rest : List ℕ) × (taken_bytes other.history (number_of end) ≡ brought_at (Some s) (place + 1) ++ rest)
 
--- so it is after any steps
+-- after any steps, each link of a pair has brought, or waits to bring, a beginning of what the link at the other end took
 abbrev pub PairsBringWhatWasTaken : Type 0
 PairsBringWhatWasTaken = (layout : Layout) (steps : List NetEvent) → Streams (network_of layout steps)

@@ -62,7 +62,7 @@ abbrev pub IsNewTo : List ℕ → Trail → Type 0
 IsNewTo call (Submitted line) = ⊤
 IsNewTo call (Passed before by) = IsNewTo call before × (names by.call by.parts ≡ true → by.call ≢ call)
 
--- so it was at each acceptance
+-- at each acceptance of a trail, no server of that call had sent it on with its call after the construct
 abbrev pub NeverReturns : Trail → Type 0
 NeverReturns (Submitted line) = ⊤
 NeverReturns (Passed before by) = NeverReturns before × IsNewTo by.call before

@@ -13,7 +13,7 @@ use Rattle.net_schedule.specs.Joined.{links_at, new_way}
 use Rattle.net_schedule.specs.Kept.{kept_uplink}
 use Rattle.net_schedule.specs.Running.{ServerKept, WayKept}
 
--- so is that server
+-- a server is there, and has room for so many links more
 record HasRoom (more : ℕ) (o : Option ServerKept) : Type 0 where
   kept : ServerKept
   there : o ≡ Some kept

@@ -97,7 +97,7 @@ take_own (x ∷ xs) = ap (λ ys. x ∷ ys) (take_own xs)
 eqb_suc : (a b : ℕ) → (suc a == suc b) ≡ (a == b)
 eqb_suc a b = ⊎_elim (λ same. ap (λ n. suc a == suc n) (sym same) ∙ eqb_same (suc a) ∙ sym (eqb_same a) ∙ ap (λ n. a == n) same) (λ other. eqb_other (suc a) (suc b) (λ is. other cc) ∙ sym (eqb_other a b other)) (same_or_other a b)
 
--- so it is in the model where an offer is taken whole
+-- what a link took in the model where an offer is taken whole
 offer_taken : (server link : ℕ) (bytes : List ℕ) (servers : List ServerSeen) (place number : ℕ) (s : ServerSeen) → slice_get servers server ≡ Some s
     → taken_at (slice_get (changed_at (acted (Offers link bytes)) server servers) place) number
     ≡ (if (place == server) && (number == link) then taken_at (slice_get servers place) number ++ bytes else taken_at (slice_get servers place) number)
@@ -143,7 +143,7 @@ keep_changed zero (suc i) rest f g keeps (kept ∷ servers) (s ∷ ss) all = (al
 keep_changed (suc number) zero rest f g keeps (kept ∷ servers) (s ∷ ss) all = (keeps [] kept s all.0, all.1)
 keep_changed (suc number) (suc i) rest f g keeps (kept ∷ servers) (s ∷ ss) all = (all.0, keep_changed number i rest f g keeps servers ss all.1)
 
--- that one is there, and kept so
+-- a server that is kept is there in the model, and kept so
 pub keep_at : (number : ℕ) (rest : List Event) (servers : List ServerKept) (ss : List ServerSeen) (kept : ServerKept) → AllKeep number rest servers ss → slice_get servers number ≡ Some kept → (s : ServerSeen) × (slice_get ss number ≡ Some s) × Keeps rest kept s
 keep_at number rest [] [] kept all at = absurd (none_some kept at)
 keep_at number rest [] (s ∷ ss) kept all at = absurd all

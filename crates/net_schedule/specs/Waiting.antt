@@ -20,7 +20,7 @@ IsReady number events servers = IfSome (slice_get servers number) (MayCome event
 abbrev pub AreCalm : List Event → Type 0
 AreCalm events = Each (λ e. is_round_event e ≡ false) events
 
--- so it is of what waits for the server of that number, of which nothing ends a round
+-- what waits for the server of that number may come to it, and nothing of it ends a round
 pub record Waits (number : ℕ) (n : NetSeen) : Type 0 where
   pub server : ServerSeen
   pub there : slice_get n.servers number ≡ Some server

@@ -196,7 +196,7 @@ fn take_piece(way: &mut Option<Way>, up: bool, n: u16) -> Option<(LinkEnd, Chunk
     Some((to, bytes?))
 }
 
-/// So it is of the pair of that number.
+/// The next bytes on that way of the pair of that number, and the end to which they go.
 #[tactic(auto, using(crate::proofs::ListLemmas::past_changed, crate::proofs::ListLemmas::set_changed))]
 fn take_piece_of(
     ways: &mut [Option<Way>],

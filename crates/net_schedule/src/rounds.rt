@@ -115,7 +115,7 @@ fn send_one(
     Ok(())
 }
 
-/// So is each of these, in rising number.
+/// Each of these links is offered its next bytes, in rising number, and takes them whole.
 fn send_all(
     server: &mut Server,
     number: u16,
@@ -185,7 +185,7 @@ fn close(
     }
 }
 
-/// So is each of these.
+/// Each of these links is closed: a pair that is joined by it parts, and its other end is told.
 fn close_all(
     servers: &mut [Server],
     ways: &mut [Option<Way>],

@@ -46,7 +46,7 @@ differs m n e = grind (arith, nat_tests, e)
 equal : (m n : ℕ) → (m == n) ≡ true → m ≡ n
 equal m n e = grind (arith, nat_tests, e)
 
--- the same two numbers, in either order
+-- where two numbers are two others, in either order, these are those
 crossed : (a b c d : ℕ) → ((c == a && d == b) || (c == b && d == a)) ≡ true → ((a == c && b == d) || (a == d && b == c)) ≡ true
 crossed a b c d e = elim (either (c == a && d == b) (c == b && d == a) e) [
   | inl straight ↦ (let parts = and_parts (c == a) (d == b) straight in rw (equals a c (sym (equal c a parts.0)), equals b d (sym (equal d b parts.1))) refl)

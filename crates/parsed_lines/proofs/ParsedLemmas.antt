@@ -41,7 +41,7 @@ pieces_parsed (piece ∷ pieces) (parsed ∷ found) h =
     AllZip-append IsParsed piece (flat_map (λ piece. piece) pieces) parsed.items (joined found) h.0 (pieces_parsed pieces found h.1)
 pieces_parsed _ _ h = absurd h
 
--- the same of the pieces that were collected
+-- pieces that were collected are, side by side, what all the lines are
 pub collected_parsed : (pieces : List (List (List ℕ))) (results : List (Result (Vec Parsed Global) AllocError))
     (collected : Result (Vec (Vec Parsed Global) Global) AllocError) → AllZip IsPiece pieces results
     → MatchResult collected (λ c. (found : List (Vec Parsed Global)) × (results ≡ map Ok found) × (c.items ≡ found)) (λ e. Contains results (Err e))

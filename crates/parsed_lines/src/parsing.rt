@@ -78,7 +78,7 @@ fn parse_piece(alloc: Global, lines: &[Line]) -> Result<Vec<Parsed>, AllocError>
     Ok(parsed)
 }
 
-/// The same, piece by piece. Where they are many, the pieces are parsed side by side.
+/// What each of the lines is, piece by piece. Where they are many, the pieces are parsed side by side.
 fn parse_pieces<R: Threads + Sync>(
     rt: &R,
     alloc: Global,

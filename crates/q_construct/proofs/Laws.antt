@@ -285,7 +285,7 @@ answer_sound parts origin server others whole sound served named a =
       body = s.body;
     }))
 
--- and its line isn't too long
+-- the line of an answer isn't too long
 pub answer_short : (parts : PartsSeen) (origin : Origin) (server : List ℕ) (others : List (List ℕ)) (whole : PartsSeen) → Answer parts origin server others whole → length (text_of whole) ≤ 510
 answer_short parts origin server others whole a =
     let short = or_parts (ltb 32 (length (whole_of parts origin server).vias)) (ltb 510 (length (text_of (whole_of parts origin server)))) a.not_long in
@@ -478,7 +478,7 @@ pub on_answer : (parts : PartsSeen) (origin : Origin) (server : List ℕ) (other
 on_answer parts origin server others (Ok whole) P e each = each whole (answer_is parts origin server others whole (sym e))
 on_answer parts origin server others (Err d) P e each = tt
 
--- the same of parts that were filled
+-- what holds of each answer holds of the parts that were filled with one
 pub on_filled : {X : Type 0} (parts : PartsSeen) (origin : Origin) (server : List ℕ) (others : List (List ℕ)) (r : Result X QDrop) (left : PartsSeen) (P : Type 0)
     → Fills r left (process_of parts origin server others) → (Answer parts origin server others left → P) → OnOk r P
 on_filled parts origin server others (Ok x) left P fills each = each (answer_is parts origin server others left fills)

@@ -54,7 +54,7 @@ answers :
 unfolding process_of given_drops built_drops built_row rows parts_of head_of via_of text_of
 answers = (refl, refl, refl, refl, refl, refl, refl, refl, refl, refl)
 
--- the same of lines from other origins
+-- what the rule answers to lines from other origins
 answers_by_origin :
     -- own packet
     (answer (Client (codes "N0CALL") true false) [] (codes "N0CALL>APRS,WIDE1-1:>hi") ≡ goes_on (codes "N0CALL>APRS,TCPIP*,qAC,T2TEST:>hi"))

@@ -91,8 +91,8 @@ pub fn unseen(alloc: Global, row: &str) -> Result<String, RowError> {
     yes_or_no(alloc, passed)
 }
 
-/// The same with how long ago the calls of the first and the second term, the login and the source were seen, and whether
-/// the source is a gate.
+/// Whether a packet passes a filter, with how long ago the calls of the first and the second term, the login and the
+/// source were seen, and whether the source is a gate.
 pub fn sighted(alloc: Global, row: &str) -> Result<String, RowError> {
     let (filter, row) = split_word(row);
     let (first, row) = split_word(row);

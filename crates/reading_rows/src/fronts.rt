@@ -32,7 +32,7 @@ pub fn get(alloc: Global, field: &str) -> Result<String, RowError> {
     Ok(text)
 }
 
-/// The same of each beginning of them: from how many bytes on they ask for what.
+/// What each beginning of the bytes on a link of the status page asks for: from how many of them on they ask for what.
 pub fn get_grown(alloc: Global, field: &str) -> Result<String, RowError> {
     let bytes = read_bytes(alloc, field)?;
     let mut last = read_get(b"");

@@ -36,7 +36,7 @@ pub fn parts(alloc: Global, field: &str) -> Result<String, RowError> {
     }
 }
 
-/// The same, put into parts that are still to be filled.
+/// A packet's parts, put into those that are still to be filled, or the line's first fault.
 pub fn filled(alloc: Global, field: &str) -> Result<String, RowError> {
     let mut parts = Parts::unfilled();
     match read_into(&read_line(alloc, field)?, &mut parts) {

@@ -110,7 +110,7 @@ pub fn say(events: &mut Vec<Event>, link: u32, text: &[u8], most: usize) -> Resu
     Ok(())
 }
 
-/// The same for the text that ends a row.
+/// A link says the text that ends a row, in pieces of at most so many bytes.
 fn says(alloc: Global, events: &mut Vec<Event>, row: &str, most: usize) -> Result<(), RowError> {
     let (link, text) = number(row)?;
     let text = read_bytes(alloc, text)?;

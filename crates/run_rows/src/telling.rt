@@ -27,7 +27,7 @@ fn hashed(hash: u32, bytes: &[u8]) -> u32 {
     hash
 }
 
-/// That of no bytes.
+/// The hash of no bytes.
 const NONE_HASHED: u32 = 2_166_136_261;
 
 fn text_of(alloc: Global, bytes: &[u8]) -> Result<String, AllocError> {

@@ -230,7 +230,7 @@ module _ (number : ℕ) where
       (cases_Bool (is_here x)))
       (cases_Bool (has_that number x))
 
-  -- and so do all where none that is here has the number
+  -- all stay where none that is here has the number
   pub none_left_here : (links : List LinkSeen) → list_any (is_at number) links ≡ false → here links ≡ filter (is_none_of (number ∷ [])) (here links)
   none_left_here [] none = refl
   none_left_here (x ∷ links) none =

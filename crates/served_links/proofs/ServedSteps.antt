@@ -70,7 +70,7 @@ seen_changed hs new_hs feeds new queued rests now links is changed put settled =
     ∙ ap (λ n. record { links = links; queued = more (put_in feeds.links) queued; waiting = n; rests = rests }) settled
     ∙ ap (λ (s : ServedSeen). record s { links = links }) is
 
--- the same of a step at each link, which keeps its number and its opening
+-- a step at each link, which keeps its number and its opening, and puts no packet line
 pub seen_stepped : (hs new_hs : List LinkSeen) (feeds new : FeedsSeen) (queued : ℕ) (rests : Bool) (now : ServedSeen) (step : LinkSeen → LinkSeen) → ((link : LinkSeen) → named_of (step link) ≡ named_of link)
     → served_seen hs feeds queued rests ≡ now → joined_all new_hs new.links ≡ map step (joined_all hs feeds.links) → put_in new.links ≡ put_in feeds.links → new.waiting ≡ feeds.waiting
     → served_seen new_hs new queued rests ≡ record now { links = map step now.links }

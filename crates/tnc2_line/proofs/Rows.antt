@@ -34,7 +34,7 @@ rows :
     × (parts_of (codes "K1ABC>APRS:") ≡ Err fault.NoBody)
     -- a whole line
     × (parts_of (codes "K1ABC>APRS,DIG*,qAR,GATE-1:>x:y") ≡ Ok a_packet)
-    -- the same, written
+    -- a packet, written as its line
     × (text_of a_packet ≡ codes "K1ABC>APRS,DIG*,qAR,GATE-1:>x:y")
     -- its parts are those of a text
     × (is_parts a_packet ≡ true)

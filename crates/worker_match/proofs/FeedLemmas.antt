@@ -44,7 +44,7 @@ pub all_written : {X : Type 0} (size : ℕ) (new old : List X) → length new �
 all_written size new old same whole =
     ap (λ more. take size (new ++ more)) (drop_all (length new) old (omega (arith, same))) ∙ ap (take size) (append-nil new) ∙ take_all size new (omega (arith, same, whole))
 
--- the same of a vector of links that was written through a slice, once what came was let go
+-- what came is matched where a vector of links was written through a slice, once what came was let go
 pub matched_all : (items : List ItemSeen) (states : List FeedSeen) (seen : FeedsSeen) → seen_after states items ≡ seen → (size : ℕ) (new old : List FeedSeen) (came left : List ItemSeen)
     → came ≡ items → old ≡ states → size ≡ length states → new ≡ map (walked came) old → left ≡ [] → seen_after (take size (new ++ drop (length new) states)) left ≡ record seen { waiting = 0 }
 matched_all items states seen is size new old came left same at whole met none =
@@ -72,18 +72,18 @@ module _ (items : List ItemSeen) (states : List FeedSeen) (seen : FeedsSeen) (is
   pub seen_standing : seen.links ≡ states
   seen_standing = ap (λ (feeds : FeedsSeen). feeds.links) (sym is) ∙ standing items states nothing_left
 
-  -- and so they are once they were written
+  -- links are seen as they stand once they were written
   pub written : (f : List FeedSeen → List FeedSeen) (new : List FeedSeen) → new ≡ f states → seen_after new items ≡ record seen { links = f seen.links }
   written f new changed =
       ap (λ (links : List FeedSeen). record { links = links; waiting = length items }) (standing items new nothing_left ∙ changed ∙ ap f (sym seen_standing))
       ∙ ap (λ n. record { links = f seen.links; waiting = n }) (nothing_left ∙ sym settled)
 
-  -- the same, where all of them were written through a slice
+  -- links are seen as they stand once all of them were written through a slice
   pub all_changed : (f : List FeedSeen → List FeedSeen) (size : ℕ) (new old : List FeedSeen) → length new ≡ length states → size ≡ length states → old ≡ states → new ≡ f old
       → seen_after (take size (new ++ drop (length new) states)) items ≡ record seen { links = f seen.links }
   all_changed f size new old many whole at changed = written f (take size (new ++ drop (length new) states)) (all_written size new states many whole ∙ changed ∙ ap f at)
 
-  -- and where one was
+  -- links are seen as they stand once one of them was written
   pub written_at : (place : ℕ) (changed new : FeedSeen) → new ≡ changed → seen_after (slice_set states place new) items ≡ record seen { links = slice_set seen.links place changed }
   written_at place changed new is = written (λ links. slice_set links place changed) (slice_set states place new) (ap (slice_set states place) is)
 

@@ -79,7 +79,7 @@ pub(crate) fn still_seen(now: u64, seen: Option<Seen>) -> Option<Seen>
     }
 }
 
-/// The same of many.
+/// Leaves of many places what still counts at `now`.
 fn forget_places(now: u64, places: &mut [Option<Seen>])
     ensures fresh { places.new ≡ map (fresh now) places.old }
     ensures many { length places.new ≡ length places.old }

@@ -85,7 +85,7 @@ returns-clause-full c link offer open' wanted full =
 
 -- ---- places
 
--- the same filter, login and places
+-- a link has the filter, the login and the places that it had
 record IsLike (old new : FeedSeen) : Type 0 where
   filter : new.filter ≡ old.filter
   me : new.me ≡ old.me
