@@ -15,7 +15,7 @@ use std::marker::{Model, Sync};
 use std::sync::Arc;
 use std::sync::atomic::Ordering;
 use std::thread::Threads;
-use worker_match::{Item, LinkFeed, spread};
+use worker_match::{Item, LinkFeed, LinkFilter, spread};
 
 /// What came to links since they were last walked, each in order.
 #[derive(Drop)]
@@ -91,7 +91,7 @@ fn read_link(number: u32, fields: &mut Fields) -> Result<LinkFeed, Fault> {
         over: false,
         me,
         friends,
-        filter,
+        filter: LinkFilter::new(filter),
         mine: None,
         queue,
         put: 0,

@@ -1,8 +1,10 @@
 -- Where the calls of terms were last seen, as a loop over them goes on.
-use Rattle.std.proofs.Common.{◌≡◌, ℕ, zero, suc, ◌+◌, ◌<◌, ◌≤◌, min, List, [], ◌∷◌, length, take, get_or, slice_get, slice_set, Option, Some, refl, ap, ◌∙◌, arith, add-one}
+use Rattle.std.proofs.Common.{◌≡◌, ℕ, zero, suc, ◌+◌, ◌<◌, ◌≤◌, min, ◌||◌, Bool, true, false, List, [], ◌∷◌, length, take, get_or, slice_get, slice_set, Option, Some, refl, ap, ◌∙◌, arith, add-one, cond}
 use Rattle.filter_lang.specs.Terms.{TermSeen}
+use Rattle.filter_lang.specs.declared.terms.What.{What}
+use Rattle.filter_lang.specs.declared.terms.What.TheVariants as what
 use Rattle.filter_eval.specs.declared.seen.Seen.{Seen}
-use Rattle.worker_match.specs.Walk.{friend_seen, friends_seen}
+use Rattle.worker_match.specs.Walk.{friend_seen, friends_seen, has_naming, is_naming, names}
 
 module _ (call : List ℕ) (seen : Seen) where
   seen_at : (terms : List TermSeen) (friends : List (Option Seen)) (i : ℕ) (x : TermSeen) (y new : Option Seen) → i < length terms → i < length friends
@@ -57,3 +59,35 @@ pub seen_many : (call : List ℕ) (seen : Seen) (terms : List TermSeen) (friends
 seen_many call seen [] friends = refl
 seen_many call seen (t ∷ terms) [] = refl
 seen_many call seen (t ∷ terms) (f ∷ friends) = ap suc (seen_many call seen terms friends)
+
+-- ---- terms that ask for no call's position
+
+unnamed : (call : List ℕ) (asked : What) → is_naming asked ≡ false → names call asked ≡ false
+unnamed call (what.Range lat lon km) is = refl
+unnamed call (what.Prefix texts) is = refl
+unnamed call (what.Buddy texts) is = refl
+unnamed call (what.Object texts) is = refl
+unnamed call (what.Class mask) is = refl
+unnamed call (what.ClassNear mask named km) is = absurd (cc)
+unnamed call (what.Symbol pri alt over) is = refl
+unnamed call (what.Digi texts) is = refl
+unnamed call (what.Entry texts) is = refl
+unnamed call (what.Group texts) is = refl
+unnamed call (what.Dest texts) is = refl
+unnamed call (what.Friend named km) is = absurd (cc)
+unnamed call (what.Mine km) is = refl
+unnamed call (what.Area north west south east) is = refl
+unnamed call (what.Construct letters gates) is = refl
+
+neither : (a b : Bool) → (a || b) ≡ false → (a ≡ false) × (b ≡ false)
+neither true b is = absurd (cc)
+neither false b is = (refl, is)
+
+-- nothing is seen of them
+pub none_seen : (call : List ℕ) (seen : Seen) (terms : List TermSeen) (friends : List (Option Seen)) → has_naming terms ≡ false → friends_seen call seen terms friends ≡ friends
+none_seen call seen [] friends is = refl
+none_seen call seen (t ∷ terms) [] is = refl
+none_seen call seen (t ∷ terms) (f ∷ friends) is =
+    let apart = neither (is_naming t.what) (has_naming terms) is in
+    ap (λ b. cond b (Some seen) f ∷ friends_seen call seen terms friends) (unnamed call t.what apart.0)
+    ∙ ap (λ rest. f ∷ rest) (none_seen call seen terms friends apart.1)

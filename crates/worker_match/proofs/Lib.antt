@@ -2,6 +2,7 @@ pub mod AlongLemmas
 pub mod FeedLemmas
 pub mod FriendLemmas
 pub mod MemberLemmas
+pub mod OfferLemmas
 pub mod OthersLemmas
 pub mod PushLemmas
 pub mod RunLemmas

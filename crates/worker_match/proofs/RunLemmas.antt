@@ -5,6 +5,7 @@ use Rattle.std.proofs.Math.Bool.{and-false, or-false, or-true}
 use Rattle.std.proofs.lemmas.Bool.{cases_Bool, cases_eq, cases_lt, false_from_ne_true, false≢true, le-ltb, lt-ltb}
 use Rattle.std.proofs.lemmas.Bool.Decides.{Decides-eqb}
 use Rattle.std.proofs.lemmas.Slice.Eq.{slice_eq-Decides}
+use Rattle.std.proofs.lemmas.List.{drop_all}
 use Rattle.aprs_base.specs.declared.packets.Source.{Source}
 use Rattle.aprs_base.specs.declared.packets.Source.TheVariants as source
 use Rattle.filter_lang.specs.Terms.{TermSeen}
@@ -14,9 +15,7 @@ use Rattle.station_table.specs.Stations.{seen_in}
 use Rattle.link_queue.specs.Queues.{with_line, with_lines}
 use Rattle.worker_match.specs.declared.links.Feed.{Feed}
 use Rattle.worker_match.specs.declared.links.Feed.TheVariants as feed
-use Rattle.worker_match.specs.declared.items.Item.{Item}
-use Rattle.worker_match.specs.Items.{item_seen, items_seen}
-use Rattle.worker_match.specs.Seen.{FeedSeen, OfferSeen, ItemSeen, Told, ToldAll, Ended, Became, Came}
+use Rattle.worker_match.specs.Seen.{FeedSeen, OfferSeen, ItemSeen, Told, ToldAll, Ended, Became, Came, came_all}
 use Rattle.worker_match.specs.Walk.{after, feed_wants, friends_seen, is_from, is_full, is_open, met, mine_seen, one_more, terms_of, told_by, walked, wants, with_copy, with_packet, with_seen}
 use Rattle.worker_match.specs.Runs.{IsRunOf, RunSeen, added, empty_run, fresh, is_packet, is_plain, line_of, mark, mark_of, sender_of, sent_by, suits, suits_others, takes_all, with_run}
 use Rattle.worker_match.proofs.PushLemmas.{full_is, not_full}
@@ -255,42 +254,50 @@ pub run_met : {T E : Type 0} (result : Result T E) (items : List ItemSeen) (run 
 run_met (Ok x) items run lines old new is suit same taken few counted = taken ∙ ap (λ all. with_run all old) same ∙ suited items run old is suit few counted
 run_met (Err e) items run lines old new is suit same taken few counted = tt
 
--- ---- a run that items are added to
+-- ---- a run that packets are added to
 
--- what is left of the items would make the run of all
-pub record IsBegun (items : List Item) (i : ℕ) (run : RunSeen) : Type 0 where
-  pub packets : list_all is_packet (items_seen (drop i items)) ≡ list_all is_packet (items_seen items)
-  pub lines : run.lines ++ flat_map line_of (items_seen (drop i items)) ≡ flat_map line_of (items_seen items)
-  pub senders : run.senders ++ flat_map sender_of (items_seen (drop i items)) ≡ flat_map sender_of (items_seen items)
-  pub marks : run.marks ++ flat_map mark_of (items_seen (drop i items)) ≡ flat_map mark_of (items_seen items)
+-- what is left of the packets would make the run of all
+pub record IsBegun (offers : List OfferSeen) (i : ℕ) (run : RunSeen) : Type 0 where
+  pub lines : run.lines ++ flat_map line_of (came_all (drop i offers)) ≡ flat_map line_of (came_all offers)
+  pub senders : run.senders ++ flat_map sender_of (came_all (drop i offers)) ≡ flat_map sender_of (came_all offers)
+  pub marks : run.marks ++ flat_map mark_of (came_all (drop i offers)) ≡ flat_map mark_of (came_all offers)
   pub few : length run.lines ≤ i
 
-pub begun : (items : List Item) → IsBegun items 0 empty_run
-begun items = record { packets = refl; lines = refl; senders = refl; marks = refl; few = omega arith }
+pub begun : (offers : List OfferSeen) → IsBegun offers 0 empty_run
+begun offers = record { lines = refl; senders = refl; marks = refl; few = omega arith }
 
-line_at_most : (item : ItemSeen) → length (line_of item) ≤ 1
-line_at_most (Told number line) = omega arith
-line_at_most (ToldAll line) = omega arith
-line_at_most (Ended number) = omega arith
-line_at_most (Became session) = omega arith
-line_at_most (Came offer) = elim (cases_Bool offer.dupe) [
+line_at_most : (offer : OfferSeen) → length (line_of (Came offer)) ≤ 1
+line_at_most offer = elim (cases_Bool offer.dupe) [
   | inl dupe ↦ subst (λ b. length (fresh b offer.packet.line) ≤ 1) (sym dupe) (omega arith)
   | inr new ↦ subst (λ b. length (fresh b offer.packet.line) ≤ 1) (sym new) (omega arith)
 ]
 
-module _ (items : List Item) (i : ℕ) (x : Item) (lt : i < length items) (at : x ≡ get_or items i x) where
-  gathered : {A : Type 0} (f : ItemSeen → List A) (so_far total : List A) → so_far ++ flat_map f (items_seen (drop i items)) ≡ total
-      → (so_far ++ f (item_seen x)) ++ flat_map f (items_seen (drop (i + 1) items)) ≡ total
+module _ (offers : List OfferSeen) (i : ℕ) (x : OfferSeen) (lt : i < length offers) (at : x ≡ get_or offers i x) where
+  gathered : {A : Type 0} (f : ItemSeen → List A) (so_far total : List A) → so_far ++ flat_map f (came_all (drop i offers)) ≡ total
+      → (so_far ++ f (Came x)) ++ flat_map f (came_all (drop (i + 1) offers)) ≡ total
   gathered f so_far total is =
-      append_assoc so_far (f (item_seen x)) (flat_map f (items_seen (drop (i + 1) items)))
-      ∙ ap (λ left. so_far ++ flat_map f (items_seen left)) (sym (left_is items i x lt at)) ∙ is
+      append_assoc so_far (f (Came x)) (flat_map f (came_all (drop (i + 1) offers)))
+      ∙ ap (λ left. so_far ++ flat_map f (came_all left)) (sym (left_is offers i x lt at)) ∙ is
 
-  pub begun_more : (run new : RunSeen) → IsBegun items i run → is_packet (item_seen x) ≡ true → new ≡ added (item_seen x) run → IsBegun items (i + 1) new
-  begun_more run new is packet made =
-      subst (IsBegun items (i + 1)) (sym made) (record {
-        packets = ap (λ b. b && list_all is_packet (items_seen (drop (i + 1) items))) (sym packet) ∙ ap (λ left. list_all is_packet (items_seen left)) (sym (left_is items i x lt at)) ∙ is.packets;
+  pub begun_more : (run new : RunSeen) → IsBegun offers i run → new ≡ added (Came x) run → IsBegun offers (i + 1) new
+  begun_more run new is made =
+      subst (IsBegun offers (i + 1)) (sym made) (record {
         lines = gathered line_of run.lines _ is.lines;
         senders = gathered sender_of run.senders _ is.senders;
         marks = gathered mark_of run.marks _ is.marks;
-        few = let size = length-append run.lines (line_of (item_seen x)) in let most = line_at_most (item_seen x) in let few = is.few in omega arith;
+        few = let size = length-append run.lines (line_of (Came x)) in let most = line_at_most x in let few = is.few in omega arith;
       })
+
+are_packets : (offers : List OfferSeen) → list_all is_packet (came_all offers) ≡ true
+are_packets [] = refl
+are_packets (offer ∷ offers) = are_packets offers
+
+pub all_begun : (offers : List OfferSeen) (i : ℕ) (run : RunSeen) → length offers ≤ i → IsBegun offers i run → IsRunOf (came_all offers) run
+all_begun offers i run past is =
+    let none = drop_all i offers past in
+    record {
+      packets = are_packets offers;
+      lines = sym (append-nil run.lines) ∙ ap (λ left. run.lines ++ flat_map line_of (came_all left)) (sym none) ∙ is.lines;
+      senders = sym (append-nil run.senders) ∙ ap (λ left. run.senders ++ flat_map sender_of (came_all left)) (sym none) ∙ is.senders;
+      marks = sym (append-nil run.marks) ∙ ap (λ left. run.marks ++ flat_map mark_of (came_all left)) (sym none) ∙ is.marks;
+    }

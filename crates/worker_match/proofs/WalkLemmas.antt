@@ -13,28 +13,30 @@ pub closed_stays : (items : List ItemSeen) (link : FeedSeen) → is_open link �
 closed_stays [] link is = refl
 closed_stays (item ∷ items) link is = ap (walked items) (ap (λ b. cond b (met item link) link) is) ∙ closed_stays items link is
 
--- the first item that is left
-pub left_is : (items : List Item) (i : ℕ) (x : Item) → i < length items → x ≡ get_or items i x → drop i items ≡ x ∷ drop (i + 1) items
+-- the first element that is left
+pub left_is : {X : Type 0} (items : List X) (i : ℕ) (x : X) → i < length items → x ≡ get_or items i x → drop i items ≡ x ∷ drop (i + 1) items
 left_is items i x lt at = drop_more items i x lt ∙ ap (λ y. y ∷ drop (i + 1) items) (sym at)
 
--- one item more is taken
-pub take_more : (items : List Item) (i : ℕ) (x : Item) (link new total : FeedSeen) → i < length items → x ≡ get_or items i x → new ≡ after link (item_seen x)
-    → walked (items_seen (drop i items)) link ≡ total → walked (items_seen (drop (i + 1) items)) new ≡ total
-take_more items i x link new total lt at is so_far =
-    ap (walked (items_seen (drop (i + 1) items))) (is ∙ ap (λ y. after link (item_seen y)) at)
-    ∙ sym (ap (λ left. walked (items_seen left) link) (drop_more items i x lt))
-    ∙ so_far
+-- of what is seen as items
+module _ {X : Type 0} (seen : X → ItemSeen) where
+  -- one item more is taken
+  pub take_more : (items : List X) (i : ℕ) (x : X) (link new total : FeedSeen) → i < length items → x ≡ get_or items i x → new ≡ after link (seen x)
+      → walked (map seen (drop i items)) link ≡ total → walked (map seen (drop (i + 1) items)) new ≡ total
+  take_more items i x link new total lt at is so_far =
+      ap (walked (map seen (drop (i + 1) items))) (is ∙ ap (λ y. after link (seen y)) at)
+      ∙ sym (ap (λ left. walked (map seen left) link) (drop_more items i x lt))
+      ∙ so_far
 
--- and where the link lives and isn't over one more is met
-pub walk_more : (items : List Item) (i : ℕ) (x : Item) (link new total : FeedSeen) → i < length items → x ≡ get_or items i x → is_open link ≡ true
-    → new ≡ met (item_seen x) link → walked (items_seen (drop i items)) link ≡ total → walked (items_seen (drop (i + 1) items)) new ≡ total
-walk_more items i x link new total lt at open' is so_far =
-    take_more items i x link new total lt at (is ∙ sym (ap (λ b. cond b (met (item_seen x) link) link) open')) so_far
+  -- and where the link lives and isn't over one more is met
+  pub walk_more : (items : List X) (i : ℕ) (x : X) (link new total : FeedSeen) → i < length items → x ≡ get_or items i x → is_open link ≡ true
+      → new ≡ met (seen x) link → walked (map seen (drop i items)) link ≡ total → walked (map seen (drop (i + 1) items)) new ≡ total
+  walk_more items i x link new total lt at open' is so_far =
+      take_more items i x link new total lt at (is ∙ sym (ap (λ b. cond b (met (seen x) link) link) open')) so_far
 
-pub ordered_at : (items : List Item) (i : ℕ) (x : Item) → All IsOrdered (items_seen items) → i < length items → x ≡ get_or items i x → IsOrdered (item_seen x)
-ordered_at [] i x all lt at = absurd (omega arith)
-ordered_at (y ∷ items) zero x all lt at = subst (λ z. IsOrdered (item_seen z)) (sym at) (all 0 (item_seen y) (omega arith))
-ordered_at (y ∷ items) (suc i) x all lt at = ordered_at items i x (λ k d within. all (suc k) d (omega arith)) (omega arith) at
+  pub ordered_at : (items : List X) (i : ℕ) (x : X) → All IsOrdered (map seen items) → i < length items → x ≡ get_or items i x → IsOrdered (seen x)
+  ordered_at [] i x all lt at = absurd (omega arith)
+  ordered_at (y ∷ items) zero x all lt at = subst (λ z. IsOrdered (seen z)) (sym at) (all 0 (seen y) (omega arith))
+  ordered_at (y ∷ items) (suc i) x all lt at = ordered_at items i x (λ k d within. all (suc k) d (omega arith)) (omega arith) at
 
 -- ---- a loop that changes each element
 

@@ -1,5 +1,5 @@
 -- What a link's feed and the items that come to it are seen as: what is shared is what it points to.
-use Rattle.std.specs.Prelude.{ℕ, Bool, List, Option}
+use Rattle.std.specs.Prelude.{ℕ, Bool, List, Option, map}
 use Rattle.aprs_base.specs.PacketSeen.{PacketSeen}
 use Rattle.filter_lang.specs.Terms.{TermSeen}
 use Rattle.filter_eval.specs.declared.seen.Seen.{Seen}
@@ -44,3 +44,6 @@ pub data ItemSeen : Type 0 where
   Ended : (link : ℕ) → ItemSeen
   Became : (session : SessionSeen) → ItemSeen
   Came : (offer : OfferSeen) → ItemSeen
+
+abbrev pub came_all : List OfferSeen → List ItemSeen
+came_all offers = map Came offers

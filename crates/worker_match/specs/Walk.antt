@@ -2,6 +2,7 @@
 use Rattle.std.specs.Prelude.{ℕ, ◌^◌, ◌+◌, ◌-◌, ◌==◌, Bool, true, false, not, ◌&&◌, ◌||◌, min, List, [], ◌∷◌, length, fold, Option, Some, None, if◌then◌else◌, ⊤}
 use Rattle.std.specs.List.{list_any}
 use Rattle.std.specs.List.Sorted.{IsStrictlyIncreasing}
+use Rattle.aprs_base.specs.PacketSeen.{PacketSeen}
 use Rattle.aprs_base.specs.declared.packets.Source.{Source}
 use Rattle.aprs_base.specs.declared.packets.Source.TheVariants as source
 use Rattle.filter_lang.specs.Terms.{TermSeen}
@@ -69,6 +70,15 @@ names call (what.Friend named km) = is_text named call
 names call (what.ClassNear mask named km) = is_text named call
 names call what = false
 
+-- a term that asks for the position of some call, and whether one of the terms does
+abbrev pub is_naming : What → Bool
+is_naming (what.Friend named km) = true
+is_naming (what.ClassNear mask named km) = true
+is_naming what = false
+
+abbrev pub has_naming : List TermSeen → Bool
+has_naming terms = list_any (λ term. is_naming term.what) terms
+
 -- where a term's call was last seen, once a station was seen
 abbrev pub friend_seen : List ℕ → Seen → TermSeen → Option Seen → Option Seen
 friend_seen call seen term friend = if names call term.what then Some seen else friend
@@ -88,8 +98,11 @@ with_seen call (Some seen) link =
     record link { friends = friends_seen call seen (terms_of link.filter) link.friends; mine = mine_seen call seen link.me link.mine }
 
 -- where the packet tells that its source is, which a refused duplicate doesn't
+abbrev pub told_in : Bool → PacketSeen → Option Seen
+told_in dupe packet = if dupe then None else seen_in packet
+
 abbrev pub told_by : OfferSeen → Option Seen
-told_by offer = if offer.dupe then None else seen_in offer.packet
+told_by offer = told_in offer.dupe offer.packet
 
 -- ---- items
 

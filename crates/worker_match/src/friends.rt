@@ -1,12 +1,13 @@
 //! Where the calls that a filter names were last seen.
 ghost use Rattle.std.specs.Prelude.{◌≡◌, ◌||◌, IsTrue, length, map};
 ghost use Rattle.filter_eval.specs.Passes.{fresh, is_some_and, is_text};
-ghost use Rattle.worker_match.specs.Walk.{friend_seen, friends_seen, mine_seen, names};
+ghost use Rattle.worker_match.specs.Walk.{friend_seen, friends_seen, mine_seen, names, terms_of};
 
+use crate::filters::LinkFilter;
 use aprs_base::Call;
 use arrayvec::ArrayVec;
 use filter_eval::{Friends, Seen};
-use filter_lang::{FilterSet, Term, What};
+use filter_lang::{Term, What};
 
 /// Whether the term asks for the position of the call.
 fn names(call: &Call, what: &What) -> bool
@@ -20,16 +21,18 @@ fn names(call: &Call, what: &What) -> bool
 }
 
 /// A station was seen: so was a term's call, where it is that.
-fn see_one(call: &Call, seen: Seen, term: &Term, friend: &mut Option<Seen>)
-    ensures { friend.new ≡ friend_seen call.now seen term.now friend.old }
+fn see_one(call: &Call, seen: &Seen, term: &Term, friend: &mut Option<Seen>)
+    ensures { friend.new ≡ friend_seen call.now seen.now term.now friend.old }
 {
     if names(call, &term.what) {
-        *friend = Some(seen);
+        *friend = Some(*seen);
     }
 }
 
-fn see_each(call: &Call, seen: Seen, terms: &[Term], friends: &mut [Option<Seen>])
-    ensures seen { friends.new ≡ friends_seen call.now seen terms.now friends.old }
+/// The same of each term. Few filters name a call, so that this isn't in the way of the others.
+#[inline(never)]
+fn see_each(call: &Call, seen: &Seen, terms: &[Term], friends: &mut [Option<Seen>])
+    ensures seen { friends.new ≡ friends_seen call.now seen.now terms.now friends.old }
     ensures many { length friends.new ≡ length friends.old }
 {
     for place in 0..terms.len().min(friends.len()) {
@@ -38,23 +41,21 @@ fn see_each(call: &Call, seen: Seen, terms: &[Term], friends: &mut [Option<Seen>
 }
 
 /// A station was seen there: so was a friend, where a term of the filter names it.
-pub(crate) fn see_friends(call: &Call, seen: Seen, filter: &FilterSet, friends: &mut Friends)
-    ensures { friends.new ≡ friends_seen call.now seen filter.now friends.old }
+pub(crate) fn see_friends(call: &Call, seen: &Seen, filter: &LinkFilter, friends: &mut Friends)
+    ensures { friends.new ≡ friends_seen call.now seen.now (terms_of filter.now) friends.old }
 {
-    see_each(
-        call,
-        seen,
-        filter.terms.as_slice(),
-        friends.at.as_mut_slice(),
-    );
+    match filter.naming() {
+        Some(terms) => see_each(call, seen, terms, friends.at.as_mut_slice()),
+        None => {}
+    }
 }
 
 /// Where a link's own login was last seen, once a station was seen.
-pub(crate) fn see_mine(call: &Call, seen: Seen, me: &Option<Call>, mine: &mut Option<Seen>)
-    ensures { mine.new ≡ mine_seen call.now seen me.now mine.old }
+pub(crate) fn see_mine(call: &Call, seen: &Seen, me: &Option<Call>, mine: &mut Option<Seen>)
+    ensures { mine.new ≡ mine_seen call.now seen.now me.now mine.old }
 {
     match me {
-        Some(own) if own == call => *mine = Some(seen),
+        Some(own) if own == call => *mine = Some(*seen),
         _ => {}
     }
 }

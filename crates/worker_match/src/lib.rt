@@ -4,6 +4,7 @@
 
 mod along;
 mod feeds;
+mod filters;
 mod friends;
 mod items;
 mod laws;
@@ -14,6 +15,7 @@ mod states;
 mod workers;
 
 pub use feeds::{Crew, Feeds};
+pub use filters::LinkFilter;
 pub use items::Item;
 pub use laws::links_take_what_they_want;
 pub use links::{Feed, LinkFeed};

@@ -8,6 +8,7 @@ ghost use Rattle.worker_match.specs.Runs.{fresh, is_eager, is_plain, takes_all, 
 ghost use Rattle.worker_match.specs.Seen.{Became, Came, Ended, Told};
 ghost use Rattle.worker_match.specs.Walk.{IsOrdered, after, feed_wants, is_chosen, is_open, met, terms_of, told_by, wants, with_copy, with_packet, with_seen, with_text};
 
+use crate::filters::LinkFilter;
 use crate::friends::{copy_friends, see_friends, see_mine};
 use crate::items::Item;
 use crate::offers::{Offer, offered};
@@ -47,7 +48,7 @@ pub struct LinkFeed {
     pub queue: Queue,
     /// Its login.
     pub me: Option<Call>,
-    pub filter: Option<Arc<FilterSet>>,
+    pub filter: LinkFilter,
     /// Where the calls of the filter's terms were last seen. They take far more room than the rest, so they stand apart.
     pub friends: Box<Friends>,
     /// Where its own login was last seen.
@@ -55,8 +56,6 @@ pub struct LinkFeed {
 }
 
 impl Model for LinkFeed {
-    ghost use Rattle.std.specs.Prelude.{option_map};
-    ghost use Rattle.std.specs.Arc.{arc_value};
     ghost use Rattle.worker_match.specs.Seen.{FeedSeen};
 
     ghost Value = { FeedSeen };
@@ -68,7 +67,7 @@ impl Model for LinkFeed {
       alive = l.alive;
       over = l.over;
       me = l.me;
-      filter = option_map arc_value l.filter;
+      filter = l.filter;
       friends = l.friends.value;
       mine = l.mine;
       queue = l.queue;
@@ -151,7 +150,7 @@ impl LinkFeed {
     fn passes(&self, offer: &Offer) -> bool
         ensures { result ≡ passes_of (terms_of self.now.filter) offer.now.packet self.now.friends self.now.mine offer.now.known offer.now.gate }
     {
-        match &self.filter {
+        match self.filter.get() {
             Some(filter) => passes(
                 filter,
                 offer.packet,
@@ -206,12 +205,10 @@ impl LinkFeed {
     }
 
     /// A station was seen there.
-    fn see(&mut self, call: &Call, seen: Seen)
-        ensures { self.new ≡ with_seen call.now (Some seen) self.old }
+    fn see(&mut self, call: &Call, seen: &Seen)
+        ensures { self.new ≡ with_seen call.now (Some seen.now) self.old }
     {
-        if let Some(filter) = &self.filter {
-            see_friends(call, seen, filter, &mut self.friends);
-        }
+        see_friends(call, seen, &self.filter, &mut self.friends);
         see_mine(call, seen, &self.me, &mut self.mine);
     }
 
@@ -226,7 +223,7 @@ impl LinkFeed {
     }
 
     /// Meets a packet: takes its line, where it wants it, and sees where its source is.
-    fn meet_packet(&mut self, offer: &Offer) -> Result<(), Memory>
+    pub(crate) fn meet_packet(&mut self, offer: &Offer) -> Result<(), Memory>
         requires { IsStrictlyIncreasing offer.now.extra }
         ensures ok { OnOk result (self.new ≡ met (Came offer.now) self.old) }
         ensures err { OnErr result (self.new ≡ self.old) }
@@ -321,7 +318,7 @@ impl LinkFeed {
         ensures err { OnErr result (self.new ≡ self.old) }
     {
         if self.link == link {
-            self.filter = copy_filter(filter)?;
+            self.filter = LinkFilter::shared(filter)?;
             self.feed = feed;
             self.me = copy_login(me);
             *self.friends = copy_friends(friends);
@@ -388,16 +385,6 @@ fn takes_some(feed: Feed) -> bool
     match feed {
         Feed::Full | Feed::Up | Feed::Filter => true,
         Feed::Nothing | Feed::Dupe => false,
-    }
-}
-
-/// A filter, shared once more.
-fn copy_filter(filter: &Option<Arc<FilterSet>>) -> Result<Option<Arc<FilterSet>>, Memory>
-    ensures { IfOk result (λ copy. option_map arc_value copy ≡ option_map arc_value filter.now) }
-{
-    match filter {
-        Some(filter) => Ok(Some(filter.clone()?)),
-        None => Ok(None),
     }
 }
 

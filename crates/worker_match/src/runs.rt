@@ -1,13 +1,13 @@
 //! A block of packets as one run of lines, for links that take all packets.
-ghost use Rattle.std.specs.Prelude.{◌≡◌, ◌<◌, ◌≤◌, ◌==◌, ◌++◌, if◌then◌else◌, IfOk, IfSome, OnErr, OnOk, length};
+ghost use Rattle.std.specs.Prelude.{◌≡◌, ◌<◌, ◌≤◌, ◌==◌, ◌++◌, IfOk, OnErr, OnOk, length};
 ghost use Rattle.std.specs.Arc.{arc_value};
 ghost use Rattle.std.specs.List.{list_any};
 ghost use Rattle.filter_eval.specs.Passes.{is_some_and};
-ghost use Rattle.worker_match.specs.Items.{item_seen, items_seen};
-ghost use Rattle.worker_match.specs.Runs.{IsRunOf, added, empty_run, fresh, is_packet, mark, sent_by, suits, suits_others};
+ghost use Rattle.worker_match.specs.Runs.{IsRunOf, added, empty_run, fresh, mark, sent_by, suits, suits_others};
+ghost use Rattle.worker_match.specs.Seen.{Came, came_all};
 
-use crate::items::Item;
 use crate::links::LinkFeed;
+use crate::offers::Offer;
 use aprs_base::{Call, Line, Memory, Source};
 use link_queue::Batch;
 use std::alloc::Global;
@@ -118,21 +118,16 @@ impl Draft {
         }
     }
 
-    /// Adds an item, and says whether it is a packet: nothing else is added. After `Memory` nothing is said of the draft.
-    fn add(&mut self, item: &Item) -> Result<bool, Memory>
+    /// Adds a packet. After `Memory` nothing is said of the draft.
+    fn add(&mut self, offer: &Offer) -> Result<(), Memory>
         requires { length self.old.lines < 1000 }
-        ensures packet { IfOk result (λ packet. packet ≡ is_packet (item_seen item.now)) }
-        ensures added { IfOk result (λ packet. self.new ≡ (if packet then added (item_seen item.now) self.old else self.old)) }
+        ensures { OnOk result (self.new ≡ added (Came offer.now) self.old) }
     {
-        match item {
-            Item::Packet { packet, dupe, .. } => {
-                add_line(&mut self.batch, *dupe, &packet.line)?;
-                add_sender(&mut self.senders, &packet.from)?;
-                self.marks.push(mark(packet.parts.source.bytes()))?;
-                Ok(true)
-            }
-            _ => Ok(false),
-        }
+        let packet = offer.packet;
+        add_line(&mut self.batch, offer.dupe, &packet.line)?;
+        add_sender(&mut self.senders, &packet.from)?;
+        self.marks.push(mark(packet.parts.source.bytes()))?;
+        Ok(())
     }
 
     fn share(self, alloc: Global) -> Result<Run, Memory>
@@ -166,27 +161,14 @@ fn add_sender(senders: &mut Vec<u32>, from: &Source) -> Result<(), Memory>
     Ok(())
 }
 
-/// The items as one run, where they are packets alone.
-pub(crate) fn run_of(items: &[Item]) -> Result<Option<Run>, Memory>
-    requires { length items.now ≤ 1000 }
-    ensures { IfOk result (λ run. IfSome run (λ run. IsRunOf (items_seen items.now) run)) }
+/// Packets as one run.
+pub(crate) fn run_of(alloc: Global, offers: &[Offer]) -> Result<Run, Memory>
+    requires { length offers.now ≤ 1000 }
+    ensures { IfOk result (λ run. IsRunOf (came_all offers.now) run) }
 {
-    let Some(alloc) = memory_of(items) else {
-        return Ok(None);
-    };
     let mut draft = Draft::new(alloc);
-    for item in items {
-        if !draft.add(item)? {
-            return Ok(None);
-        }
+    for offer in offers {
+        draft.add(offer)?;
     }
-    Ok(Some(draft.share(alloc)?))
-}
-
-/// Where the first packet has its memory.
-fn memory_of(items: &[Item]) -> Option<Global> {
-    match items.first() {
-        Some(Item::Packet { extra, .. }) => Some(*extra.allocator()),
-        _ => None,
-    }
+    draft.share(alloc)
 }

@@ -4,6 +4,7 @@ ghost use Rattle.std.specs.List.{list_any};
 ghost use Rattle.std.specs.Arc.{arc_value};
 ghost use Rattle.worker_match.specs.Feeds.{counted, forgotten, is_other, is_fed, is_over, is_served, left, link_of, new_feed, put_in, told, with_login, with_terms};
 
+use crate::filters::LinkFilter;
 use crate::friends::{forget_friends, still_seen};
 use crate::links::{Feed, LinkFeed};
 use aprs_base::{Call, Line, Memory};
@@ -40,7 +41,7 @@ pub(crate) fn opened(
         put: 0,
         queue,
         me: None,
-        filter: None,
+        filter: LinkFilter::new(None),
         friends,
         mine: None,
     })
@@ -169,7 +170,7 @@ pub(crate) fn set_filter(
 )
     ensures { state.new ≡ told (arc_value reply) (with_terms (arc_value filter) friends state.old) }
 {
-    state.filter = Some(filter);
+    state.filter = LinkFilter::new(Some(filter));
     *state.friends = friends;
     state.tell(reply);
 }

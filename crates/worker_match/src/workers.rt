@@ -3,13 +3,16 @@ ghost use Rattle.std.specs.Prelude.{◌≡◌, ◌+◌, ◌*◌, ◌/◌, ◌≤
 ghost use Rattle.std.specs.Thread.{IsSync};
 ghost use Rattle.worker_match.specs.Items.{items_seen};
 ghost use Rattle.worker_match.specs.Runs.{IsRunOf};
+ghost use Rattle.worker_match.specs.Seen.{came_all};
 ghost use Rattle.worker_match.specs.Walk.{IsOrdered, walked};
 
 use crate::along::{take_others, walk_along};
 use crate::items::Item;
 use crate::links::LinkFeed;
+use crate::offers::{Offer, offers_of};
 use crate::runs::{Run, run_of};
 use aprs_base::{Gate, Memory};
+use std::alloc::Global;
 use std::thread::{Threads, join_mut};
 
 /// All links of a part meet so many items before they meet the next ones: what a walk touches of these stays near the processor.
@@ -170,55 +173,102 @@ fn walk_block(links: &mut [LinkFeed], items: &[Item], course: Course) -> Result<
     requires ordered { All IsOrdered (items_seen items.now) }
     ensures { OnOk result (links.new ≡ map (walked (items_seen items.now)) links.old) }
 {
-    let run = run_for(links, items, course)?;
-    walk_links(links, items, &run, course)
+    match offers_of(items)? {
+        Some(offers) => walk_packets(links, *offers.allocator(), offers.as_slice(), course),
+        None => walk_items(links, items),
+    }
 }
 
-/// The links meet the items, one link after another: where these are one run, a link may take that.
-fn walk_links(
-    links: &mut [LinkFeed],
-    items: &[Item],
-    run: &Option<Run>,
-    course: Course,
-) -> Result<(), Memory>
-    requires ordered { All IsOrdered (items_seen items.now) }
-    requires run { IfSome run.now (λ run. IsRunOf (items_seen items.now) run) }
+/// The links meet the items, one link after another.
+fn walk_items(links: &mut [LinkFeed], items: &[Item]) -> Result<(), Memory>
+    requires { All IsOrdered (items_seen items.now) }
     ensures { OnOk result (links.new ≡ map (walked (items_seen items.now)) links.old) }
 {
     for link in links.iter_mut() {
-        meet_block(link, items, run, course)?;
+        walk_link(link, items)?;
     }
     Ok(())
 }
 
-/// The items as one run, where they are packets alone and a run pays.
-fn run_for(links: &[LinkFeed], items: &[Item], course: Course) -> Result<Option<Run>, Memory>
-    requires { length items.now ≤ 1000 }
-    ensures { IfOk result (λ run. IfSome run (λ run. IsRunOf (items_seen items.now) run)) }
+/// The links meet the packets, of which a run is made where that pays.
+fn walk_packets(
+    links: &mut [LinkFeed],
+    alloc: Global,
+    offers: &[Offer],
+    course: Course,
+) -> Result<(), Memory>
+    requires few { length offers.now ≤ 1000 }
+    requires ordered { All IsOrdered (came_all offers.now) }
+    ensures { OnOk result (links.new ≡ map (walked (came_all offers.now)) links.old) }
 {
-    if items.len() < LEAST || links.iter().filter(|link| course.needs_run(link)).count() < LEAST {
-        return Ok(None);
-    }
-    run_of(items)
+    let run = run_for(links, alloc, offers, course)?;
+    walk_links(links, offers, &run, course)
 }
 
-/// One link meets the items, or takes their run's lines where that comes to the same.
-fn meet_block(
-    link: &mut LinkFeed,
-    items: &[Item],
+/// The links meet the packets, one link after another: where these are one run, a link may take that.
+fn walk_links(
+    links: &mut [LinkFeed],
+    offers: &[Offer],
     run: &Option<Run>,
     course: Course,
 ) -> Result<(), Memory>
-    requires ordered { All IsOrdered (items_seen items.now) }
-    requires run { IfSome run.now (λ run. IsRunOf (items_seen items.now) run) }
-    ensures { OnOk result (link.new ≡ walked (items_seen items.now) link.old) }
+    requires ordered { All IsOrdered (came_all offers.now) }
+    requires run { IfSome run.now (λ run. IsRunOf (came_all offers.now) run) }
+    ensures { OnOk result (links.new ≡ map (walked (came_all offers.now)) links.old) }
+{
+    for link in links.iter_mut() {
+        meet_packets(link, offers, run, course)?;
+    }
+    Ok(())
+}
+
+/// The packets as one run, where that pays.
+fn run_for(
+    links: &[LinkFeed],
+    alloc: Global,
+    offers: &[Offer],
+    course: Course,
+) -> Result<Option<Run>, Memory>
+    requires { length offers.now ≤ 1000 }
+    ensures { IfOk result (λ run. IfSome run (λ run. IsRunOf (came_all offers.now) run)) }
+{
+    if offers.len() < LEAST || links.iter().filter(|link| course.needs_run(link)).count() < LEAST {
+        return Ok(None);
+    }
+    Ok(Some(run_of(alloc, offers)?))
+}
+
+/// One link meets the packets, or takes their run's lines where that comes to the same.
+fn meet_packets(
+    link: &mut LinkFeed,
+    offers: &[Offer],
+    run: &Option<Run>,
+    course: Course,
+) -> Result<(), Memory>
+    requires ordered { All IsOrdered (came_all offers.now) }
+    requires run { IfSome run.now (λ run. IsRunOf (came_all offers.now) run) }
+    ensures { OnOk result (link.new ≡ walked (came_all offers.now) link.old) }
 {
     match run {
         Some(run) if run.suits(link) => link.take_run(&run.batch),
-        Some(run) if run.suits_others(link) => take_others(link, items, run),
-        Some(run) if course.apart => walk_along(link, items, run),
-        _ => walk_link(link, items),
+        Some(run) if run.suits_others(link) => take_others(link, offers, run),
+        Some(run) if course.apart => walk_along(link, offers, run),
+        _ => walk_offers(link, offers),
     }
+}
+
+/// One link meets the packets, as long as it lives and isn't over.
+fn walk_offers(link: &mut LinkFeed, offers: &[Offer]) -> Result<(), Memory>
+    requires { All IsOrdered (came_all offers.now) }
+    ensures { OnOk result (link.new ≡ walked (came_all offers.now) link.old) }
+{
+    for offer in offers {
+        if !link.is_open() {
+            return Ok(());
+        }
+        link.meet_packet(offer)?;
+    }
+    Ok(())
 }
 
 /// One link meets the items, as long as it lives and isn't over.

@@ -16,6 +16,6 @@ pub returns-in-None : goal.returns-in-None
 returns-in-None c =
     let link = c.args.self.now in
     let offer = c.args.offer.now in
-    let none : [] ≡ terms_of link.filter = sym (ap (λ f. terms_of (option_map arc_value f)) c.in-None.is) ∙ ap (λ (l : FeedSeen). terms_of l.filter) c.self.view_is in
+    let none : [] ≡ terms_of link.filter = sym (ap (λ f. terms_of (option_map arc_value f)) c.in-None.is) ∙ ap terms_of c.get.ensures ∙ ap (λ (l : FeedSeen). terms_of l.filter) c.self.view_is in
     none_pass offer.packet link.friends link.mine offer.known offer.gate
     ∙ ap (λ (terms : List TermSeen). passes_of terms offer.packet link.friends link.mine offer.known offer.gate) none
