@@ -153,7 +153,8 @@ fn take_next<W: Wire>(
 {
     let event = fronts.page.next(&mut fronts.http, wire)?;
     let whole = is_last(events.as_slice().len(), &event);
-    events.push(event)?;
+    events.reserve(1)?;
+    events.push_reserved(event);
     Ok(whole)
 }
 

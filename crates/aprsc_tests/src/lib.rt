@@ -15,8 +15,6 @@ mod gate_runs;
 #[cfg(test)]
 mod journal_tests;
 #[cfg(test)]
-mod memory_wire_tests;
-#[cfg(test)]
 mod network_tests;
 #[cfg(test)]
 mod packets;
@@ -26,5 +24,3 @@ mod saying_tests;
 mod server;
 #[cfg(test)]
 mod tests;
-#[cfg(test)]
-mod wire_tests;

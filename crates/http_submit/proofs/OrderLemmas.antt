@@ -56,14 +56,14 @@ late_rise now n made (w ∷ waiting) rises =
 grown_link : (link : ℕ) (bytes : List ℕ) (w : WaitingSeen) → (grown link bytes w).link ≡ w.link
 grown_link link bytes w = elim (cases_Bool (is_link link w)) [ inl holds ↦ rw holds refl | inr fails ↦ rw fails refl ]
 
-grown_links : (link : ℕ) (bytes : List ℕ) (waiting : List WaitingSeen) → links_of (map (grown link bytes) waiting) ≡ links_of waiting
+pub grown_links : (link : ℕ) (bytes : List ℕ) (waiting : List WaitingSeen) → links_of (map (grown link bytes) waiting) ≡ links_of waiting
 grown_links link bytes [] = refl
 grown_links link bytes (w ∷ waiting) = rw (grown_link link bytes w) (ap (λ links. w.link ∷ links) (grown_links link bytes waiting))
 
 none_is_none : (w : WaitingSeen) → None ≡ Some w → ⊥
 none_is_none w e = cc
 
-found_within : (link n made : ℕ) (waiting : List WaitingSeen) (w : WaitingSeen) → Rises n (links_of waiting) made → find (is_link link) waiting ≡ Some w → (n < link) × (link ≤ made)
+pub found_within : (link n made : ℕ) (waiting : List WaitingSeen) (w : WaitingSeen) → Rises n (links_of waiting) made → find (is_link link) waiting ≡ Some w → (n < link) × (link ≤ made)
 found_within link n made [] w rises found = absurd (none_is_none w found)
 found_within link n made (v ∷ waiting) w rises found =
     let here = rises.0 in

@@ -135,12 +135,16 @@ impl HttpFront {
         None
     }
 
-    /// An event comes. Answers what is handed up in its place.
-    fn turn(&mut self, event: &Event) -> Option<Event>
+    /// An event comes, and becomes what is handed up in its place.
+    fn turn(&mut self, event: &mut Event)
         requires { self.old.pool.owed ≡ [] }
-        ensures { Turns self.old event.now self.new (unwrap_or result event.now) }
+        ensures { Turns self.old event.old self.new event.new }
     {
-        self.note(self.at?, event)
+        if let Some(port) = self.at {
+            if let Some(up) = self.note(port, event) {
+                *event = up;
+            }
+        }
     }
 
     /// Pays all that is owed, and takes the wire's next event. It is handed up as it came; where it makes a request whole, a datagram
@@ -159,11 +163,9 @@ impl HttpFront {
     {
         pay_all(inner, self.pool.owed())?;
         self.pool.clear_owed();
-        let came = inner.next();
-        if let Ok(event) = &came {
-            if let Some(up) = self.turn(event) {
-                return Ok(up);
-            }
+        let mut came = inner.next();
+        if let Ok(event) = &mut came {
+            self.turn(event);
         }
         came
     }

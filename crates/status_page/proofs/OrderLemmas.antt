@@ -1,16 +1,16 @@
 -- Links that wait for the page, and those that are owed a reply, rise by their numbers.
-use Rattle.std.proofs.Common.{◌≡◌, ℕ, ◌<◌, ◌≤◌, if◌then◌else◌, ◌==◌, List, [], ◌∷◌, length, map, refl, sym, ap, subst, inl, inr, arith, Option, Some, None}
+use Rattle.std.proofs.Common.{◌≡◌, ℕ, if◌then◌else◌, ◌==◌, List, [], length, refl, sym, ap, subst, inl, inr, Option, Some, None}
 use Rattle.std.specs.Prelude.{nat_le}
 use Rattle.std.specs.List.{find}
-use Rattle.std.proofs.lemmas.Bool.{cases_Bool, eqb-true}
+use Rattle.std.proofs.lemmas.Bool.{cases_Bool}
 use Rattle.aprs_base.specs.Outside.{CountsLink, new_link}
 use Rattle.aprs_base.specs.declared.events.Event.{Event}
 use Rattle.aprs_base.specs.declared.events.Event.TheVariants as event
 use Rattle.aprs_base.specs.declared.texts.Addr.{Addr}
 use Rattle.http_submit.specs.Fronts.{FrontSeen}
-use Rattle.http_submit.specs.Laws.{IsInOrder, Rises, links_of}
-use Rattle.http_submit.specs.Pools.{PoolSeen, WaitingSeen, added, grown, heard, is_link, most_bytes, opened, settled, without}
-use Rattle.http_submit.proofs.OrderLemmas.{replies_rise}
+use Rattle.http_submit.specs.Laws.{IsInOrder, Rises}
+use Rattle.http_submit.specs.Pools.{PoolSeen, WaitingSeen, added, heard, is_link, most_bytes, opened, settled, without}
+use Rattle.http_submit.proofs.OrderLemmas.{found_within, grown_links, replies_rise}
 use Rattle.status_page.specs.Laws.{PagesRise}
 use Rattle.status_page.specs.PageFronts.{Hears, PageSeen, PoolTurns, PoolTurnsAt, judged, moment_after}
 use Rattle.status_page.specs.declared.requests.Get.{Get}
@@ -22,35 +22,6 @@ front v moment pool = record { at = Some v; moment = moment; pool = pool }
 
 abbrev paid : PoolSeen → PoolSeen
 paid pool = record pool { owed = [] }
-
-bounded : (n made : ℕ) (xs : List ℕ) → Rises n xs made → n ≤ made
-bounded n made [] rises = rises
-bounded n made (x ∷ xs) rises = let here = rises.0 in let rest = bounded x made xs rises.1 in omega (arith, here, rest)
-
-grown_links : (link : ℕ) (bytes : List ℕ) (waiting : List WaitingSeen) → links_of (map (grown link bytes) waiting) ≡ links_of waiting
-grown_links link bytes [] = refl
-grown_links link bytes (w ∷ waiting) = rw (same_link w) (ap (λ links. w.link ∷ links) (grown_links link bytes waiting))
-  where
-    same_link : (w : WaitingSeen) → (grown link bytes w).link ≡ w.link
-    same_link w = elim (cases_Bool (is_link link w)) [ inl holds ↦ rw holds refl | inr fails ↦ rw fails refl ]
-
-none_is_none : (w : WaitingSeen) → None ≡ Some w → ⊥
-none_is_none w e = cc
-
-found_within : (link n made : ℕ) (waiting : List WaitingSeen) (w : WaitingSeen) → Rises n (links_of waiting) made → find (is_link link) waiting ≡ Some w → (n < link) × (link ≤ made)
-found_within link n made [] w rises found = absurd (none_is_none w found)
-found_within link n made (v ∷ waiting) w rises found =
-    let here = rises.0 in
-    elim (cases_Bool (is_link link v)) [
-      | inl holds ↦
-          let same = eqb-true v.link link holds in
-          let rest = bounded v.link made (links_of waiting) rises.1 in
-          (omega (arith, here, same), omega (arith, rest, same))
-      | inr fails ↦
-          let later = found_within link v.link made waiting w rises.1 (rw fails at found) in
-          let low = later.0 in
-          (omega (arith, here, low), later.1)
-    ]
 
 -- ---- bytes come: no link is made
 

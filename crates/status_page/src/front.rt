@@ -288,8 +288,10 @@ impl PageFront {
     {
         self.pay_all(inner, self.pool.owed())?;
         self.pool.clear_owed();
-        let up = http.next(inner)?;
-        self.turn(&up);
-        Ok(up)
+        let came = http.next(inner);
+        if let Ok(up) = &came {
+            self.turn(up);
+        }
+        came
     }
 }
