@@ -60,7 +60,7 @@ impl LinkFilter {
         LinkFilter { set, named }
     }
 
-    /// The same, shared once more.
+    /// The filter of that set, which is shared once more.
     pub(crate) fn shared(set: &Option<Arc<FilterSet>>) -> Result<LinkFilter, Memory>
         ensures { IfOk result (λ filter. filter ≡ option_map arc_value set.now) }
     {

@@ -29,7 +29,7 @@ fn see_one(call: &Call, seen: &Seen, term: &Term, friend: &mut Option<Seen>)
     }
 }
 
-/// The same of each term. Few filters name a call, so that this isn't in the way of the others.
+/// Each term of a filter sees the station. Few filters name a call, so that this isn't in the way of the others.
 #[inline(never)]
 fn see_each(call: &Call, seen: &Seen, terms: &[Term], friends: &mut [Option<Seen>])
     ensures seen { friends.new ≡ friends_seen call.now seen.now terms.now friends.old }

@@ -121,7 +121,7 @@ pub(crate) fn offers_of(items: &[Item]) -> Result<Option<Vec<Offer<'_>>>, Memory
     }
 }
 
-/// The same, made in that memory.
+/// The packets of items, where these are packets alone, as a list in that memory.
 fn offers_in(alloc: Global, items: &[Item]) -> Result<Option<Vec<Offer<'_>>>, Memory>
     ensures { IfOk result (λ offers. IfSome offers (λ offers. came_all offers.items ≡ items_seen items.now)) }
 {
