@@ -5,6 +5,7 @@ pub mod Dialled
 pub mod Coming
 pub mod Linked
 pub mod Arrivals
+pub mod Briefs
 pub mod Mail
 pub mod Sources
 pub mod Held

@@ -2,6 +2,7 @@
 #![tactic(auto)]
 
 mod addresses;
+mod briefs;
 mod course;
 mod dials;
 mod inbox;

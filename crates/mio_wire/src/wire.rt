@@ -15,6 +15,7 @@ ghost use Rattle.mio_wire.specs.Seen.{IsStep, StepsTo, seen};
 ghost use Rattle.mio_wire.specs.Unread.{HandsUp, IsHeld, Leaves, forgotten, nothing, unread_after};
 ghost use Rattle.mio_wire.specs.Held.{IsServed, MovesAt, NamesListener, holding, listening, listening_after, reads_on, unread};
 
+use crate::briefs::{Brief, Head, whole};
 use crate::course::Course;
 use crate::dials::{Dial, Dials};
 use crate::links::Links;
@@ -137,7 +138,7 @@ impl<'a, R: Net + Clock> MioWire<'a, R> {
     /// The tick of another second than the last one's: listeners that failed to open a link try again, and streams of links that
     /// were closed before the last such tick are dropped.
     #[tactic(auto, unfolding(crate::specs::Held::IsServed, crate::specs::Held::MovesAt, crate::specs::Held::Retries, crate::specs::Held::holding))]
-    fn move_on(&mut self, second: u64) -> Event
+    fn move_on(&mut self, second: u64) -> Brief
         ensures event { result ≡ Tick second }
         ensures moves { (self.old.course.second ≢ None → IsServed self.old.sockets) → MovesAt self.old.course.second self.new.sockets result }
         ensures kept { self.new ≡ record self.old { sockets = self.new.sockets; parting = self.new.parting } }
@@ -148,7 +149,9 @@ impl<'a, R: Net + Clock> MioWire<'a, R> {
         if let Some(sockets) = &mut self.sockets {
             sockets.retry();
         }
-        Event::Tick(second)
+        Brief {
+            head: Head::Tick(second),
+        }
     }
 
     /// Listens, with sockets that are opened where they are not open.
@@ -217,7 +220,7 @@ impl<'a, R: Net + Clock> MioWire<'a, R> {
 
     /// What comes before anything that arrives: the first tick, a stop, a tick that is due at once, or the answer to a dead dial.
     #[tactic(auto, unfolding(crate::specs::Coming::ComesNext, crate::specs::Coming::StepGives, crate::specs::Held::MovesAt))]
-    fn due(&mut self) -> Option<Event>
+    fn due(&mut self) -> Option<Brief>
         ensures step { IsStep (seen self.old) (seen self.new) result }
         ensures gives { IfSome result (λ e. StepGives self.old.course self.old.dials.list.items (unread self.old.sockets) (Some e)) }
         ensures moves { IfSome result (MovesAt self.old.course.second self.new.sockets) }
@@ -229,17 +232,22 @@ impl<'a, R: Net + Clock> MioWire<'a, R> {
             return Some(self.move_on(self.clock().as_secs()));
         };
         if self.course.is_stopped() {
-            return Some(Event::Stop);
+            return Some(Brief { head: Head::Stop });
         }
         if self.course.pace.is_full() {
-            return Some(Event::Tick(second));
+            return Some(Brief {
+                head: Head::Tick(second),
+            });
         }
-        Some(Event::Unjoined(self.dials.give_up_dead(second)?))
+        let uplink = self.dials.give_up_dead(second)?;
+        Some(Brief {
+            head: Head::Unjoined(uplink),
+        })
     }
 
     /// Gives the tick of a second in which the sockets were asked, and else rests.
     #[tactic(auto, unfolding(crate::specs::Coming::TicksAt))]
-    fn rest(&mut self) -> Result<Option<Event>, WireError>
+    fn rest(&mut self) -> Result<Option<Brief>, WireError>
         requires served { IsServed self.old.sockets }
         ensures ticks { IfOk result (TicksAt self.old.course) }
         ensures moves { IfOk result (λ o. IfSome o (MovesAt self.old.course.second self.new.sockets)) }
@@ -254,7 +262,7 @@ impl<'a, R: Net + Clock> MioWire<'a, R> {
 
     /// Gives a tick that is due since all that came but ends is handed up, and else asks the sockets again before more links end.
     #[tactic(auto, unfolding(crate::specs::Coming::TicksAt, crate::specs::Held::MovesAt))]
-    fn ask_again(&mut self) -> Result<Option<Event>, WireError>
+    fn ask_again(&mut self) -> Result<Option<Brief>, WireError>
         ensures ticks { IfOk result (TicksAt self.old.course) }
         ensures moves { IfOk result (λ o. IfSome o (MovesAt self.old.course.second self.new.sockets)) }
         ensures holding { holding self.new.sockets ≡ holding self.old.sockets }
@@ -262,7 +270,9 @@ impl<'a, R: Net + Clock> MioWire<'a, R> {
     {
         if let Some(second) = self.course.second {
             if self.course.pace.is_due() && !self.reads_on() {
-                return Ok(Some(Event::Tick(second)));
+                return Ok(Some(Brief {
+                    head: Head::Tick(second),
+                }));
             }
         }
         self.poll(Duration::ZERO)?;
@@ -272,7 +282,7 @@ impl<'a, R: Net + Clock> MioWire<'a, R> {
     /// Asks the sockets in a new second, twice before its tick, gives a tick that is due since all that came is handed up, and else waits.
     /// Where the clock is set back between the two, the first doesn't count.
     #[tactic(auto, unfolding(crate::specs::Coming::TicksAt, crate::specs::Held::MovesAt))]
-    fn idle(&mut self) -> Result<Option<Event>, WireError>
+    fn idle(&mut self) -> Result<Option<Brief>, WireError>
         ensures once { OnOk result (self.old.asked ≡ true → self.new.asked ≡ false) }
         ensures ticks { IfOk result (TicksAt self.old.course) }
         ensures moves { IfOk result (λ o. IfSome o (MovesAt self.old.course.second self.new.sockets)) }
@@ -289,7 +299,9 @@ impl<'a, R: Net + Clock> MioWire<'a, R> {
         }
         self.asked = false;
         if self.course.pace.is_due() && !self.reads_on() {
-            return Ok(Some(Event::Tick(second)));
+            return Ok(Some(Brief {
+                head: Head::Tick(second),
+            }));
         }
         self.wait(now)?;
         Ok(None)
@@ -302,16 +314,16 @@ impl<'a, R: Net + Clock> MioWire<'a, R> {
         ensures moves { IfOk result (λ o. IfSome o (MovesAt self.old.course.second self.new.sockets)) }
         ensures kept { self.new ≡ record self.old { sockets = self.new.sockets; parting = self.new.parting; links = self.new.links; dials = self.new.dials; ahead = self.new.ahead; asked = self.new.asked } }
     {
-        if let Some(event) = self.due() {
-            return Ok(Some(event));
+        if let Some(brief) = self.due() {
+            return Ok(Some(brief.event()));
         }
         if self.is_to_ask() {
-            return self.ask_again();
+            return whole(self.ask_again());
         }
         if self.has_arrived() {
             return self.arrived();
         }
-        self.rest()
+        whole(self.rest())
     }
 
     /// Offers bytes to a link, which is let go where it is gone.

@@ -10,6 +10,7 @@ ghost use Rattle.mio_wire.specs.declared.dials.Dials.{Dials};
 
 use super::Sockets;
 use crate::addresses::addr_of;
+use crate::briefs::{Brief, Head, whole};
 use crate::dials::{Dials, Outcome};
 use crate::links::{Links, Reading};
 use crate::mail::{Received, receive};
@@ -42,10 +43,10 @@ impl Sockets {
             return Ok(None);
         };
         match source_of(ready.token) {
-            Source::Link(number) => self.serve_link(links, number, ready),
-            Source::Ear(place) => self.serve_ear(links, place, ready.token),
+            Source::Link(number) => whole(self.serve_link(links, number, ready)),
+            Source::Ear(place) => whole(self.serve_ear(links, place, ready.token)),
             Source::Mailbox(place) => self.serve_mailbox(place, ready.token),
-            Source::Dial(token) => self.serve_dial(links, dials, token, ready),
+            Source::Dial(token) => whole(self.serve_dial(links, dials, token, ready)),
         }
     }
 
@@ -100,7 +101,7 @@ impl Sockets {
         dials: &mut Dials,
         token: usize,
         ready: Ready,
-    ) -> Result<Option<Event>, AllocError>
+    ) -> Result<Option<Brief>, AllocError>
         ensures step { StepsTo (seen_of self.old links.old dials.old) (seen_of self.new links.new dials.new) result }
         ensures arrival { IfOk result IsArrival }
         ensures inbox { self.new.inbox ≡ self.old.inbox }
@@ -112,7 +113,9 @@ impl Sockets {
         match dials.outcome(place, ready.writable || ready.closed) {
             Outcome::Waits => Ok(None),
             Outcome::Joins => self.join(links, dials, place),
-            Outcome::Fails => Ok(Some(Event::Unjoined(dials.give_up(place)))),
+            Outcome::Fails => Ok(Some(Brief {
+                head: Head::Unjoined(dials.give_up(place)),
+            })),
         }
     }
 
@@ -123,27 +126,33 @@ impl Sockets {
         links: &mut Links<TcpStream>,
         dials: &mut Dials,
         place: usize,
-    ) -> Result<Option<Event>, AllocError>
+    ) -> Result<Option<Brief>, AllocError>
         requires { place < length dials.old.list.items }
         ensures step { StepsTo (seen_of self.old links.old dials.old) (seen_of self.new links.new dials.new) result }
         ensures arrival { IfOk result IsArrival }
         ensures inbox { self.new.inbox ≡ self.old.inbox }
     {
         let Some(number) = links.made.checked_add(1) else {
-            return Ok(Some(Event::Unjoined(dials.give_up(place))));
+            return Ok(Some(Brief {
+                head: Head::Unjoined(dials.give_up(place)),
+            }));
         };
         links.make_room()?;
         let dial = dials.take(place);
         let uplink = dial.uplink;
         let at = dial.at;
         let Some(stream) = self.taken_over(dial.stream, number) else {
-            return Ok(Some(Event::Unjoined(uplink)));
+            return Ok(Some(Brief {
+                head: Head::Unjoined(uplink),
+            }));
         };
         links.add(stream)?;
-        Ok(Some(Event::Joined {
-            uplink,
-            link: number,
-            at,
+        Ok(Some(Brief {
+            head: Head::Joined {
+                uplink,
+                link: number,
+                at,
+            },
         }))
     }
 
@@ -166,7 +175,7 @@ impl Sockets {
         links: &mut Links<TcpStream>,
         place: usize,
         token: usize,
-    ) -> Result<Option<Event>, AllocError>
+    ) -> Result<Option<Brief>, AllocError>
         ensures named { IfOk result (OpensAt (listening_of self.old).links place) }
         ensures step { (dials : Dials) → StepsTo (seen_of self.old links.old dials) (seen_of self.new links.new dials) result }
         ensures inbox { self.new.inbox ≡ self.old.inbox }
@@ -185,7 +194,7 @@ impl Sockets {
         links: &mut Links<TcpStream>,
         place: usize,
         token: usize,
-    ) -> Result<Option<Event>, AllocError>
+    ) -> Result<Option<Brief>, AllocError>
         ensures named { IfOk result (OpensAt (listening_of self.old).links place) }
         ensures later { links.old.made + 1 < 2 ^ 32 → OnOk result (IfSome (slice_get self.old.ears.items place) (λ ear. self.new.turns.later.items ≡ waiting_after 64 ear.opened token self.old.turns.later.items)) }
         ensures step { (dials : Dials) → StepsTo (seen_of self.old links.old dials) (seen_of self.new links.new dials) result }
@@ -207,10 +216,12 @@ impl Sockets {
             Ok((stream, from)) => {
                 self.count_opened(place);
                 links.add(stream)?;
-                Ok(Some(Event::Opened {
-                    listener,
-                    link: number,
-                    from,
+                Ok(Some(Brief {
+                    head: Head::Opened {
+                        listener,
+                        link: number,
+                        from,
+                    },
                 }))
             }
             Err(error) => {
@@ -247,7 +258,7 @@ impl Sockets {
         links: &mut Links<S>,
         number: u32,
         ready: Ready,
-    ) -> Result<Option<Event>, AllocError>
+    ) -> Result<Option<Brief>, AllocError>
         requires { length self.old.inbox.left ≡ 0 }
         ensures step { (dials : Dials) → StepsTo (seen_of self.old links.old dials) (seen_of self.new links.new dials) result }
         ensures arrival { IfOk result IsArrival }
@@ -259,7 +270,9 @@ impl Sockets {
             return Ok(None);
         };
         if links.note(place, ready) {
-            return Ok(Some(Event::Room(number)));
+            return Ok(Some(Brief {
+                head: Head::Room(number),
+            }));
         }
         self.turns.advance();
         if !ready.readable || (links.is_later(place) && !ready.again) {
@@ -275,7 +288,7 @@ impl Sockets {
         links: &mut Links<S>,
         place: usize,
         number: u32,
-    ) -> Result<Option<Event>, AllocError>
+    ) -> Result<Option<Brief>, AllocError>
         requires empty { length self.old.inbox.left ≡ 0 }
         requires place { place < length links.old.list.items }
         requires at { option_map (λ l. l.number) (slice_get links.old.list.items place) ≡ Some number }
@@ -291,7 +304,9 @@ impl Sockets {
         let reading = links.read(place, &mut self.inbox);
         if matches!(reading, Reading::End) {
             self.let_go(links, number);
-            return Ok(Some(Event::Ended(number)));
+            return Ok(Some(Brief {
+                head: Head::Ended(number),
+            }));
         }
         self.turns.put_off_read(reading, number)?;
         Ok(None)

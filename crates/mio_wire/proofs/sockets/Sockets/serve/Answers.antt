@@ -8,13 +8,13 @@ pub returns-in_default-clause-step : goal.returns-in_default-clause-step
 returns-in_default-clause-step c = still (seen_of c.args.self.now c.args.links.now c.args.dials.now)
 
 pub returns-in-Link-clause-step : goal.returns-in-Link-clause-step
-returns-in-Link-clause-step c = c.serve_link.ensures.step c.args.dials.now
+returns-in-Link-clause-step c = rw c.whole.ensures (c.serve_link.ensures.step c.args.dials.now)
 
 pub returns-in-Ear-clause-step : goal.returns-in-Ear-clause-step
-returns-in-Ear-clause-step c = c.serve_ear.ensures.step c.args.dials.now
+returns-in-Ear-clause-step c = rw c.whole-in-Ear.ensures (c.serve_ear.ensures.step c.args.dials.now)
 
 pub returns-in-Ear-clause-arrival : goal.returns-in-Ear-clause-arrival
-returns-in-Ear-clause-arrival c = opened_arrives (listening_of c.args.self.now).links c.in-Ear.place c.serve_ear.result c.serve_ear.ensures.named
+returns-in-Ear-clause-arrival c = rw c.whole-in-Ear.ensures (opened_arrives (listening_of c.args.self.now).links c.in-Ear.place c.serve_ear.result c.serve_ear.ensures.named)
 
 pub returns-in-Mailbox-clause-step : goal.returns-in-Mailbox-clause-step
 returns-in-Mailbox-clause-step c =

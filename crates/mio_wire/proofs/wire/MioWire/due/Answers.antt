@@ -16,8 +16,8 @@ returns-then-is_stopped-clause-step g c = stops (seen c.args.self.now)
 pub returns-then-is_full-clause-step : goal.returns-then-is_full-clause-step
 returns-then-is_full-clause-step g c = ticks (seen c.args.self.now) (seen c.args.self.now) c.in-Some.second refl
 
-pub returns-in_err-give_up_dead-clause-step : goal.returns-in_err-give_up_dead-clause-step
-returns-in_err-give_up_dead-clause-step g c = rw (c.from_residual.ensures, c.in_err-give_up_dead.ensures.none) (still (seen c.args.self.now))
+pub returns-in_err-uplink-clause-step : goal.returns-in_err-uplink-clause-step
+returns-in_err-uplink-clause-step g c = rw (c.from_residual.ensures, c.in_err-uplink.ensures.none) (still (seen c.args.self.now))
 
 pub returns-clause-step : goal.returns-clause-step
-returns-clause-step g c = unjoins (seen c.args.self.now) c.in_ok-give_up_dead.field-0 c.give_up_dead.new.self.list.items c.in_ok-give_up_dead.ensures.answered
+returns-clause-step g c = unjoins (seen c.args.self.now) c.in_ok-uplink.uplink c.give_up_dead.new.self.list.items c.in_ok-uplink.ensures.answered
