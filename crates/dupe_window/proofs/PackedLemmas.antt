@@ -1,13 +1,16 @@
 -- Keys and their texts.
-use Rattle.std.proofs.Common.{◌≡◌, ℕ, suc, None, Bool, true, false, filter, List, [], ◌∷◌, ◌++◌, length, take, drop, refl, sym, ap, subst, ◌∙◌, arith}
+use Rattle.std.proofs.Common.{None, ◌≡◌, ◌==◌, ℕ, suc, Bool, true, false, filter, List, [], ◌∷◌, ◌++◌, length, take, drop, refl, sym, ap, subst, ◌∙◌, arith}
 use Rattle.std.specs.Bool.{Decides, one_answer}
-use Rattle.std.specs.Cmp.{unsigned_Decides}
+use Rattle.std.specs.Cmp.{IsEquivalence, and_equiv, on_equiv, unsigned_Decides}
 use Rattle.std.specs.Map.{lookup}
 use Rattle.std.proofs.Math.Seq.{take-append_seam, drop-append_seam}
 use Rattle.std.proofs.lemmas.Bool.{and_parts}
+use Rattle.std.proofs.lemmas.Cmp.{nat_eq_equiv, nat_list_eq_equiv}
 use Rattle.std.proofs.lemmas.Slice.Eq.{slice_eq-Decides}
 use Rattle.dupe_window.specs.Keys.{Key, is_same_key, is_text}
-use Rattle.dupe_window.specs.Packed.{ArePacked, packed, unpacked, unpacked_pair, unpacked_pairs}
+use Rattle.std.specs.declared.random_state.RandomState.{RandomState}
+use Rattle.dupe_window.specs.Digests.{AreDigestedBy, DigestedText, digest_by, digested_by, is_same_text, text_of, unpacked_pair, unpacked_pairs}
+use Rattle.dupe_window.specs.Packed.{packed, unpacked}
 use Rattle.dupe_window.specs.Windows.{is_inside, is_inside_pair}
 use Rattle.dupe_window.proofs.PartLemmas.{same_key_equiv}
 
@@ -23,6 +26,10 @@ unpacked-packed key =
     ∙ ap (λ text. key_from key.source (take (length key.dest) text) (drop (length key.dest) text)) past
     ∙ ap (λ dest. key_from key.source dest (drop (length key.dest) rest)) (take-append_seam key.dest key.body)
     ∙ ap (λ body. key_from key.source key.dest body) (drop-append_seam key.dest key.body)
+
+-- so it is with its digest
+pub unpacked-text_of : (hasher : RandomState) (key : Key) (text : DigestedText) → text ≡ text_of (digested_by hasher key) → unpacked text.text ≡ key
+unpacked-text_of hasher key text is = ap (λ (other : DigestedText). unpacked other.text) is ∙ unpacked-packed key
 
 -- ---- what is the same
 
@@ -40,36 +47,44 @@ key_decides a b = (same, λ is. subst (λ key. is_same_key a key ≡ true) is (s
         ∙ ap (λ dest. key_from b.source dest a.body) ((text_decides a.dest b.dest).0 second.0)
         ∙ ap (λ body. key_from b.source b.dest body) ((text_decides a.body b.body).0 second.1)
 
--- two keys are the same where their texts are
-same_packed : (key : Key) (text : List ℕ) → packed (unpacked text) ≡ text → is_text (packed key) text ≡ is_same_key key (unpacked text)
-same_packed key text is = one_answer (is_text (packed key) text) (is_same_key key (unpacked text)) (there, back) (key_decides key (unpacked text))
-  where
-    there : is_text (packed key) text ≡ true → key ≡ unpacked text
-    there same = sym (unpacked-packed key) ∙ ap unpacked ((text_decides (packed key) text).0 same)
+same_text_equiv : IsEquivalence is_same_text
+same_text_equiv = and_equiv (on_equiv (λ text. text.digest) nat_eq_equiv) (on_equiv (λ text. text.text) nat_list_eq_equiv)
 
-    back : key ≡ unpacked text → is_text (packed key) text ≡ true
-    back same = (text_decides (packed key) text).1 (ap packed same ∙ is)
+-- two keys are the same where their texts and the digests of these are
+same_packed : (hasher : RandomState) (key : Key) (text : DigestedText) → text_of (digested_by hasher (unpacked text.text)) ≡ text
+    → is_same_text (text_of (digested_by hasher key)) text ≡ is_same_key key (unpacked text.text)
+same_packed hasher key text is = one_answer (is_same_text (text_of (digested_by hasher key)) text) (is_same_key key (unpacked text.text)) (there, back) (key_decides key (unpacked text.text))
+  where
+    there : is_same_text (text_of (digested_by hasher key)) text ≡ true → key ≡ unpacked text.text
+    there same = sym (unpacked-packed key) ∙ ap unpacked ((text_decides (packed key) text.text).0 (and_parts (digest_by hasher (packed key) == text.digest) (is_text (packed key) text.text) same).1)
+
+    back : key ≡ unpacked text.text → is_same_text (text_of (digested_by hasher key)) text ≡ true
+    back same = subst (λ other. is_same_text (text_of (digested_by hasher key)) other ≡ true) (ap (λ other. text_of (digested_by hasher other)) same ∙ is) (same_text_equiv.refl (text_of (digested_by hasher key)))
 
 -- ---- pairs
 
-pub lookup-unpacked : (key : Key) (pairs : List (List ℕ × ℕ)) → ArePacked pairs → lookup (is_text (packed key)) pairs ≡ lookup (is_same_key key) (unpacked_pairs pairs)
-lookup-unpacked key [] are = refl
-lookup-unpacked key (pair ∷ pairs) are =
-    by (is_same_key key (unpacked pair.0)) refl (same_packed key pair.0 (are 0 pair (omega arith)))
-    (lookup-unpacked key pairs (λ k d within. are (suc k) d (omega arith)))
+pub lookup-unpacked : (hasher : RandomState) (key : Key) (pairs : List (DigestedText × ℕ)) → AreDigestedBy hasher pairs
+    → lookup (is_same_text (text_of (digested_by hasher key))) pairs ≡ lookup (is_same_key key) (unpacked_pairs pairs)
+lookup-unpacked hasher key [] are = refl
+lookup-unpacked hasher key (pair ∷ pairs) are =
+    by (is_same_key key (unpacked pair.0.text)) refl (same_packed hasher key pair.0 (are 0 pair (omega arith)))
+    (lookup-unpacked hasher key pairs (λ k d within. are (suc k) d (omega arith)))
   where
-    by : (b : Bool) → is_same_key key (unpacked pair.0) ≡ b → is_text (packed key) pair.0 ≡ is_same_key key (unpacked pair.0)
-        → lookup (is_text (packed key)) pairs ≡ lookup (is_same_key key) (unpacked_pairs pairs)
-        → lookup (is_text (packed key)) (pair ∷ pairs) ≡ lookup (is_same_key key) (unpacked_pairs (pair ∷ pairs))
+    test : DigestedText → Bool
+    test = is_same_text (text_of (digested_by hasher key))
+
+    by : (b : Bool) → is_same_key key (unpacked pair.0.text) ≡ b → test pair.0 ≡ is_same_key key (unpacked pair.0.text)
+        → lookup test pairs ≡ lookup (is_same_key key) (unpacked_pairs pairs)
+        → lookup test (pair ∷ pairs) ≡ lookup (is_same_key key) (unpacked_pairs (pair ∷ pairs))
     by true is same rest = rw (same, is) refl
     by false is same rest = rw (same, is) rest
 
-pub no_pairs : (key : Key) (pairs : List (List ℕ × ℕ)) → length pairs ≡ 0 → None ≡ lookup (is_same_key key) (unpacked_pairs pairs)
+pub no_pairs : (key : Key) (pairs : List (DigestedText × ℕ)) → length pairs ≡ 0 → None ≡ lookup (is_same_key key) (unpacked_pairs pairs)
 no_pairs key [] none = refl
 no_pairs key (pair ∷ pairs) none = absurd (cc)
 
 -- what is kept by the moments alone
-pub unpacked_pairs-filter : (seconds now : ℕ) (pairs : List (List ℕ × ℕ))
+pub unpacked_pairs-filter : (seconds now : ℕ) (pairs : List (DigestedText × ℕ))
     → unpacked_pairs (filter (λ pair. is_inside seconds now pair.1) pairs) ≡ filter (is_inside_pair seconds now) (unpacked_pairs pairs)
 unpacked_pairs-filter seconds now [] = refl
 unpacked_pairs-filter seconds now (pair ∷ pairs) = by (is_inside seconds now pair.1) refl (unpacked_pairs-filter seconds now pairs)

@@ -1,5 +1,5 @@
 -- What is inside a window, and up to which moment it goes.
-use Rattle.std.proofs.Common.{◌≡◌, ℕ, ◌-◌, ◌≤◌, ◌<◌, Bool, true, false, nat_le, filter, List, [], ◌∷◌, ◌++◌, length, get_or, take, Option, Some, None, IfSome, refl, ap, ◌∙◌, arith}
+use Rattle.std.proofs.Common.{◌≡◌, ℕ, ◌-◌, ◌≤◌, ◌<◌, Bool, true, false, nat_le, filter, List, [], ◌∷◌, ◌++◌, length, get_or, take, Option, Some, None, IfSome, is_some, refl, ap, ◌∙◌, arith}
 use Rattle.std.specs.List.{list_all}
 use Rattle.std.proofs.lemmas.Bool.{and_parts, ltb-true, leb-true}
 use Rattle.std.proofs.lemmas.Bool.Decides.{nat_tests}
@@ -9,7 +9,7 @@ use Rattle.std.proofs.lemmas.List.Sorted.{IsNonDecreasingBy-push}
 use Rattle.std.proofs.lemmas.List.Sums.{AllPass-from_list_all, list_all-from_AllPass}
 use Rattle.std.proofs.lemmas.Map.Entries.{All-lookup}
 use Rattle.dupe_window.specs.Keys.{Key, is_same_key}
-use Rattle.dupe_window.specs.Windows.{IsRising, IsUpTo, WindowSeen, expired, if_inside, is_inside, is_inside_pair, is_up_to, kept_at, seen_at, with_key}
+use Rattle.dupe_window.specs.Windows.{IsRising, IsUpTo, WindowSeen, expired, if_inside, is_inside, is_inside_pair, is_up_to, kept_at, seen_at, with_key, with_new}
 
 -- ---- lists
 
@@ -67,6 +67,15 @@ pub seen_at-kept : (now : ℕ) (key : Key) (window : WindowSeen) → list_all (i
 seen_at-kept now key window inside =
     if_inside_there window.seconds now (kept_at window key)
     (All-lookup (λ moment. is_inside window.seconds now moment ≡ true) (is_same_key key) window.pairs (AllPass-from_list_all (is_inside_pair window.seconds now) window.pairs inside))
+
+-- ---- what is put in
+
+-- where a key is seen nothing is put in
+pub with_new-seen : (key : Key) (now : ℕ) (window : WindowSeen) → is_some (seen_at now key window) ≡ true → window ≡ with_new key now window
+with_new-seen key now window seen = rw seen refl
+
+pub with_new-unseen : (key : Key) (now : ℕ) (window : WindowSeen) → is_some (seen_at now key window) ≡ false → with_key key now window ≡ with_new key now window
+with_new-unseen key now window unseen = rw unseen refl
 
 -- ---- up to which moment
 

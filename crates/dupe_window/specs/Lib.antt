@@ -1,3 +1,4 @@
+pub mod Digests
 pub mod Keys
 pub mod Packed
 pub mod Recalled

@@ -1,5 +1,5 @@
 -- A key as one text: a number for the length of its source, one for that of its destination, and then its source, its destination and its body.
-use Rattle.std.specs.Prelude.{ℕ, ◌≡◌, List, [], ◌∷◌, ◌++◌, length, take, drop, map, All}
+use Rattle.std.specs.Prelude.{ℕ, List, [], ◌∷◌, ◌++◌, length, take, drop}
 use Rattle.dupe_window.specs.Keys.{Key}
 
 abbrev pub packed : Key → List ℕ
@@ -14,14 +14,3 @@ abbrev pub unpacked : List ℕ → Key
 unpacked [] = divided 0 0 []
 unpacked (source ∷ []) = divided 0 0 []
 unpacked (source ∷ dest ∷ text) = divided source dest text
-
--- pairs whose keys are such texts
-abbrev pub unpacked_pair : List ℕ × ℕ → Key × ℕ
-unpacked_pair pair = (unpacked pair.0, pair.1)
-
-abbrev pub unpacked_pairs : List (List ℕ × ℕ) → List (Key × ℕ)
-unpacked_pairs pairs = map unpacked_pair pairs
-
--- each is the text of a key
-abbrev pub ArePacked : List (List ℕ × ℕ) → Type 0
-ArePacked pairs = All (λ pair. packed (unpacked pair.0) ≡ pair.0) pairs

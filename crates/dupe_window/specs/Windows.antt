@@ -39,6 +39,10 @@ seen_at now key window = if_inside window.seconds now (kept_at window key)
 abbrev pub with_key : Key → ℕ → WindowSeen → WindowSeen
 with_key key now window = record window { pairs = window.pairs ++ (key, now) ∷ [] }
 
+-- with a key that is not seen in the window
+abbrev pub with_new : Key → ℕ → WindowSeen → WindowSeen
+with_new key now window = if is_some (seen_at now key window) then window else with_key key now window
+
 -- without what is no more inside
 abbrev pub expired : ℕ → WindowSeen → WindowSeen
 expired now window = record window { pairs = filter (is_inside_pair window.seconds now) window.pairs }

@@ -2,6 +2,7 @@
 ghost use Rattle.std.specs.Prelude.{◌≡◌, ◌≤◌, length, IfOk};
 ghost use Rattle.std.specs.List.{suffix_len};
 ghost use Rattle.aprs_base.specs.Bytes.{base_of, is_blank};
+ghost use Rattle.dupe_window.specs.Digests.{digested_by, text_of};
 ghost use Rattle.dupe_window.specs.Keys.{key_of, without_last_blanks};
 ghost use Rattle.dupe_window.specs.Packed.{packed};
 
@@ -9,7 +10,7 @@ use aprs_base::{Call, Memory, Parts, first_place, trailing_blanks};
 use arrayvec::ArrayVec;
 use indexmap::Equivalent;
 use std::alloc::Global;
-use std::hash::{Hash, Hasher};
+use std::hash::{BuildHasher, Hash, Hasher, RandomState};
 use std::marker::Model;
 
 /// What the copies of a packet have in common: its source, its destination without the SSID, and its body without the blanks
@@ -100,41 +101,108 @@ impl Hash for Key {
     }
 }
 
-/// A key that is kept: its text, in no more room than that needs.
+/// A key with its digest, from which a map tells where the key is.
+#[derive(Drop)]
+pub struct Digested<'a> {
+    key: &'a Key,
+    digest: u64,
+}
+
+impl<'a> Model for Digested<'a> {
+    ghost use Rattle.dupe_window.specs.Digests.{DigestedKey};
+
+    ghost Value = { DigestedKey };
+
+    ghost view = { λ d. record { key = d.key.now; digest = d.digest } };
+}
+
+impl<'a> Digested<'a> {
+    /// The key with its digest. Only who knows the hasher's random keys can tell which texts have the same.
+    pub fn of(hasher: &RandomState, key: &'a Key) -> Digested<'a>
+        ensures { result ≡ digested_by hasher.now key.now }
+    {
+        Digested {
+            key,
+            digest: hasher.hash_one(key),
+        }
+    }
+}
+
+impl<'a> PartialEq for Digested<'a> {
+    ghost use Rattle.std.specs.Cmp.Rules.{comparing};
+    ghost use Rattle.std.proofs.Common.{rules};
+    ghost use Rattle.dupe_window.specs.Digests.{is_same_digested};
+
+    ghost eq = { is_same_digested };
+
+    ghost laws = { Prim.search (comparing, rules) };
+
+    fn eq(&self, other: &Digested<'a>) -> bool {
+        self.digest == other.digest && *self.key == *other.key
+    }
+}
+
+impl<'a> Eq for Digested<'a> {
+    ghost use Rattle.std.specs.Cmp.Rules.{comparing};
+    ghost use Rattle.std.proofs.Common.{rules};
+
+    ghost laws = { Prim.search (comparing, rules) };
+}
+
+/// Its digest is hashed alone.
+impl<'a> Hash for Digested<'a> {
+    ghost use Rattle.std.specs.Hash as fed;
+    ghost use Rattle.std.specs.Cmp.Rules.{hashing};
+    ghost use Rattle.std.proofs.Common.{rules};
+
+    ghost hash_input = { λ d. fed.u64 d.digest };
+
+    ghost respects_eq = { Prim.search (hashing, rules) };
+
+    fn hash<H: Hasher>(&self, state: &mut H) {
+        state.write_u64(self.digest);
+    }
+}
+
+/// A key that is kept: its text, in no more room than that needs, and its digest.
 #[derive(Drop)]
 pub struct KeptKey {
     text: Vec<u8>,
+    digest: u64,
 }
 
 impl Model for KeptKey {
-    ghost use Rattle.std.specs.Prelude.{ℕ, List};
+    ghost use Rattle.dupe_window.specs.Digests.{DigestedText};
 
-    ghost Value = { List ℕ };
+    ghost Value = { DigestedText };
 
-    ghost view = { λ k. k.text.items };
+    ghost view = { λ k. record { text = k.text.items; digest = k.digest } };
 }
 
 impl KeptKey {
-    /// A copy of a key.
-    pub fn copied(alloc: Global, key: &Key) -> Result<KeptKey, Memory>
-        ensures { IfOk result (λ kept. kept ≡ packed key.now) }
+    /// A copy of a key with its digest.
+    pub fn copied(alloc: Global, key: &Digested) -> Result<KeptKey, Memory>
+        ensures { IfOk result (λ kept. kept ≡ text_of key.now) }
     {
-        let text = key.bytes().to_vec(alloc)?;
-        Ok(KeptKey { text })
+        let text = key.key.bytes().to_vec(alloc)?;
+        Ok(KeptKey {
+            text,
+            digest: key.digest,
+        })
     }
 }
 
 impl PartialEq for KeptKey {
     ghost use Rattle.std.specs.Cmp.Rules.{comparing};
     ghost use Rattle.std.proofs.Common.{rules};
-    ghost use Rattle.dupe_window.specs.Keys.{is_text};
+    ghost use Rattle.dupe_window.specs.Digests.{is_same_text};
 
-    ghost eq = { is_text };
+    ghost eq = { is_same_text };
 
     ghost laws = { Prim.search (comparing, rules) };
 
     fn eq(&self, other: &KeptKey) -> bool {
-        self.text.as_slice() == other.text.as_slice()
+        self.digest == other.digest && self.text.as_slice() == other.text.as_slice()
     }
 }
 
@@ -146,33 +214,34 @@ impl Eq for KeptKey {
 }
 
 impl Hash for KeptKey {
-    ghost use Rattle.std.specs.Prelude.{◌∷◌, []};
-    ghost use Rattle.std.proofs.Common.{ap};
-    ghost use Rattle.std.specs.Cmp.Lexicographic.{bytes_decides};
+    ghost use Rattle.std.specs.Hash as fed;
+    ghost use Rattle.std.specs.Cmp.Rules.{hashing};
+    ghost use Rattle.std.proofs.Common.{rules};
 
-    ghost hash_input = { λ k. k ∷ [] };
+    ghost hash_input = { λ k. fed.u64 k.digest };
 
-    ghost respects_eq = { λ x y same. ap (λ text. text ∷ []) ((bytes_decides x y).0 same) };
+    ghost respects_eq = { Prim.search (hashing, rules) };
 
     fn hash<H: Hasher>(&self, state: &mut H) {
-        state.write(self.text.as_slice());
+        state.write_u64(self.digest);
     }
 }
 
-impl Equivalent<KeptKey> for &Key {
-    ghost use Rattle.std.specs.Prelude.{◌∷◌, []};
+impl<'a> Equivalent<KeptKey> for &Digested<'a> {
+    ghost use Rattle.std.specs.Cmp.{and_equiv, on_equiv};
+    ghost use Rattle.std.specs.Hash as fed;
     ghost use Rattle.std.proofs.Common.{ap};
-    ghost use Rattle.std.specs.Cmp.Lexicographic.{bytes_decides, nat_list_eq_equiv};
-    ghost use Rattle.dupe_window.specs.Keys.{is_text};
-    ghost use Rattle.dupe_window.specs.Packed.{packed};
+    ghost use Rattle.std.proofs.lemmas.Bool.{and_parts, eqb-true};
+    ghost use Rattle.std.proofs.lemmas.Cmp.{nat_eq_equiv, nat_list_eq_equiv};
+    ghost use Rattle.dupe_window.specs.Digests.{is_same_text, text_of};
 
-    ghost equivalent = { λ q k. is_text (packed q.now) k };
+    ghost equivalent = { λ q k. is_same_text (text_of q.now) k };
 
-    ghost respects_hash = { λ q k same. ap (λ text. text ∷ []) ((bytes_decides (packed q.now) k).0 same) };
+    ghost respects_hash = { λ q k same. ap fed.u64 (eqb-true _ _ (and_parts _ _ same).0) };
 
-    ghost respects_eq = { λ q x y. nat_list_eq_equiv.congr (packed q.now) x y };
+    ghost respects_eq = { λ q x y. (and_equiv (on_equiv (λ text. text.digest) nat_eq_equiv) (on_equiv (λ text. text.text) nat_list_eq_equiv)).congr (text_of q.now) x y };
 
     fn equivalent(&self, kept: &KeptKey) -> bool {
-        self.bytes() == kept.text.as_slice()
+        self.digest == kept.digest && self.key.bytes() == kept.text.as_slice()
     }
 }

@@ -1,33 +1,33 @@
 //! Keys with their moments, in the order in which they came.
-ghost use Rattle.std.specs.Prelude.{ℕ, List, Option, ◌≡◌, ◌-◌, None, OnOk, OnErr, ◌++◌, ◌∷◌, [], filter, slice_get, length};
+ghost use Rattle.std.specs.Prelude.{◌≡◌, ◌-◌, None, OnOk, OnErr, ◌++◌, ◌∷◌, [], filter, slice_get, length};
 ghost use Rattle.std.specs.Map.{lookup};
 ghost use Rattle.std.specs.Option.{option_map};
-ghost use Rattle.dupe_window.specs.Keys.{Key, is_same_key};
+ghost use Rattle.dupe_window.specs.Digests.{IsDigestedBy, digested_by};
+ghost use Rattle.dupe_window.specs.Keys.{is_same_key};
 ghost use Rattle.dupe_window.specs.Windows.{is_inside, is_inside_pair, moment_in};
 
-use crate::keys::{KeptKey, Key};
+use crate::keys::{Digested, KeptKey, Key};
 use aprs_base::Memory;
 use indexmap::IndexMap;
 use std::alloc::Global;
 use std::hash::RandomState;
 use std::marker::Model;
 
-/// Keys with their moments. A key is kept as one text of no more than its length.
+/// Keys with their moments. A key is kept as one text of no more than its length, and with its digest.
 #[derive(Drop)]
 pub struct Pairs {
-    texts: IndexMap<KeptKey, u64, RandomState>,
+    texts: IndexMap<KeptKey, u64>,
+    hasher: RandomState,
 }
 
 impl Model for Pairs {
-    ghost use Rattle.std.specs.Prelude.{ℕ, List};
-    ghost use Rattle.dupe_window.specs.Keys.{Key};
-    ghost use Rattle.dupe_window.specs.Packed.{ArePacked, unpacked_pairs};
+    ghost use Rattle.dupe_window.specs.Digests.{AreDigestedBy, PairsSeen, unpacked_pairs};
 
-    ghost Value = { List (Key × ℕ) };
+    ghost Value = { PairsSeen };
 
-    ghost view = { λ p. unpacked_pairs p.texts.entries };
+    ghost view = { λ p. record { pairs = unpacked_pairs p.texts.entries; hasher = p.hasher } };
 
-    ghost invariant = { λ p. ArePacked p.texts.entries };
+    ghost invariant = { λ p. AreDigestedBy p.hasher p.texts.entries };
 }
 
 /// Whether that moment was less than so many seconds ago.
@@ -40,18 +40,27 @@ pub fn is_inside(seconds: u64, now: u64, moment: u64) -> bool
 impl Pairs {
     /// No pairs.
     pub fn new(alloc: Global, hasher: RandomState) -> Pairs
-        ensures { result ≡ [] }
+        ensures { result ≡ record { pairs = []; hasher = hasher } }
     {
         Pairs {
-            texts: IndexMap::with_hasher(alloc, hasher),
+            texts: IndexMap::new(alloc),
+            hasher,
         }
     }
 
-    /// The moment that is kept with a key.
-    pub fn moment_of(&self, key: &Key) -> Option<u64>
-        ensures { result ≡ lookup (is_same_key key.now) self.now }
+    /// The key with its digest, as keys are kept here.
+    pub fn digested<'a>(&self, key: &'a Key) -> Digested<'a>
+        ensures { result ≡ digested_by self.now.hasher key.now }
     {
-        // While none is kept no key needs to be hashed.
+        Digested::of(&self.hasher, key)
+    }
+
+    /// The moment that is kept with a key.
+    pub fn moment_of(&self, key: &Digested) -> Option<u64>
+        requires { IsDigestedBy self.now.hasher key.now }
+        ensures { result ≡ lookup (is_same_key key.now.key) self.now.pairs }
+    {
+        // While none is kept no table is gone through.
         if self.texts.is_empty() {
             return None;
         }
@@ -60,7 +69,7 @@ impl Pairs {
 
     /// The first moment.
     pub fn first(&self) -> Option<u64>
-        ensures { result ≡ option_map moment_in (slice_get self.now 0) }
+        ensures { result ≡ option_map moment_in (slice_get self.now.pairs 0) }
     {
         match self.texts.first() {
             Some((_, moment)) => Some(*moment),
@@ -70,7 +79,7 @@ impl Pairs {
 
     /// The last moment.
     pub fn last(&self) -> Option<u64>
-        ensures { result ≡ option_map moment_in (slice_get self.now (length self.now - 1)) }
+        ensures { result ≡ option_map moment_in (slice_get self.now.pairs (length self.now.pairs - 1)) }
     {
         match self.texts.last() {
             Some((_, moment)) => Some(*moment),
@@ -79,9 +88,10 @@ impl Pairs {
     }
 
     /// Keeps a key that is new with the moment at which it came.
-    pub fn push(&mut self, key: &Key, now: u64) -> Result<(), Memory>
-        requires new { lookup (is_same_key key.now) self.old ≡ None }
-        ensures ok { OnOk result (self.new ≡ self.old ++ (key.now, now) ∷ []) }
+    pub fn push(&mut self, key: &Digested, now: u64) -> Result<(), Memory>
+        requires digested { IsDigestedBy self.old.hasher key.now }
+        requires new { lookup (is_same_key key.now.key) self.old.pairs ≡ None }
+        ensures ok { OnOk result (self.new ≡ record self.old { pairs = self.old.pairs ++ (key.now.key, now) ∷ [] }) }
         ensures err { OnErr result (self.new ≡ self.old) }
     {
         let text = KeptKey::copied(*self.texts.allocator(), key)?;
@@ -91,7 +101,7 @@ impl Pairs {
 
     /// Keeps only what is inside the window.
     pub fn keep_inside(&mut self, seconds: u32, now: u64)
-        ensures { self.new ≡ filter (is_inside_pair seconds now) self.old }
+        ensures { self.new ≡ record self.old { pairs = filter (is_inside_pair seconds now) self.old.pairs } }
     {
         let seconds = u64::from(seconds);
         self.texts
@@ -100,7 +110,7 @@ impl Pairs {
 
     /// Lets go of all.
     pub fn clear(&mut self)
-        ensures { self.new ≡ [] }
+        ensures { self.new ≡ record self.old { pairs = [] } }
     {
         self.texts.clear();
     }

@@ -1,11 +1,12 @@
 //! The window in which a packet is told from its copies.
-ghost use Rattle.std.specs.Prelude.{ℕ, List, ◌≡◌, ◌≤◌, ◌*◌, None, OnOk, OnErr, ◌++◌, ◌∷◌, [], filter, IsTrue};
+ghost use Rattle.std.specs.Prelude.{ℕ, List, ◌≡◌, ◌≤◌, ◌*◌, None, IfOk, OnOk, OnErr, ◌++◌, ◌∷◌, [], filter, IsTrue};
 ghost use Rattle.std.specs.List.{list_all, list_any};
 ghost use Rattle.std.specs.Map.{lookup};
+ghost use Rattle.dupe_window.specs.Digests.{IsDigestedBy};
 ghost use Rattle.dupe_window.specs.Keys.{Key, is_same_key};
-ghost use Rattle.dupe_window.specs.Windows.{IsInOrder, IsOnce, IsUpTo, empty_window, expired, if_inside, is_inside, is_inside_pair, is_up_to, kept_at, kept_pairs, seen_at, with_key};
+ghost use Rattle.dupe_window.specs.Windows.{AreInside, IsInOrder, IsOnce, IsUpTo, empty_window, expired, if_inside, is_inside, is_inside_pair, is_up_to, kept_at, kept_pairs, seen_at, with_new};
 
-use crate::keys::Key;
+use crate::keys::{Digested, Key};
 use crate::pairs::{Pairs, is_inside};
 use aprs_base::Memory;
 use std::alloc::Global;
@@ -24,15 +25,15 @@ pub struct Window {
 }
 
 impl Model for Window {
-    ghost use Rattle.std.specs.Prelude.{◌*◌, IsTrue};
+    ghost use Rattle.std.specs.Prelude.{◌≡◌, ◌*◌, IsTrue};
     ghost use Rattle.std.specs.List.{list_all};
     ghost use Rattle.dupe_window.specs.Windows.{IsInOrder, IsOnce, WindowSeen, is_inside_pair, kept_pairs};
 
     ghost Value = { WindowSeen };
 
-    ghost view = { λ w. record { pairs = kept_pairs w.seconds w.last w.older w.late; seconds = w.seconds } };
+    ghost view = { λ w. record { pairs = kept_pairs w.seconds w.last w.older.pairs w.late.pairs; seconds = w.seconds } };
 
-    ghost invariant = { λ w. IsInOrder w.older × IsInOrder w.late × IsTrue (list_all (is_inside_pair (2 * w.seconds) w.last) w.older) × IsOnce (kept_pairs w.seconds w.last w.older w.late) };
+    ghost invariant = { λ w. IsInOrder w.older.pairs × IsInOrder w.late.pairs × IsTrue (list_all (is_inside_pair (2 * w.seconds) w.last) w.older.pairs) × IsOnce (kept_pairs w.seconds w.last w.older.pairs w.late.pairs) × (w.older.hasher ≡ w.late.hasher) };
 }
 
 /// The moment, where it is inside the window.
@@ -43,10 +44,12 @@ fn if_inside(seconds: u32, now: u64, kept: Option<u64>) -> Option<u64>
 }
 
 /// The moment that is kept with a key, in a packet of late or in an older one that counts. No key is in both, and most copies come soon.
-fn kept_at(older: &Pairs, late: &Pairs, seconds: u32, last: u64, key: &Key) -> Option<u64>
-    requires order { IsInOrder older.now }
-    requires once { IsOnce (kept_pairs seconds last older.now late.now) }
-    ensures { result ≡ lookup (is_same_key key.now) (kept_pairs seconds last older.now late.now) }
+fn kept_at(older: &Pairs, late: &Pairs, seconds: u32, last: u64, key: &Digested) -> Option<u64>
+    requires order { IsInOrder older.now.pairs }
+    requires once { IsOnce (kept_pairs seconds last older.now.pairs late.now.pairs) }
+    requires older { IsDigestedBy older.now.hasher key.now }
+    requires late { IsDigestedBy late.now.hasher key.now }
+    ensures { result ≡ lookup (is_same_key key.now.key) (kept_pairs seconds last older.now.pairs late.now.pairs) }
 {
     match late.moment_of(key) {
         Some(moment) => Some(moment),
@@ -55,14 +58,15 @@ fn kept_at(older: &Pairs, late: &Pairs, seconds: u32, last: u64, key: &Key) -> O
 }
 
 /// Keeps a key that is new with the moment at which it came.
-fn put(pairs: &mut Pairs, key: &Key, now: u64) -> Result<(), Memory>
-    requires new { lookup (is_same_key key.now) pairs.old ≡ None }
-    requires later { IsTrue (list_all (is_up_to now) pairs.old) }
-    requires order { IsInOrder pairs.old }
-    ensures ok { OnOk result (pairs.new ≡ pairs.old ++ (key.now, now) ∷ []) }
+fn put(pairs: &mut Pairs, key: &Digested, now: u64) -> Result<(), Memory>
+    requires digested { IsDigestedBy pairs.old.hasher key.now }
+    requires new { lookup (is_same_key key.now.key) pairs.old.pairs ≡ None }
+    requires later { IsTrue (list_all (is_up_to now) pairs.old.pairs) }
+    requires order { IsInOrder pairs.old.pairs }
+    ensures ok { OnOk result (pairs.new ≡ record pairs.old { pairs = pairs.old.pairs ++ (key.now.key, now) ∷ [] }) }
     ensures err { OnErr result (pairs.new ≡ pairs.old) }
-    ensures order { IsInOrder pairs.new }
-    ensures once { (before : List (Key × ℕ)) → IsOnce (before ++ pairs.old) → lookup (is_same_key key.now) (before ++ pairs.old) ≡ None → IsOnce (before ++ pairs.new) }
+    ensures order { IsInOrder pairs.new.pairs }
+    ensures once { (before : List (Key × ℕ)) → IsOnce (before ++ pairs.old.pairs) → lookup (is_same_key key.now.key) (before ++ pairs.old.pairs) ≡ None → IsOnce (before ++ pairs.new.pairs) }
 {
     pairs.push(key, now)?;
     Ok(())
@@ -70,8 +74,8 @@ fn put(pairs: &mut Pairs, key: &Key, now: u64) -> Result<(), Memory>
 
 /// Whether all are inside the window. As the moments rise, the first tells it.
 fn all_inside(pairs: &Pairs, seconds: u64, now: u64) -> bool
-    requires order { IsInOrder pairs.now }
-    ensures { result ≡ list_all (is_inside_pair seconds now) pairs.now }
+    requires order { IsInOrder pairs.now.pairs }
+    ensures { result ≡ list_all (is_inside_pair seconds now) pairs.now.pairs }
 {
     match pairs.first() {
         Some(moment) => is_inside(seconds, now, moment),
@@ -81,8 +85,8 @@ fn all_inside(pairs: &Pairs, seconds: u64, now: u64) -> bool
 
 /// Whether any is inside the window. As the moments rise, the last tells it.
 fn any_inside(pairs: &Pairs, seconds: u64, now: u64) -> bool
-    requires order { IsInOrder pairs.now }
-    ensures { result ≡ list_any (is_inside_pair seconds now) pairs.now }
+    requires order { IsInOrder pairs.now.pairs }
+    ensures { result ≡ list_any (is_inside_pair seconds now) pairs.now.pairs }
 {
     match pairs.last() {
         Some(moment) => is_inside(seconds, now, moment),
@@ -92,19 +96,20 @@ fn any_inside(pairs: &Pairs, seconds: u64, now: u64) -> bool
 
 /// Keeps only what is inside the window.
 fn keep_inside(pairs: &mut Pairs, seconds: u32, now: u64)
-    requires order { IsInOrder pairs.old }
-    ensures kept { pairs.new ≡ filter (is_inside_pair seconds now) pairs.old }
-    ensures order { IsInOrder pairs.new }
+    requires order { IsInOrder pairs.old.pairs }
+    ensures kept { pairs.new ≡ record pairs.old { pairs = filter (is_inside_pair seconds now) pairs.old.pairs } }
+    ensures order { IsInOrder pairs.new.pairs }
 {
     pairs.keep_inside(seconds, now);
 }
 
 /// Lets go of what is no more inside the window, once some are past twice its seconds.
 fn drop_old(pairs: &mut Pairs, seconds: u32, now: u64)
-    requires order { IsInOrder pairs.old }
-    ensures kept { filter (is_inside_pair seconds now) pairs.new ≡ filter (is_inside_pair seconds now) pairs.old }
-    ensures inside { IsTrue (list_all (is_inside_pair (2 * seconds) now) pairs.new) }
-    ensures order { IsInOrder pairs.new }
+    requires order { IsInOrder pairs.old.pairs }
+    ensures kept { filter (is_inside_pair seconds now) pairs.new.pairs ≡ filter (is_inside_pair seconds now) pairs.old.pairs }
+    ensures inside { IsTrue (list_all (is_inside_pair (2 * seconds) now) pairs.new.pairs) }
+    ensures order { IsInOrder pairs.new.pairs }
+    ensures hasher { pairs.new.hasher ≡ pairs.old.hasher }
 {
     if !all_inside(pairs, 2 * u64::from(seconds), now) {
         keep_inside(pairs, seconds, now);
@@ -113,10 +118,10 @@ fn drop_old(pairs: &mut Pairs, seconds: u32, now: u64)
 
 /// Makes older packets of those of late.
 fn turn(older: &mut Pairs, late: &mut Pairs)
-    requires order { IsInOrder late.old }
+    requires order { IsInOrder late.old.pairs }
     ensures older { older.new ≡ late.old }
-    ensures late { late.new ≡ [] }
-    ensures order { IsInOrder late.new }
+    ensures late { late.new ≡ record older.old { pairs = [] } }
+    ensures order { IsInOrder late.new.pairs }
 {
     older.clear();
     swap(older, late);
@@ -126,11 +131,13 @@ fn turn(older: &mut Pairs, late: &mut Pairs)
 /// as they are; only where moments went back they are gone through.
 fn forget_late(older: &mut Pairs, late: &mut Pairs, seconds: u32, last: u64, now: u64)
     requires reached { now ≤ last }
-    requires older { IsInOrder older.old }
-    requires late { IsInOrder late.old }
-    ensures kept { kept_pairs seconds last older.new late.new ≡ kept_pairs seconds last older.old (filter (is_inside_pair seconds now) late.old) }
-    ensures older { IsInOrder older.new }
-    ensures late { IsInOrder late.new }
+    requires older { IsInOrder older.old.pairs }
+    requires late { IsInOrder late.old.pairs }
+    requires hasher { older.old.hasher ≡ late.old.hasher }
+    ensures kept { kept_pairs seconds last older.new.pairs late.new.pairs ≡ kept_pairs seconds last older.old.pairs (filter (is_inside_pair seconds now) late.old.pairs) }
+    ensures older { IsInOrder older.new.pairs }
+    ensures late { IsInOrder late.new.pairs }
+    ensures hasher { older.new.hasher ≡ late.new.hasher }
 {
     if all_inside(late, u64::from(seconds), now) {
         return;
@@ -145,12 +152,14 @@ fn forget_late(older: &mut Pairs, late: &mut Pairs, seconds: u32, last: u64, now
 /// Forgets what is no more inside the window at `now`, where `last` is the latest moment at which any were forgotten.
 fn forget(older: &mut Pairs, late: &mut Pairs, seconds: u32, last: u64, now: u64)
     requires reached { now ≤ last }
-    requires older { IsInOrder older.old }
-    requires late { IsInOrder late.old }
-    ensures kept { kept_pairs seconds last older.new late.new ≡ kept_pairs seconds last older.old (filter (is_inside_pair seconds now) late.old) }
-    ensures inside { IsTrue (list_all (is_inside_pair (2 * seconds) last) older.new) }
-    ensures older { IsInOrder older.new }
-    ensures late { IsInOrder late.new }
+    requires older { IsInOrder older.old.pairs }
+    requires late { IsInOrder late.old.pairs }
+    requires hasher { older.old.hasher ≡ late.old.hasher }
+    ensures kept { kept_pairs seconds last older.new.pairs late.new.pairs ≡ kept_pairs seconds last older.old.pairs (filter (is_inside_pair seconds now) late.old.pairs) }
+    ensures inside { IsTrue (list_all (is_inside_pair (2 * seconds) last) older.new.pairs) }
+    ensures older { IsInOrder older.new.pairs }
+    ensures late { IsInOrder late.new.pairs }
+    ensures hasher { older.new.hasher ≡ late.new.hasher }
 {
     forget_late(older, late, seconds, last, now);
     drop_old(older, seconds, last);
@@ -173,18 +182,26 @@ impl Window {
     pub fn seen(&self, key: &Key, now: u64) -> Option<u64>
         ensures { result ≡ seen_at now key.now self.now }
     {
-        let kept = kept_at(&self.older, &self.late, self.seconds, self.last, key);
+        let key = self.late.digested(key);
+        let kept = kept_at(&self.older, &self.late, self.seconds, self.last, &key);
         if_inside(self.seconds, now, kept)
     }
 
-    /// Keeps a packet that is new with the moment at which it came. For want of memory nothing changes.
-    pub fn insert(&mut self, key: Key, now: u64) -> Result<(), Memory>
-        requires new { kept_at self.old key ≡ None }
+    /// Keeps a packet that is new with the moment at which it came. Of a copy it says when the packet came that is kept. For want of
+    /// memory nothing changes.
+    pub fn note(&mut self, key: &Key, now: u64) -> Result<Option<u64>, Memory>
+        requires inside { AreInside now self.old }
         requires later { IsUpTo now self.old }
-        ensures ok { OnOk result (self.new ≡ with_key key now self.old) }
+        ensures seen { IfOk result (λ seen. seen ≡ seen_at now key.now self.old) }
+        ensures ok { OnOk result (self.new ≡ with_new key.now now self.old) }
         ensures err { OnErr result (self.new ≡ self.old) }
     {
-        put(&mut self.late, &key, now)
+        let key = self.late.digested(key);
+        let kept = kept_at(&self.older, &self.late, self.seconds, self.last, &key);
+        if kept.is_none() {
+            put(&mut self.late, &key, now)?;
+        }
+        Ok(kept)
     }
 
     /// Forgets what is no more inside the window.

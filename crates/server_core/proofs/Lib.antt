@@ -8,6 +8,7 @@ pub mod LeftLemmas
 pub mod LinkLemmas
 pub mod MemberLemmas
 pub mod OfferLemmas
+pub mod PacketLemmas
 pub mod RoundLemmas
 pub mod SayingLemmas
 pub mod SendLemmas

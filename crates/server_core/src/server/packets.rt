@@ -8,7 +8,7 @@ ghost use Rattle.dupe_window.specs.Keys.{key_of};
 ghost use Rattle.dupe_window.specs.Windows.{has_copy};
 ghost use Rattle.aprs_history.specs.Verdicts.{packet_verdict, read_and_routed};
 ghost use Rattle.aprs_history.specs.Scenes.{packet_of};
-ghost use Rattle.server_core.specs.Objections.{Makes, Routes};
+ghost use Rattle.server_core.specs.Objections.{Makes, Routes, routed_in};
 ghost use Rattle.server_core.specs.LinkSteps.{after_packet, cast_with, noted_from, owed_in, promised_all, source_found, spent};
 ghost use Rattle.served_links.specs.Links.{others_from, submitted_from};
 ghost use Rattle.server_core.specs.Meaning.{peer_of};
@@ -22,7 +22,6 @@ use super::{State, raised};
 use crate::conf::peers_of;
 use crate::messages::{hearers_of, is_position, note_from, owed_to, promise_all, receiver_of};
 use aprs_base::{Body, JournalLine, Line, Memory, Packet, Parts, Shared, Source};
-use dupe_window::Key;
 use line_verdict::line_of;
 use q_construct::Origin;
 use served_links::SourcePlace;
@@ -126,20 +125,13 @@ impl State {
         Ok(Arc::new(alloc, packet)?)
     }
 
-    /// A packet is accepted, which is shared and has this key: it goes to the links that want it and to the peers, tells where its
-    /// source is, is counted, and is kept, also for those who ask what the round accepted.
-    fn accept(
-        &mut self,
-        alloc: Global,
-        packet: &Packet,
-        shared: &Shared,
-        key: Key,
-    ) -> Result<(), Memory>
-        requires key { key ≡ key_of packet.now.parts }
+    /// A packet is accepted, which is shared and whose key is kept: it goes to the links that want it and to the peers, tells where
+    /// its source is, is counted, and is kept for those who ask what the round accepted.
+    fn accept(&mut self, alloc: Global, packet: &Packet, shared: &Shared) -> Result<(), Memory>
         requires same { arc_value shared.now ≡ packet.now }
-        requires now { packet.now.moment ≡ self.old.seen.moment }
-        requires new { has_copy self.old.seen.moment self.old.seen.window packet.now.parts ≡ false }
-        ensures { OnOk result (self.new ≡ record self.old { seen = after_packet (map peer_of self.old.conf.peers) packet.now self.old.seen }) }
+        ensures { OnOk result (self.new ≡ record self.old {
+          seen = record (after_packet (map peer_of self.old.conf.peers) packet.now self.old.seen) { window = self.old.seen.window };
+        }) }
     {
         let source = self.source_of(packet);
         let to = receiver_of(packet);
@@ -158,7 +150,6 @@ impl State {
         )?;
         self.counts.accepted = raised(self.counts.accepted, 1);
         self.stations.note(alloc, packet)?;
-        self.window.insert(key, packet.moment)?;
         Ok(())
     }
 
@@ -172,7 +163,7 @@ impl State {
         line: &Line,
     ) -> Result<Result<(), Objection>, Memory>
         requires station { IsTrue (has_station origin.now) }
-        ensures exact { IfOk result (λ routed. Routes routed packet.new.parts (read_and_routed self.old.conf.server origin.now (others_from from self.old.seen.links) (parts_of line.now))) }
+        ensures exact { IfOk result (λ routed. Routes routed packet.new.parts (routed_in self.old from origin.now line.now)) }
         ensures packet { IfOk result (λ routed. OnOk routed (packet.new ≡ packet_of from self.old.seen.moment packet.new.parts (text_of packet.new.parts))) }
         ensures same { self.new ≡ self.old }
     {
@@ -199,7 +190,7 @@ impl State {
         line: &Line,
     ) -> Result<Result<Shared, Objection>, Memory>
         requires station { IsTrue (has_station origin.now) }
-        ensures exact { IfOk result (λ made. Makes arc_value made from self.old.seen.moment (read_and_routed self.old.conf.server origin.now (others_from from self.old.seen.links) (parts_of line.now))) }
+        ensures exact { IfOk result (λ made. Makes arc_value made self.old from origin.now line.now) }
         ensures same { self.new ≡ self.old }
     {
         let mut parts = Parts::unfilled();
@@ -222,7 +213,7 @@ impl State {
         line: &Line,
     ) -> Result<Result<Shared, Objection>, Memory>
         requires station { IsTrue (has_station origin.now) }
-        ensures exact { IfOk result (λ made. Makes arc_value made from self.old.seen.moment (read_and_routed self.old.conf.server origin.now (others_from from self.old.seen.links) (parts_of line.now))) }
+        ensures exact { IfOk result (λ made. Makes arc_value made self.old from origin.now line.now) }
         ensures same { self.new ≡ self.old }
     {
         let Some(mut spare) = self.spares.take() else {
@@ -250,19 +241,18 @@ impl State {
         lines: &mut Vec<JournalLine>,
     ) -> Result<(), Memory>
         requires station { IsTrue (has_station origin.now) }
-        ensures core { OnOk result (self.new ≡ with_verdict from (Cut.Line line.now) (packet_verdict (has_copy self.old.seen.moment self.old.seen.window) (read_and_routed self.old.conf.server origin.now (others_from from self.old.seen.links) (parts_of line.now))) self.old) }
-        ensures lines { OnOk result (lines.new.items ≡ lines.old.items ++ said_lines self.old from (packet_verdict (has_copy self.old.seen.moment self.old.seen.window) (read_and_routed self.old.conf.server origin.now (others_from from self.old.seen.links) (parts_of line.now)))) }
+        ensures core { OnOk result (self.new ≡ with_verdict from (Cut.Line line.now) (packet_verdict (has_copy self.old.seen.moment self.old.seen.window) (routed_in self.old from origin.now line.now)) self.old) }
+        ensures lines { OnOk result (lines.new.items ≡ lines.old.items ++ said_lines self.old from (packet_verdict (has_copy self.old.seen.moment self.old.seen.window) (routed_in self.old from origin.now line.now))) }
     {
         match self.made_of(alloc, from, origin, line)? {
             Err(objection) => self.object(alloc, &from, objection, lines),
             Ok(packet) => {
-                let key = Key::of(&packet.parts);
-                if self.has_copy(&key) {
+                if self.is_copy(&packet.parts)? {
                     self.tell_duplicate(&from, lines)?;
                     self.show(alloc, &packet)?;
                     self.spares.give_back(packet)
                 } else {
-                    self.accept(alloc, &packet, &packet, key)?;
+                    self.accept(alloc, &packet, &packet)?;
                     self.spares.keep(packet)
                 }
             }

@@ -5,13 +5,13 @@ ghost use Rattle.aprs_base.specs.PartsSeen.{PartsSeen};
 ghost use Rattle.aprs_body.specs.Bodies.{body_of};
 ghost use Rattle.aprs_history.specs.Verdicts.{login_verdict, read_and_routed};
 ghost use Rattle.dupe_window.specs.Keys.{key_of};
-ghost use Rattle.dupe_window.specs.Windows.{has_copy};
+ghost use Rattle.dupe_window.specs.Windows.{has_copy, with_new};
 ghost use Rattle.line_verdict.specs.Voices.{HasStation, voice_of};
 ghost use Rattle.login_pass.specs.Login.{login_of};
 ghost use Rattle.parsed_lines.specs.Lines.{IsSound, parsed_of};
 ghost use Rattle.q_construct.specs.Rule.{has_station};
 ghost use Rattle.served_links.specs.Links.{others_from, speaker_at};
-ghost use Rattle.server_core.specs.Objections.{Routes, refusal_for};
+ghost use Rattle.server_core.specs.Objections.{Routes, refusal_for, routed_in};
 ghost use Rattle.tnc2_line.specs.Packet.{IsParts, parts_of, text_of};
 
 use super::State;
@@ -142,7 +142,7 @@ impl State {
         requires station { IsTrue (has_station origin.now) }
         requires vias { whole.old.vias ≡ [] }
         requires body { whole.old.body ≡ [] }
-        ensures exact { Routes result whole.new (read_and_routed self.old.conf.server origin.now (others_from from self.old.seen.links) (parts_of line.now)) }
+        ensures exact { Routes result whole.new (routed_in self.old from origin.now line.now) }
         ensures sound { OnOk result (IsParts whole.new) }
         ensures short { OnOk result (length (text_of whole.new) ≤ 510) }
         ensures body { IfOk result (λ body. body ≡ body_of whole.new.dest whole.new.body) }
@@ -154,10 +154,12 @@ impl State {
         route_parsed(whole, server_of(&self.conf), origin, &others, parsed)
     }
 
-    /// Whether a packet of that key is a copy of one that was accepted.
-    pub(super) fn has_copy(&self, key: &Key) -> bool
-        ensures { (parts : PartsSeen) → key.now ≡ key_of parts → result ≡ has_copy self.now.seen.moment self.now.seen.window parts }
+    /// Whether a packet with these parts is a copy of one that was accepted. One that is none is kept as accepted now.
+    pub(super) fn is_copy(&mut self, parts: &Parts) -> Result<bool, Memory>
+        ensures copy { IfOk result (λ copy. copy ≡ has_copy self.old.seen.moment self.old.seen.window parts.now) }
+        ensures kept { OnOk result (self.new ≡ record self.old { seen = record self.old.seen { window = with_new (key_of parts.now) self.old.seen.moment self.old.seen.window } }) }
     {
-        self.window.seen(key, self.moment).is_some()
+        let seen = self.window.note(&Key::of(parts), self.moment)?;
+        Ok(seen.is_some())
     }
 }

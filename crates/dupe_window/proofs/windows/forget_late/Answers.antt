@@ -7,12 +7,12 @@ use Rattle.dupe_window.proofs.windows.forget_late.Goals as goal
 
 pub returns-then-all_inside-clause-kept : goal.returns-then-all_inside-clause-kept
 returns-then-all_inside-clause-kept c =
-    let all : list_all (is_inside_pair c.args.seconds c.args.now) c.args.late.now ≡ true = search rules in
-    ap (kept_pairs c.args.seconds c.args.last c.args.older.now) (sym (filter_whole _ _ all))
+    let all : list_all (is_inside_pair c.args.seconds c.args.now) c.args.late.now.pairs ≡ true = search rules in
+    ap (kept_pairs c.args.seconds c.args.last c.args.older.now.pairs) (sym (filter_whole _ _ all))
 
 pub returns-then-not-any_inside-clause-kept : goal.returns-then-not-any_inside-clause-kept
 returns-then-not-any_inside-clause-kept c =
-    let none : list_any (is_inside_pair c.args.seconds c.args.now) c.args.older.now ≡ false = search rules in
+    let none : list_any (is_inside_pair c.args.seconds c.args.now) c.args.older.now.pairs ≡ false = search rules in
     let at : c.args.last ≡ c.args.now = search rules in
-    let parts = turned c.args.seconds c.args.now c.args.older.now c.args.late.now none in
+    let parts = turned c.args.seconds c.args.now c.args.older.now.pairs c.args.late.now.pairs none in
     rw (at, c.turn.ensures.older, c.turn.ensures.late) parts

@@ -12,13 +12,14 @@ invariant_of-self c =
       c.forget.ensures.late,
       c.forget.ensures.inside,
       subst IsOnce
-          (sym (forgotten fields.seconds fields.last c.args.now c.max-last.result fields.older fields.late c.forget.new.older c.forget.new.late c.max-last.ensures c.forget.ensures.kept))
-          (IsDistinct-keys_filter is_same_key (is_inside_pair fields.seconds c.args.now) (kept_pairs fields.seconds fields.last fields.older fields.late) c.self.invariant.3),
+          (sym (forgotten fields.seconds fields.last c.args.now c.max-last.result fields.older.pairs fields.late.pairs c.forget.new.older.pairs c.forget.new.late.pairs c.max-last.ensures c.forget.ensures.kept))
+          (IsDistinct-keys_filter is_same_key (is_inside_pair fields.seconds c.args.now) (kept_pairs fields.seconds fields.last fields.older.pairs fields.late.pairs) c.self.invariant.3),
+      c.forget.ensures.hasher,
     )
 
 pub returns : goal.returns
 returns c =
     let fields = c.self.inside in
     let seen : List (Key × ℕ) → WindowSeen = λ pairs. record { pairs = pairs; seconds = fields.seconds } in
-    ap seen (forgotten fields.seconds fields.last c.args.now c.max-last.result fields.older fields.late c.forget.new.older c.forget.new.late c.max-last.ensures c.forget.ensures.kept)
+    ap seen (forgotten fields.seconds fields.last c.args.now c.max-last.result fields.older.pairs fields.late.pairs c.forget.new.older.pairs c.forget.new.late.pairs c.max-last.ensures c.forget.ensures.kept)
     ∙ ap (expired c.args.now) c.self.view_is
