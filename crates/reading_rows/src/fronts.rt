@@ -32,6 +32,12 @@ pub fn get(alloc: Global, field: &str) -> Result<String, RowError> {
     Ok(text)
 }
 
+/// Adds what is asked for from so many bytes on.
+fn put_from(text: &mut String, length: usize, get: Get) -> Result<(), AllocError> {
+    write!(text, ", from {length} ")?;
+    put_get(text, get)
+}
+
 /// What each beginning of the bytes on a link of the status page asks for: from how many of them on they ask for what.
 pub fn get_grown(alloc: Global, field: &str) -> Result<String, RowError> {
     let bytes = read_bytes(alloc, field)?;
@@ -41,8 +47,7 @@ pub fn get_grown(alloc: Global, field: &str) -> Result<String, RowError> {
     for length in 1..=bytes.len() {
         let get = read_get(&bytes[..length]);
         if get != last {
-            write!(text, ", from {length} ")?;
-            put_get(&mut text, get)?;
+            put_from(&mut text, length, get)?;
         }
         last = get;
     }
@@ -64,20 +69,27 @@ fn events_of(alloc: Global, bytes: &[u8]) -> Result<Vec<Event>, RowError> {
     Ok(events)
 }
 
+/// Adds an address, with a blank before and behind its port.
+fn put_addr(text: &mut String, addr: &Addr) -> Result<(), AllocError> {
+    let [a, b, c, d] = addr.ip;
+    write!(text, "{a}.{b}.")?;
+    write!(text, "{c}.{d} ")?;
+    write!(text, "{} ", addr.port)
+}
+
 /// Adds what is handed up in place of an event.
 fn put_event(alloc: Global, text: &mut String, event: &Event) -> Result<(), AllocError> {
-    match event {
-        Event::Datagram {
-            listener,
-            from,
-            bytes,
-        } => {
-            let [a, b, c, d] = from.ip;
-            write!(text, "datagram {listener} {a}.{b}.{c}.{d} {} ", from.port)?;
-            text.push_str(write_bytes(alloc, bytes.bytes())?.as_str())
-        }
-        _ => text.push_str("another event"),
-    }
+    let Event::Datagram {
+        listener,
+        from,
+        bytes,
+    } = event
+    else {
+        return text.push_str("another event");
+    };
+    write!(text, "datagram {listener} ")?;
+    put_addr(text, from)?;
+    text.push_str(write_bytes(alloc, bytes.bytes())?.as_str())
 }
 
 fn no_event(error: WireError) -> RowError {
@@ -87,23 +99,50 @@ fn no_event(error: WireError) -> RowError {
     }
 }
 
-/// What is handed up in place of an event where a request comes byte by byte, and of which event.
-pub fn handed_up(alloc: Global, field: &str) -> Result<String, RowError> {
-    let bytes = read_bytes(alloc, field)?;
-    let events = events_of(alloc, bytes.as_slice())?;
-    let count = events.len();
-    let Ok(mut wire) = MemWire::new(alloc, events, Vec::new(alloc), None, None) else {
-        return Err(RowError::Word);
-    };
+/// Whether that is the event that came last.
+fn is_last(alloc: Global, wire: &MemWire, event: &Event) -> Result<bool, RowError> {
+    let same = Happening::Event(Came::of(alloc, event).map_err(no_memory)?);
+    Ok(wire.done.last() == Some(&same))
+}
+
+/// Takes the next event through the front, and adds what is handed up where that is another.
+fn put_next(
+    alloc: Global,
+    text: &mut String,
+    front: &mut HttpFront,
+    wire: &mut MemWire,
+    number: usize,
+) -> Result<(), RowError> {
+    let up = front.next(wire).map_err(no_event)?;
+    if !is_last(alloc, wire, &up)? {
+        write!(text, ", {number} as ")?;
+        put_event(alloc, text, &up)?;
+    }
+    Ok(())
+}
+
+/// A wire that gives these events.
+fn wire_of(alloc: Global, events: Vec<Event>) -> Result<MemWire, RowError> {
+    match MemWire::new(alloc, events, Vec::new(alloc), None, None) {
+        Ok(wire) => Ok(wire),
+        Err(_) => Err(RowError::Word),
+    }
+}
+
+/// What a front hands up of so many events of a wire.
+fn handed_by(alloc: Global, wire: &mut MemWire, count: usize) -> Result<String, RowError> {
     let mut front = HttpFront::new(alloc, Some(PORT)).map_err(no_memory)?;
     let mut text = format!(in alloc; "of {count}")?;
     for number in 1..=count {
-        let up = front.next(&mut wire).map_err(no_event)?;
-        let same = Happening::Event(Came::of(alloc, &up).map_err(no_memory)?);
-        if wire.done.last() != Some(&same) {
-            write!(text, ", {number} as ")?;
-            put_event(alloc, &mut text, &up)?;
-        }
+        put_next(alloc, &mut text, &mut front, wire, number)?;
     }
     Ok(text)
+}
+
+/// What is handed up in place of an event where a request comes byte by byte, and of which event.
+pub fn handed_up(alloc: Global, field: &str) -> Result<String, RowError> {
+    let events = events_of(alloc, read_bytes(alloc, field)?.as_slice())?;
+    let count = events.len();
+    let mut wire = wire_of(alloc, events)?;
+    handed_by(alloc, &mut wire, count)
 }
