@@ -44,21 +44,17 @@ impl Lately {
     /// counts as that one.
     pub fn put(&mut self, key: Key, now: u64) -> Result<Option<u64>, Memory> {
         self.latest = self.latest.max(now);
-        offer(&mut self.window, key, self.latest)
+        offer(&mut self.window, &key, self.latest)
     }
 }
 
 /// Keeps a packet, unless it is a copy of one in the window, which is what it answers.
-fn offer(window: &mut Window, key: Key, now: u64) -> Result<Option<u64>, Memory>
+fn offer(window: &mut Window, key: &Key, now: u64) -> Result<Option<u64>, Memory>
     requires { IsUpTo now window.old }
     ensures { IsUpTo now window.new }
 {
     window.expire(now);
-    let seen = window.seen(&key, now);
-    if seen.is_none() {
-        window.insert(key, now)?;
-    }
-    Ok(seen)
+    window.note(key, now)
 }
 
 /// The key of a packet: its source, destination and path, and then its body.
