@@ -29,5 +29,5 @@ numbered_next links (event.Stop ∷ events) h = (refl, h)
 numbered_next links [] h = (refl, refl)
 
 -- what is left after one more
-pub left_after : (at : ℕ) (events : List Event) → drop (at + 1) events ≡ drop 1 (drop at events)
-left_after at events = sym (drop-drop 1 at events)
+pub left_after : {T : Type 0} (at : ℕ) (items : List T) → drop (at + 1) items ≡ drop 1 (drop at items)
+left_after at items = sym (drop-drop 1 at items)

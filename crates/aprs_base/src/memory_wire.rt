@@ -86,11 +86,23 @@ fn event_at(events: &[Event], at: usize) -> Event
     events.get(at).map_or(Event::Stop, copy_event)
 }
 
-/// The place of the event after, and the same past the last.
-fn place_after(events: &[Event], at: usize) -> usize
-    ensures { drop result events.now ≡ drop 1 (drop at events.now) }
+/// The place of the item after, and the same past the last.
+#[tactic(auto, using(crate::proofs::ScriptLemmas::left_after))]
+fn place_after<T>(items: &[T], at: usize) -> usize
+    ensures { drop result items.now ≡ drop 1 (drop at items.now) }
 {
-    if at < events.len() { at + 1 } else { at }
+    if at < items.len() { at + 1 } else { at }
+}
+
+/// What becomes of an offer of bytes.
+fn outcome_at(takes: &[Take], at: usize, bytes: &[u8]) -> Sent
+    ensures { result ≡ outcome_of (drop at takes.now) bytes.now }
+{
+    match takes.get(at) {
+        None | Some(Take::All) => Sent::Took(bytes.len()),
+        Some(Take::Most(most)) => Sent::Took(bytes.len().min(*most)),
+        Some(Take::Gone) => Sent::Gone,
+    }
 }
 
 /// How many links were made, with the one that an event brings.
@@ -219,16 +231,10 @@ impl Wire for MemWire {
         ensures outcome { IfOk result (λ s. s ≡ outcome_of self.old.takes bytes.now) }
         ensures exact { self.new ≡ after_send link bytes.now self.old result }
     {
-        let sent = match self.takes.get(self.sends) {
-            None | Some(Take::All) => Sent::Took(bytes.len()),
-            Some(Take::Most(most)) => Sent::Took(bytes.len().min(*most)),
-            Some(Take::Gone) => Sent::Gone,
-        };
+        let sent = outcome_at(self.takes.as_slice(), self.sends, bytes);
         let copy = Text::copied(self.alloc, bytes)?;
         self.done.push(Happening::Sent(link, copy, sent))?;
-        if self.sends < self.takes.len() {
-            self.sends += 1;
-        }
+        self.sends = place_after(self.takes.as_slice(), self.sends);
         if sent == Sent::Gone {
             self.gones = self.gones.saturating_add(1);
         }

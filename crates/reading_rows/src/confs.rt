@@ -5,6 +5,7 @@ use aprs_base::{Addr, PortKind, UplinkSpec};
 use aprs_conf::{Conf, ConfError, Listen, PeerSpec, read};
 use row_texts::{RowError, read_bytes, write_bytes};
 use std::alloc::{AllocError, Global};
+use std::fs::{self, Files};
 
 fn addr_text(alloc: Global, addr: &Addr) -> Result<String, AllocError> {
     let [a, b, c, d] = addr.ip;
@@ -91,6 +92,12 @@ fn said_by(alloc: Global, text: &[u8]) -> Result<String, RowError> {
 /// What a configuration says, or its first fault.
 pub fn conf(alloc: Global, field: &str) -> Result<String, RowError> {
     said_by(alloc, read_bytes(alloc, field)?.as_slice())
+}
+
+/// What the configuration of a file of the working folder says.
+pub fn file<R: AllocGlobal + Files>(rt: &R, name: &str) -> Result<String, RowError> {
+    let text = fs::read(rt, name).map_err(|_| RowError::Word)?;
+    said_by(rt.alloc(), text.as_slice())
 }
 
 /// What the text says that is written of a configuration.

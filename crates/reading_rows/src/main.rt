@@ -19,6 +19,7 @@ mod texts;
 
 use row_texts::{RowError, is_row, print_row, read_rows, split_word};
 use std::alloc::Global;
+use std::fs::Files;
 use std::io;
 use std::marker::Sync;
 use std::thread::Threads;
@@ -75,12 +76,14 @@ fn first_answer(alloc: Global, word: &str, row: &str) -> Result<String, RowError
 }
 
 /// What a row becomes.
-fn answer<R: Threads + Sync>(rt: &R, alloc: Global, row: &str) -> Result<String, RowError> {
+fn answer<R: AllocGlobal + Files + Threads + Sync>(rt: &R, row: &str) -> Result<String, RowError> {
+    let alloc = rt.alloc();
     let (word, fields) = split_word(row);
     match word {
         "parse" => parsed::parse(rt, alloc, fields),
         "together" => parsed::together(rt, alloc, fields),
         "ahead" => parsed::ahead(rt, alloc, fields),
+        "conf-file" => confs::file(rt, fields),
         _ => first_answer(alloc, word, fields),
     }
 }
@@ -89,7 +92,7 @@ fn main(rt: HostRuntime) -> io::Result<()> {
     let text = read_rows(&rt)?;
     for line in text.as_str().lines() {
         if is_row(line) {
-            print_row(&rt, line, answer(&rt, rt.alloc(), line))?;
+            print_row(&rt, line, answer(&rt, line))?;
         } else {
             println!(rt; "{line}")?;
         }
