@@ -160,14 +160,13 @@ pub(crate) fn drill<R: Threads + Sync + Wait>(
         &OpenGate,
     );
     let totals = core.totals();
-    // What it keeps isn't taken apart: the process ends next.
+    let taken = wire.taken_by(asked.plan);
+    // What they keep isn't taken apart: the process ends next.
     forget(core);
-    match end {
-        End::Stopped => {}
-        End::Failed | End::Memory => return Err(Memory),
-    }
-    match wire.taken_by(asked.plan) {
-        Some(taken) => Ok(Counts { totals, taken }),
-        None => Err(Memory),
+    forget(fronts);
+    forget(wire);
+    match (end, taken) {
+        (End::Stopped, Some(taken)) => Ok(Counts { totals, taken }),
+        _ => Err(Memory),
     }
 }
